@@ -1,0 +1,4 @@
+pub mod Below
+pub mod Put
+pub mod Laws
+pub mod Twice

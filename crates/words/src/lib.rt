@@ -1,0 +1,46 @@
+// Little-endian numbers in byte slices.
+ghost use mathlib.Core.Path.{_≡_};
+ghost use Prim.Native.Nat.{_+_, _≤_, _<_};
+ghost use lib.ListN.{length};
+ghost use Rattle.words.specs.Words.{readLE, bytesLE, put};
+
+// A byte as a wider number; its caller has nothing to show for the cast, and learns the bound.
+pub fn wide(x: u8) -> u32
+    ensures { λ r. ⌜ (r ≡ x) × (r < 256) ⌝ }
+{
+    x as u32
+}
+
+// The number that the two bytes from `at` on make.
+pub fn read16(s: &[u8], at: usize) -> u16
+    requires { ⌜ at + 2 ≤ length (now s) ⌝ }
+    ensures { λ r. ⌜ r ≡ readLE 2 (now (s .entry)) at ⌝ }
+{
+    (wide(s[at]) + 256 * wide(s[at + 1])) as u16
+}
+
+// The number that the four bytes from `at` on make.
+pub fn read32(s: &[u8], at: usize) -> u32
+    requires { ⌜ at + 4 ≤ length (now s) ⌝ }
+    ensures { λ r. ⌜ r ≡ readLE 4 (now (s .entry)) at ⌝ }
+{
+    read16(s, at) as u32 + 0x1_0000 * (read16(s, at + 2) as u32)
+}
+
+// The two bytes of x, from `at` on.
+pub fn write16(s: &mut [u8], at: usize, x: u16)
+    requires { ⌜ at + 2 ≤ length (now s) ⌝ }
+    ensures { λ _. ⌜ now (s .exit) ≡ put (now (s .entry)) at (bytesLE 2 x) ⌝ }
+{
+    s[at] = (x % 256) as u8;
+    s[at + 1] = (x / 256 % 256) as u8;
+}
+
+// The four bytes of x, from `at` on.
+pub fn write32(s: &mut [u8], at: usize, x: u32)
+    requires { ⌜ at + 4 ≤ length (now s) ⌝ }
+    ensures { λ _. ⌜ now (s .exit) ≡ put (now (s .entry)) at (bytesLE 4 x) ⌝ }
+{
+    write16(s, at, (x % 0x1_0000) as u16);
+    write16(s, at + 2, (x / 0x1_0000) as u16);
+}
