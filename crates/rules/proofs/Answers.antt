@@ -1,0 +1,66 @@
+-- The laws of chains of checks: an answer passes exactly if each check does, and each check is what it tests. Assumes nothing.
+use mathlib.Core.Path.{_≡_, refl, sym, ap, _∙_}
+use mathlib.Core.Bool.{Bool, true, false, not, cond, true≢false}
+use mathlib.Core.List.{List, [], _∷_}
+use Prim.Native.Nat.{ℕ, _<_, _≤_}
+use native.Mathlib.Omega.{arith}
+use borrow.Author.Tests.{ltb-true, ltb-false, lt-ltb, le-ltb}
+use lib.Dec.{eqb, ltb}
+use Rattle.rules.specs.declared.Verdict.{Verdict}
+use Rattle.rules.specs.declared.Verdict.the-variants.{Done}
+use Rattle.rules.specs.Index.{least}
+use Rattle.rules.specs.Answers.{numberOf, passes, firstOf, unless, lowest}
+use Rattle.rules.proofs.Index.{at-most, hit, none-below, no-hit}
+
+-- ---- a check that passes is left behind, and a refusal is the answer
+pub first-pass : (v : Verdict) (vs : List Verdict) (last : Verdict) → passes v ≡ true → firstOf (v ∷ vs) last ≡ firstOf vs last
+unfolding firstOf
+first-pass v vs last e = rw (e, firstOf) refl
+
+pub first-stop : (v : Verdict) (vs : List Verdict) (last : Verdict) → passes v ≡ false → firstOf (v ∷ vs) last ≡ v
+unfolding firstOf
+first-stop v vs last e = rw (e, firstOf) refl
+
+pub first-none : (last : Verdict) → firstOf [] last ≡ last
+unfolding firstOf
+first-none last = refl
+
+-- a chain that passes: its first check passes, and so does the rest
+pub first-both : (v : Verdict) (vs : List Verdict) (last : Verdict) → passes (firstOf (v ∷ vs) last) ≡ true → (passes v ≡ true) × (passes (firstOf vs last) ≡ true)
+first-both v vs last e = go (passes v) refl
+  where
+    go : (b : Bool) → passes v ≡ b → (passes v ≡ true) × (passes (firstOf vs last) ≡ true)
+    go true p = (p, rw (first-pass v vs last p) at e)
+    go false p = absurd (true≢false (sym e ∙ ap passes (first-stop v vs last p) ∙ p))
+
+-- ---- one check
+pub unless-of : (good : Bool) (refusal : Verdict) → good ≡ true → unless good refusal ≡ Done 0
+unfolding unless
+unless-of good refusal e = rw e
+
+pub unless-stop : (good : Bool) (refusal : Verdict) → good ≡ false → unless good refusal ≡ refusal
+unfolding unless
+unless-stop good refusal e = rw e
+
+pub unless-at : (good : Bool) (refusal : Verdict) → eqb (numberOf refusal) 0 ≡ false → passes (unless good refusal) ≡ true → good ≡ true
+unfolding passes
+unless-at true refusal p e = refl
+unless-at false refusal p e = absurd (true≢false (sym e ∙ ap passes (unless-stop false refusal refl) ∙ p))
+
+-- ---- a check of the numbers below n
+pub lowest-of : (bad : ℕ → Bool) (n : ℕ) (refusal : ℕ → Verdict) → ((i : ℕ) → i < n → bad i ≡ false) → lowest bad n refusal ≡ Done 0
+unfolding lowest
+lowest-of bad n refusal h = rw (le-ltb (least bad n) n (omega (arith, no-hit bad 0 n (λ j a b. h j (omega arith)))))
+
+pub lowest-stop : (bad : ℕ → Bool) (n i : ℕ) (refusal : ℕ → Verdict) → i ≡ least bad n → i < n → lowest bad n refusal ≡ refusal i
+unfolding lowest
+lowest-stop bad n i refusal e h = rw (← e, lt-ltb i n h)
+
+pub lowest-at : (bad : ℕ → Bool) (n : ℕ) (refusal : ℕ → Verdict) → ((i : ℕ) → eqb (numberOf (refusal i)) 0 ≡ false)
+    → passes (lowest bad n refusal) ≡ true → (i : ℕ) → i < n → bad i ≡ false
+unfolding passes
+lowest-at bad n refusal p e i h = go (ltb (least bad n) n) refl
+  where
+    go : (b : Bool) → ltb (least bad n) n ≡ b → bad i ≡ false
+    go true q = absurd (true≢false (sym e ∙ ap passes (lowest-stop bad n (least bad n) refusal refl (ltb-true (least bad n) n q)) ∙ p (least bad n)))
+    go false q = none-below bad 0 n i (omega arith) (omega (arith, ltb-false (least bad n) n q))

@@ -1,0 +1,128 @@
+-- Document 01, "Requests and calls": a call as a word, the calls of a request and their order, and the planner's list. Assumes nothing.
+use Prim.Native.Nat.{ℕ, zero, suc, _+_, _-_, _*_, _/_, _%_}
+use mathlib.Core.Bool.{Bool, true, false, _&&_, _||_, not, cond}
+use mathlib.Core.List.{List, [], _∷_, _++_, map, reverse}
+use lib.Dec.{eqb, leb, ltb}
+use Rattle.sets.specs.Sets.{member, minus}
+use Rattle.rules.specs.declared.Request.{Request}
+use Rattle.rules.specs.declared.Wake.{Wake}
+use Rattle.rules.specs.declared.Wake.the-variants.{Enable, Disable}
+use Rattle.rules.specs.declared.Call.{Call}
+use Rattle.rules.specs.declared.Call.the-variants.{ResourceOn, ResourceOff, SetState, SetWake}
+use Rattle.rules.specs.declared.Word.{Word}
+use Rattle.rules.specs.declared.Word.the-variants.{Is, NoCall}
+use Rattle.rules.specs.Station.{Station, hasPS, hasDSW}
+use Rattle.rules.specs.Power.{Entry, isArmed, needed}
+use Rattle.rules.specs.Status.{Status}
+use Rattle.rules.specs.Request.{isMove, isArm, isDisarm, newEntry, entriesAfter}
+
+-- the word with these bytes, lowest first
+abbrev pub word4 : ℕ → ℕ → ℕ → ℕ → ℕ
+word4 a b c d = a + 0x100 * b + 0x1_0000 * c + 0x100_0000 * d
+
+-- 1, r, 0, 0 for `_ON`; 2, r, 0, 0 for `_OFF`; 3, d, x, 0 for `_PSx`; 4, d, S, 128 + D for `_DSW` on; 4, d, 0, 0 for `_DSW` off
+abbrev pub wakeWord : ℕ → Wake → ℕ
+wakeWord d (Enable s x) = word4 4 d s (128 + x)
+wakeWord d Disable = word4 4 d 0 0
+
+abbrev pub wordOf : Call → ℕ
+wordOf (ResourceOn r) = word4 1 r 0 0
+wordOf (ResourceOff r) = word4 2 r 0 0
+wordOf (SetState d x) = word4 3 d x 0
+wordOf (SetWake d k) = wakeWord d k
+
+-- `_DSW`'s last two bytes: S and 128 + D, or two zeros
+unfoldable pub wakeOf : ℕ → ℕ → ℕ → Word
+wakeOf d x y =
+    cond (eqb x 0 && eqb y 0) (Is (SetWake d Disable)) (cond (leb x 4 && leb 128 y && leb y 132) (Is (SetWake d (Enable x (y - 128)))) NoCall)
+
+-- the call with these bytes, if there is one
+unfoldable pub callOfBytes : ℕ → ℕ → ℕ → ℕ → Word
+callOfBytes a b c d =
+    cond (eqb a 1 && eqb c 0 && eqb d 0) (Is (ResourceOn b))
+    (cond (eqb a 2 && eqb c 0 && eqb d 0) (Is (ResourceOff b))
+    (cond (eqb a 3 && leb c 3 && eqb d 0) (Is (SetState b c))
+    (cond (eqb a 4) (wakeOf b c d) NoCall)))
+
+unfoldable pub callOf : ℕ → Word
+callOf w = callOfBytes (w % 0x100) (w / 0x100 % 0x100) (w / 0x1_0000 % 0x100) (w / 0x100_0000)
+
+-- a call or none
+unfoldable pub only : Bool → Call → List Call
+only b c = cond b (c ∷ []) []
+
+-- the method that brings a device to state x: `_PSx`, and `_PS3` for D3cold
+unfoldable pub methodFor : ℕ → ℕ
+methodFor x = cond (eqb x 4) 3 x
+
+-- `_PSx` if that method exists and the state changes, but none from D3hot to D3cold
+unfoldable pub moveCall : Station → Entry → ℕ → ℕ → List Call
+moveCall s e d x =
+    only (not (eqb x (e .state)) && not (eqb (e .state) 3 && eqb x 4) && hasPS (s .device d) (methodFor x)) (SetState d (methodFor x))
+
+-- on arming, `_DSW` on if present; on disarming, `_DSW` off if present and it was armed
+unfoldable pub wakeCall : Station → Entry → Request → List Call
+wakeCall s e q =
+    cond (isArm q) (only (hasDSW (s .device (q .device))) (SetWake (q .device) (Enable (q .a) (q .b))))
+    (only (hasDSW (s .device (q .device)) && isArmed e) (SetWake (q .device) Disable))
+
+-- the device's own call
+unfoldable pub ownCall : Station → (ℕ → Entry) → Request → List Call
+ownCall s entries q = cond (isMove q) (moveCall s (entries (q .device)) (q .device) (q .a)) (wakeCall s (entries (q .device)) q)
+
+-- moving to D0, or arming: the own call comes last; moving deeper, or disarming: first
+unfoldable pub ownLast : Request → Bool
+ownLast q = isMove q && eqb (q .a) 0 || isArm q
+
+-- the needed set after the request, and what it asks to turn on and off
+unfoldable pub endSet : Station → (ℕ → Entry) → Request → ℕ
+endSet s entries q = needed s (entriesAfter entries q)
+
+unfoldable pub toTurnOn : Station → Status → Request → ℕ
+toTurnOn s st q = minus (endSet s (st .entries) q) (st .on)
+
+unfoldable pub toTurnOff : Station → Status → Request → ℕ
+toTurnOff s st q = minus (st .on) (endSet s (st .entries) q)
+
+-- the members of a set among the k numbers from i on
+unfoldable pub membersFrom : ℕ → ℕ → ℕ → List ℕ
+membersFrom m i zero = []
+membersFrom m i (suc k) = cond (member m i) (i ∷ membersFrom m (suc i) k) (membersFrom m (suc i) k)
+
+-- a goes before b: the lower resourceorder first, equal orders by the lower number
+unfoldable pub earlier : (ℕ → ℕ) → ℕ → ℕ → Bool
+earlier order a b = ltb (order a) (order b) || eqb (order a) (order b) && leb a b
+
+unfoldable pub insert : (ℕ → ℕ → Bool) → ℕ → List ℕ → List ℕ
+insert before x [] = x ∷ []
+insert before x (y ∷ l) = cond (before x y) (x ∷ y ∷ l) (y ∷ insert before x l)
+
+unfoldable pub sort : (ℕ → ℕ → Bool) → List ℕ → List ℕ
+sort before [] = []
+sort before (x ∷ l) = insert before x (sort before l)
+
+abbrev pub orderIn : Station → ℕ → ℕ
+orderIn s r = s .resource r .order
+
+-- a set's resources by rising order, equal orders by rising number
+unfoldable pub rising : Station → ℕ → List ℕ
+rising s m = sort (earlier (orderIn s)) (membersFrom m 0 (s .resources))
+
+-- document 01's ONs and OFFs: OFFs by falling order, equal orders by falling number
+unfoldable pub turnOn : Station → Status → Request → List ℕ
+turnOn s st q = rising s (toTurnOn s st q)
+
+unfoldable pub turnOff : Station → Status → Request → List ℕ
+turnOff s st q = reverse (rising s (toTurnOff s st q))
+
+-- the own call before or after the others
+unfoldable pub arrange : Bool → List Call → List ℕ → List ℕ → List Call
+arrange last own ons offs = cond last (map ResourceOn ons ++ map ResourceOff offs ++ own) (own ++ map ResourceOn ons ++ map ResourceOff offs)
+
+-- the planner's list
+unfoldable pub calls : Station → Status → Request → List Call
+calls s st q = arrange (ownLast q) (ownCall s (st .entries) q) (turnOn s st q) (turnOff s st q)
+
+-- the status after an accepted request: the new entry, the others as before, and exactly the needed set on
+unfoldable pub statusAfter : Station → Status → Request → Status
+statusAfter s st q = record { entries = entriesAfter (st .entries) q; on = endSet s (st .entries) q }

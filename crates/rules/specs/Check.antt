@@ -1,0 +1,83 @@
+-- The test that the checker computes: the words are taken from the front, phase by phase, and the first that cannot stand there ends it.
+-- That it says what `Conforms` says is proved in crates/laws. Assumes nothing.
+use Prim.Native.Nat.{ℕ, _/_, _%_}
+use mathlib.Core.Bool.{Bool, true, false, _&&_, _||_, cond}
+use mathlib.Core.List.{List, [], _∷_, map}
+use lib.Dec.{eqb, leb}
+use Rattle.sets.specs.Sets.{member, minus, single}
+use Rattle.rules.specs.declared.Call.{Call}
+use Rattle.rules.specs.declared.Call.the-variants.{ResourceOn, ResourceOff}
+use Rattle.rules.specs.declared.Request.{Request}
+use Rattle.rules.specs.Station.{Station}
+use Rattle.rules.specs.Status.{Status}
+use Rattle.rules.specs.Calls.{wordOf, ownCall, ownLast, toTurnOn, toTurnOff, orderIn}
+
+-- what is left of a list once a phase has taken its words, or that it cannot
+pub data Rest : Type 0 where
+  left : List ℕ → Rest
+  refused : Rest
+
+-- go on with what is left
+unfoldable pub andThen : Rest → (List ℕ → Rest) → Rest
+andThen (left ws) next = next ws
+andThen refused next = refused
+
+-- the words of these calls stand at the front
+unfoldable pub takeCalls : List Call → List ℕ → Rest
+takeCalls [] ws = left ws
+takeCalls (c ∷ cs) [] = refused
+takeCalls (c ∷ cs) (w ∷ ws) = elim (eqb w (wordOf c)) [ true ↦ takeCalls cs ws | false ↦ refused ]
+
+-- the resource that a word names, by its second byte
+abbrev pub resourceIn : ℕ → ℕ
+resourceIn w = w / 0x100 % 0x100
+
+-- word w switches a resource of the set, and it is the first to be switched or its order is not before the last one's
+unfoldable pub mayCome : (ℕ → ℕ) → (ℕ → ℕ → Bool) → ℕ → Bool → ℕ → ℕ → Bool
+mayCome word after todo first last w = eqb w (word (resourceIn w)) && member todo (resourceIn w) && (first || after last (resourceIn w))
+
+-- the words that switch each resource of the set stand at the front, in order
+unfoldable pub takeSet : (ℕ → ℕ) → (ℕ → ℕ → Bool) → ℕ → Bool → ℕ → List ℕ → Rest
+takeSet word after todo first last [] = cond (eqb todo 0) (left []) refused
+takeSet word after todo first last (w ∷ ws) =
+    elim (eqb todo 0) [
+      | true ↦ left (w ∷ ws)
+      | false ↦ elim (mayCome word after todo first last w) [
+        | true ↦ takeSet word after (minus todo (single (resourceIn w))) false (resourceIn w) ws
+        | false ↦ refused
+      ]
+    ]
+
+abbrev pub onWord : ℕ → ℕ
+onWord r = wordOf (ResourceOn r)
+
+abbrev pub offWord : ℕ → ℕ
+offWord r = wordOf (ResourceOff r)
+
+-- the resourceorder is not lower than the last one's; not higher
+abbrev pub notLower : Station → ℕ → ℕ → Bool
+notLower s last r = leb (orderIn s last) (orderIn s r)
+
+abbrev pub notHigher : Station → ℕ → ℕ → Bool
+notHigher s last r = leb (orderIn s r) (orderIn s last)
+
+-- the own call where it stands first or last, none elsewhere
+unfoldable pub ownFirstCalls : Station → Status → Request → List Call
+ownFirstCalls s st q = cond (ownLast q) [] (ownCall s (st .entries) q)
+
+unfoldable pub ownLastCalls : Station → Status → Request → List Call
+ownLastCalls s st q = cond (ownLast q) (ownCall s (st .entries) q) []
+
+unfoldable pub isEnd : Rest → Bool
+isEnd (left []) = true
+isEnd (left (w ∷ ws)) = false
+isEnd refused = false
+
+-- the own call first or last, ONs and OFFs, and nothing after
+unfoldable pub conforming : Station → Status → Request → List ℕ → Bool
+conforming s st q ws =
+    isEnd
+    (andThen (takeCalls (ownFirstCalls s st q) ws)
+    λ a. andThen (takeSet onWord (notLower s) (toTurnOn s st q) true 0 a)
+    λ b. andThen (takeSet offWord (notHigher s) (toTurnOff s st q) true 0 b)
+    λ c. takeCalls (ownLastCalls s st q) c)

@@ -1,0 +1,13 @@
+pub mod Index
+pub mod Answers
+pub mod Station
+pub mod Table
+pub mod Power
+pub mod Status
+pub mod Request
+pub mod Calls
+pub mod Conforms
+pub mod Execution
+pub mod Check
+pub mod Outcomes
+pub mod Rows

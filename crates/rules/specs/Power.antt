@@ -1,0 +1,74 @@
+-- Document 01, "Supported", "Needs" and "Wake pair": what a device can do and what it needs, over a station and a device's number. Assumes nothing.
+use Prim.Native.Nat.{ℕ, zero, suc}
+use mathlib.Core.Bool.{Bool, true, false, _&&_, _||_, not, cond}
+use lib.Dec.{eqb, leb, ltb}
+use Rattle.sets.specs.Sets.{member, union}
+use Rattle.rules.specs.Index.{every}
+use Rattle.rules.specs.Station.{Device, Station, absent, hasPS, hasPR, hasPRW}
+
+-- what the state image says of a device: its state, armed 0 or 1, wake S and wake D
+pub record Entry : Type 0 where
+  pub state : ℕ
+  pub armed : ℕ
+  pub wakeS : ℕ
+  pub wakeD : ℕ
+
+abbrev pub isArmed : Entry → Bool
+isArmed e = eqb (e .armed) 1
+
+-- D0 and D3hot always; D1 or D2 if either mask has its bit; D3cold if `_PR3` exists
+unfoldable pub supported : Station → ℕ → ℕ → Bool
+supported s d x =
+    let v = s .device d in
+    eqb x 0 || eqb x 3 || ltb x 3 && (hasPS v x || hasPR v x) || eqb x 4 && hasPR v 3
+
+-- the set of `_PRx`, empty if it is absent
+unfoldable pub ownSet : Device → ℕ → ℕ
+ownSet v x = cond (hasPR v x) (v .sets x) 0
+
+-- the set of `_PRx`, or of the next shallower state listed; empty if there is none
+unfoldable pub listedSet : Device → ℕ → ℕ
+listedSet v zero = ownSet v 0
+listedSet v (suc x) = cond (hasPR v (suc x)) (v .sets (suc x)) (listedSet v x)
+
+-- in D0, D1 or D2 the state's own set; in D3hot `_PR3`'s or the next shallower listed; in D3cold nothing
+unfoldable pub stateNeeds : Device → ℕ → ℕ
+stateNeeds v x = cond (ltb x 3) (ownSet v x) (cond (eqb x 3) (listedSet v 3) 0)
+
+-- an armed device also needs its `_PRW` set
+unfoldable pub wakeNeeds : Device → Entry → ℕ
+wakeNeeds v e = cond (isArmed e && hasPRW v) (v .sets 4) 0
+
+-- what device d needs with an entry
+unfoldable pub needs : Station → ℕ → Entry → ℕ
+needs s d e = union (stateNeeds (s .device d) (e .state)) (wakeNeeds (s .device d) e)
+
+-- what the devices below n need
+unfoldable pub neededBelow : Station → (ℕ → Entry) → ℕ → ℕ
+neededBelow s entries zero = 0
+neededBelow s entries (suc n) = union (neededBelow s entries n) (needs s n (entries n))
+
+-- the needed set: the union over all devices
+unfoldable pub needed : Station → (ℕ → Entry) → ℕ
+needed s entries = neededBelow s entries (s .devices)
+
+-- the wake range: `_SxD` to `_SxW`; only `_SxD`, that state alone; only `_SxW`, 0 to it; neither, empty
+unfoldable pub wakeRange : ℕ → ℕ → ℕ → Bool
+wakeRange sxd sxw x =
+    cond (eqb sxd absent) (cond (eqb sxw absent) false (leb x sxw)) (cond (eqb sxw absent) (eqb x sxd) (leb sxd x && leb x sxw))
+
+-- `_PRW` exists and S is not above its deepest state
+unfoldable pub wakeFrom : Station → ℕ → ℕ → Bool
+wakeFrom s d x = hasPRW (s .device d) && leb x (s .device d .deepest)
+
+-- every `_PRW` resource has systemlevel at least S
+unfoldable pub wakePowered : Station → ℕ → ℕ → Bool
+wakePowered s d x = every (λ r. not (member (s .device d .sets 4) r) || leb x (s .resource r .level)) (s .resources)
+
+-- D is supported and in the wake range for S
+unfoldable pub wakeState : Station → ℕ → ℕ → ℕ → Bool
+wakeState s d x y = supported s d y && wakeRange (s .device d .sxd x) (s .device d .sxw x) y
+
+-- the wake pair (S, D) is legal
+unfoldable pub wakePair : Station → ℕ → ℕ → ℕ → Bool
+wakePair s d x y = wakeFrom s d x && wakePowered s d x && wakeState s d x y

@@ -1,0 +1,86 @@
+-- Document 01, "Requests": which requests are refused, answers 10 to 18, and what an accepted one changes. No rule here looks at the on-set.
+-- Assumes nothing.
+use Prim.Native.Nat.{ℕ}
+use mathlib.Core.Bool.{Bool, true, false, _&&_, _||_, not, cond}
+use mathlib.Core.List.{[], _∷_}
+use lib.Dec.{eqb, leb, ltb}
+use Rattle.rules.specs.declared.Request.{Request}
+use Rattle.rules.specs.declared.Verdict.{Verdict}
+use Rattle.rules.specs.declared.Verdict.the-variants.{Done, BadRequest, Unsupported, Shallower, ParentDeeper, ChildShallower, TooDeepToWake, NoWake, WakeUnpowered, BadWakeState}
+use Rattle.rules.specs.Answers.{firstOf, unless, lowest}
+use Rattle.rules.specs.Station.{Station, absent}
+use Rattle.rules.specs.Power.{Entry, isArmed, supported, wakeFrom, wakePowered, wakeState}
+
+-- kind 1 moves to state a; kind 2 arms for S = a, D = b; kind 3 disarms
+abbrev pub isMove : Request → Bool
+isMove q = eqb (q .kind) 1
+
+abbrev pub isArm : Request → Bool
+isArm q = eqb (q .kind) 2
+
+abbrev pub isDisarm : Request → Bool
+isDisarm q = eqb (q .kind) 3
+
+-- 10: kind, device and numbers in range, unused ones zero
+unfoldable pub formGood : Station → Request → Bool
+formGood s q =
+    ltb (q .device) (s .devices)
+    && (isMove q && leb (q .a) 4 && eqb (q .b) 0 || isArm q && leb (q .a) 4 && leb (q .b) 4 || isDisarm q && eqb (q .a) 0 && eqb (q .b) 0)
+
+-- 12: the target is not shallower than the present state, or D0
+unfoldable pub notShallowerOrD0 : Entry → ℕ → Bool
+notShallowerOrD0 e x = eqb x 0 || leb (e .state) x
+
+-- 13: the parent, if there is one, is not deeper than the target
+unfoldable pub parentAllows : Station → (ℕ → Entry) → ℕ → ℕ → Bool
+parentAllows s entries d x = eqb (s .device d .parent) absent || leb (entries (s .device d .parent) .state) x
+
+-- 14: c is a child of d and shallower than the target
+unfoldable pub childBars : Station → (ℕ → Entry) → ℕ → ℕ → ℕ → Bool
+childBars s entries d x c = eqb (s .device c .parent) d && ltb (entries c .state) x
+
+-- 15: not armed, or the target is not deeper than wake D
+unfoldable pub wakeAllows : Entry → ℕ → Bool
+wakeAllows e x = not (isArmed e) || leb x (e .wakeD)
+
+-- 11 to 15: device d to state x
+unfoldable pub moveVerdict : Station → (ℕ → Entry) → ℕ → ℕ → Verdict
+moveVerdict s entries d x =
+    firstOf
+    (unless (supported s d x) Unsupported
+    ∷ unless (notShallowerOrD0 (entries d) x) Shallower
+    ∷ unless (parentAllows s entries d x) (ParentDeeper (s .device d .parent))
+    ∷ lowest (childBars s entries d x) (s .devices) ChildShallower
+    ∷ unless (wakeAllows (entries d) x) TooDeepToWake
+    ∷ [])
+    (Done 0)
+
+-- 16 to 18: arm device d for S = x, D = y; D is not shallower than the present state
+unfoldable pub armVerdict : Station → (ℕ → Entry) → ℕ → ℕ → ℕ → Verdict
+armVerdict s entries d x y =
+    firstOf
+    (unless (wakeFrom s d x) NoWake
+    ∷ unless (wakePowered s d x) WakeUnpowered
+    ∷ unless (wakeState s d x y && leb (entries d .state) y) BadWakeState
+    ∷ [])
+    (Done 0)
+
+-- what follows 10: the move's checks, those of arming, or none
+unfoldable pub kindVerdict : Station → (ℕ → Entry) → Request → Verdict
+kindVerdict s entries q =
+    cond (isMove q) (moveVerdict s entries (q .device) (q .a)) (cond (isArm q) (armVerdict s entries (q .device) (q .a) (q .b)) (Done 0))
+
+-- 10 to 18
+unfoldable pub requestVerdict : Station → (ℕ → Entry) → Request → Verdict
+requestVerdict s entries q = firstOf (unless (formGood s q) BadRequest ∷ kindVerdict s entries q ∷ []) (Done 0)
+
+-- a move changes the state, arming writes the pair, disarming zeroes it
+unfoldable pub newEntry : Entry → Request → Entry
+newEntry e q =
+    cond (isMove q) (record { state = q .a; armed = e .armed; wakeS = e .wakeS; wakeD = e .wakeD })
+    (cond (isArm q) (record { state = e .state; armed = 1; wakeS = q .a; wakeD = q .b })
+    (record { state = e .state; armed = 0; wakeS = 0; wakeD = 0 }))
+
+-- the entries after the request: the device's new one, the others as before
+unfoldable pub entriesAfter : (ℕ → Entry) → Request → ℕ → Entry
+entriesAfter entries q k = cond (eqb k (q .device)) (newEntry (entries k) q) (entries k)

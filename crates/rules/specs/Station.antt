@@ -1,0 +1,105 @@
+-- Document 01, "Power table", first part: what the bytes of a table say, as a station of numbered resources and devices.
+-- Sets take w bytes each; w = 4 gives document 01's layout. The rules of Power, Request and Calls
+-- speak of the station alone, of no bytes and no widths. Assumes nothing.
+use Prim.Native.Nat.{ℕ, _+_, _*_}
+use mathlib.Core.Bool.{Bool, cond}
+use mathlib.Core.List.{List}
+use lib.ListN.{getD}
+use lib.Dec.{eqb}
+use Rattle.sets.specs.Sets.{member}
+use Rattle.words.specs.Words.{readLE}
+use Rattle.rules.specs.Index.{below}
+
+-- a power resource: its systemlevel and its resourceorder
+pub record Resource : Type 0 where
+  pub level : ℕ
+  pub order : ℕ
+
+-- a device as its record states it
+pub record Device : Type 0 where
+  pub parent : ℕ
+  -- `_PS` mask and `_PR` mask: bit x means `_PSx`, `_PRx`
+  pub ps : ℕ
+  pub pr : ℕ
+  -- bit 0 `_PRW`, bit 1 `_DSW`
+  pub flags : ℕ
+  -- the five sets: 0 to 3 for `_PR0` to `_PR3`, 4 for `_PRW`
+  pub sets : ℕ → ℕ
+  -- `_SxD` and `_SxW` for x = 0 to 4
+  pub sxd : ℕ → ℕ
+  pub sxw : ℕ → ℕ
+  -- the deepest sleep state of `_PRW`
+  pub deepest : ℕ
+
+-- R, D, and what each number below them stands for
+pub record Station : Type 0 where
+  pub resources : ℕ
+  pub devices : ℕ
+  pub resource : ℕ → Resource
+  pub device : ℕ → Device
+
+-- 255 stands for no parent and for an absent S value
+abbrev pub absent : ℕ
+absent = 255
+
+-- header, 8 bytes; then R records of 4 bytes; then D records of 16 + 6w bytes, 40 for w = 4
+abbrev pub recordSize : ℕ → ℕ
+recordSize w = 16 + 6 * w
+
+abbrev pub countR : List ℕ → ℕ
+countR t = getD t 3 0
+
+abbrev pub countD : List ℕ → ℕ
+countD t = getD t 6 0
+
+abbrev pub resourceStart : ℕ → ℕ
+resourceStart r = 8 + 4 * r
+
+abbrev pub deviceStart : ℕ → List ℕ → ℕ → ℕ
+deviceStart w t d = 8 + 4 * countR t + recordSize w * d
+
+unfoldable pub resourceAt : List ℕ → ℕ → Resource
+resourceAt t at = record { level = getD t at 0; order = readLE 2 t (at + 2) }
+
+-- the device whose record starts at a byte; S0 has no `_SxD`
+unfoldable pub deviceAt : ℕ → List ℕ → ℕ → Device
+deviceAt w t at =
+    record {
+      parent = getD t at 0;
+      ps = getD t (at + 1) 0;
+      pr = getD t (at + 2) 0;
+      flags = getD t (at + 3) 0;
+      sets = below 5 0 (λ k. readLE w t (at + 4 + w * k));
+      sxd = below 5 absent (λ x. cond (eqb x 0) absent (getD t (at + 3 + 5 * w + x) 0));
+      sxw = below 5 absent (λ x. getD t (at + 8 + 5 * w + x) 0);
+      deepest = getD t (at + 13 + 5 * w) 0;
+    }
+
+-- values for numbers that stand for nothing
+abbrev pub noResource : Resource
+noResource = record { level = 0; order = 0 }
+
+abbrev pub noDevice : Device
+noDevice = record { parent = absent; ps = 0; pr = 0; flags = 0; sets = λ k. 0; sxd = λ x. absent; sxw = λ x. absent; deepest = 0 }
+
+unfoldable pub stationOf : ℕ → List ℕ → Station
+stationOf w t =
+    record {
+      resources = countR t;
+      devices = countD t;
+      resource = below (countR t) noResource (λ r. resourceAt t (resourceStart r));
+      device = below (countD t) noDevice (λ d. deviceAt w t (deviceStart w t d));
+    }
+
+-- bit x of a mask
+abbrev pub hasPS : Device → ℕ → Bool
+hasPS v x = member (v .ps) x
+
+abbrev pub hasPR : Device → ℕ → Bool
+hasPR v x = member (v .pr) x
+
+abbrev pub hasPRW : Device → Bool
+hasPRW v = member (v .flags) 0
+
+abbrev pub hasDSW : Device → Bool
+hasDSW v = member (v .flags) 1

@@ -1,0 +1,102 @@
+-- Document 01, "State image" and "Sound": the image's bytes as a status, which are good, and answers 7 and 8. Assumes nothing.
+use Prim.Native.Nat.{ℕ, zero, suc, _+_, _*_, _^_}
+use mathlib.Core.Bool.{Bool, true, false, _&&_, _||_, not}
+use mathlib.Core.List.{List, [], _∷_, _++_}
+use lib.ListN.{length, getD}
+use lib.Dec.{eqb, leb, ltb}
+use Rattle.sets.specs.Sets.{subset, firstN}
+use Rattle.words.specs.Words.{readLE, bytesLE}
+use Rattle.rules.specs.declared.Verdict.{Verdict}
+use Rattle.rules.specs.declared.Verdict.the-variants.{Done, BadState, Inconsistent}
+use Rattle.rules.specs.Index.{every, below, eachFrom, each}
+use Rattle.rules.specs.Answers.{firstOf, unless, lowest}
+use Rattle.rules.specs.Station.{Station, absent}
+use Rattle.rules.specs.Power.{Entry, isArmed, supported, needs, wakePair}
+
+-- the entries of the devices, and the set of the resources that are on
+pub record Status : Type 0 where
+  pub entries : ℕ → Entry
+  pub on : ℕ
+
+-- D0, not armed
+abbrev pub noEntry : Entry
+noEntry = record { state = 0; armed = 0; wakeS = 0; wakeD = 0 }
+
+-- four bytes a device
+unfoldable pub entryAt : List ℕ → ℕ → Entry
+entryAt b at = record { state = getD b at 0; armed = getD b (at + 1) 0; wakeS = getD b (at + 2) 0; wakeD = getD b (at + 3) 0 }
+
+unfoldable pub entryBytes : Entry → List ℕ
+entryBytes e = e .state ∷ e .armed ∷ e .wakeS ∷ e .wakeD ∷ []
+
+-- four bytes a device for 8w devices, then the on-set; 33w bytes, 132 for w = 4
+abbrev pub imageSize : ℕ → ℕ
+imageSize w = 33 * w
+
+unfoldable pub entriesOf : ℕ → List ℕ → ℕ → Entry
+entriesOf w b = below (8 * w) noEntry (λ k. entryAt b (4 * k))
+
+unfoldable pub statusOf : ℕ → List ℕ → Status
+statusOf w b = record { entries = entriesOf w b; on = readLE w b (32 * w) }
+
+-- the bytes of the k entries from i on
+unfoldable pub entriesBytes : (ℕ → Entry) → ℕ → ℕ → List ℕ
+entriesBytes entries i zero = []
+entriesBytes entries i (suc k) = entryBytes (entries i) ++ entriesBytes entries (suc i) k
+
+-- the image of a status
+unfoldable pub imageOf : ℕ → Status → List ℕ
+imageOf w s = entriesBytes (s .entries) 0 (8 * w) ++ bytesLE w (s .on)
+
+-- every device in D0, none armed, all R resources on
+unfoldable pub freshStatus : Station → Status
+freshStatus s = record { entries = λ k. noEntry; on = firstN (s .resources) }
+
+-- state 0 to 4; armed 0 or 1; wake S and wake D 0 to 4; not armed means both wake numbers are zero
+unfoldable pub entryGood : Entry → Bool
+entryGood e =
+    leb (e .state) 4 && leb (e .armed) 1 && leb (e .wakeS) 4 && leb (e .wakeD) 4 && (eqb (e .armed) 1 || eqb (e .wakeS) 0 && eqb (e .wakeD) 0)
+
+unfoldable pub entryZero : Entry → Bool
+entryZero e = eqb (e .state) 0 && eqb (e .armed) 0 && eqb (e .wakeS) 0 && eqb (e .wakeD) 0
+
+-- of the n entries each is good, and those at or above D are zero
+unfoldable pub entriesGood : ℕ → Station → (ℕ → Entry) → Bool
+entriesGood n s entries = every (λ k. entryGood (entries k) && (ltb k (s .devices) || entryZero (entries k))) n
+
+-- no bit at or above R
+unfoldable pub onGood : Station → ℕ → Bool
+onGood s on = ltb on (2 ^ s .resources)
+
+-- d is not shallower than its parent
+unfoldable pub underParent : Station → (ℕ → Entry) → ℕ → Bool
+underParent s entries d = eqb (s .device d .parent) absent || leb (entries (s .device d .parent) .state) (entries d .state)
+
+-- if armed, its pair is legal and its state is not deeper than wake D
+unfoldable pub wakeSound : Station → ℕ → Entry → Bool
+wakeSound s d e = not (isArmed e) || wakePair s d (e .wakeS) (e .wakeD) && leb (e .state) (e .wakeD)
+
+-- what document 01 calls sound, apart from power: a supported state, not shallower than its parent, the wake rules
+unfoldable pub consistentButPower : Station → (ℕ → Entry) → ℕ → Bool
+consistentButPower s entries d = supported s d (entries d .state) && underParent s entries d && wakeSound s d (entries d)
+
+-- everything it needs is on
+unfoldable pub powered : Station → Status → ℕ → Bool
+powered s st d = subset (needs s d (st .entries d)) (st .on)
+
+-- document 01's sound, of one device
+unfoldable pub consistent : Station → Status → ℕ → Bool
+consistent s st d = consistentButPower s (st .entries) d && powered s st d
+
+-- 7 of a status with n entries: a value out of its rules
+unfoldable pub valuesGood : ℕ → Station → Status → Bool
+valuesGood n s st = entriesGood n s (st .entries) && onGood s (st .on)
+
+-- 8: the lowest device that is not consistent
+unfoldable pub consistencyVerdict : Station → Status → Verdict
+consistencyVerdict s st = lowest (λ d. not (consistent s st d)) (s .devices) Inconsistent
+
+-- 7, then 8
+unfoldable pub stateVerdict : ℕ → Station → List ℕ → Verdict
+stateVerdict w s b =
+    firstOf (unless (eqb (length b) (imageSize w) && valuesGood (8 * w) s (statusOf w b)) BadState ∷ consistencyVerdict s (statusOf w b) ∷ []) (Done 0)

@@ -1,0 +1,130 @@
+-- Document 01, "Power table", second part: which bytes are a good table, answers 1 to 6. Assumes nothing.
+use Prim.Native.Nat.{ℕ, _+_, _*_, _%_, _^_}
+use mathlib.Core.Bool.{Bool, true, false, _&&_, _||_, not, cond}
+use mathlib.Core.List.{List, [], _∷_, _++_}
+use lib.ListN.{length, getD}
+use lib.Dec.{eqb, leb, ltb}
+use Rattle.words.specs.Words.{readLE}
+use Rattle.rules.specs.declared.Verdict.{Verdict}
+use Rattle.rules.specs.declared.Verdict.the-variants.{Done, NotATable, TooMany, WrongLength, BadResource, BadDevice, BadObjects}
+use Rattle.rules.specs.Index.{each}
+use Rattle.rules.specs.Answers.{firstOf, unless, lowest}
+use Rattle.rules.specs.Station.{Device, absent, recordSize, countR, countD, resourceStart, deviceStart, deviceAt, hasPS, hasPR, hasPRW, hasDSW}
+
+-- 1: the table has its 8 bytes, the mark PWT, version 1 and a zero at byte 7
+unfoldable pub headerGood : List ℕ → Bool
+headerGood t =
+    leb 8 (length t) && eqb (getD t 0 0) 0x50 && eqb (getD t 1 0) 0x57 && eqb (getD t 2 0) 0x54 && eqb (readLE 2 t 4) 1 && eqb (getD t 7 0) 0
+
+-- 2: at most 8w resources and devices
+unfoldable pub countsGood : ℕ → List ℕ → Bool
+countsGood w t = leb (countR t) (8 * w) && leb (countD t) (8 * w)
+
+-- 3: the header, R records of 4 bytes, D of 16 + 6w: 8 + 4R + 40D bytes for w = 4
+unfoldable pub lengthGood : ℕ → List ℕ → Bool
+lengthGood w t = eqb (length t) (8 + 4 * countR t + recordSize w * countD t)
+
+-- a field of a record: the byte of the record at which it starts, and whether it keeps its rule
+pub record Field : Type 0 where
+  pub at : ℕ
+  pub good : Bool
+
+abbrev pub field : ℕ → Bool → Field
+field at good = record { at = at; good = good }
+
+-- where the first bad one of fields in rising order starts, else the end
+unfoldable pub firstBad : ℕ → List Field → ℕ
+firstBad end [] = end
+firstBad end (f ∷ fs) = elim (f .good) [ true ↦ firstBad end fs | false ↦ f .at ]
+
+-- systemlevel 0 to 4; zero; any resourceorder
+abbrev pub resourceFields : List ℕ → ℕ → List Field
+resourceFields t at = field 0 (leb (getD t at 0) 4) ∷ field 1 (eqb (getD t (at + 1) 0) 0) ∷ []
+
+-- 4: every field of the resource's record is good
+unfoldable pub resourceGood : List ℕ → ℕ → Bool
+resourceGood t r = eqb (firstBad 4 (resourceFields t (resourceStart r))) 4
+
+-- a parent is lower than its child; 255 for none
+unfoldable pub parentGood : ℕ → Device → Bool
+parentGood d v = ltb (v .parent) d || eqb (v .parent) absent
+
+-- set k's object is there: `_PR0` to `_PR3`, or `_PRW`
+unfoldable pub present : Device → ℕ → Bool
+present v k = cond (eqb k 4) (hasPRW v) (hasPR v k)
+
+-- no bit at or above R, and zero where the object is absent
+unfoldable pub setGood : ℕ → Device → ℕ → Bool
+setGood resources v k = ltb (v .sets k) (2 ^ resources) && (present v k || eqb (v .sets k) 0)
+
+-- 0 to 3 or absent, and not larger than `_SxW` where both are present
+unfoldable pub sxdGood : Device → ℕ → Bool
+sxdGood v x = eqb (v .sxd x) absent || leb (v .sxd x) 3 && (eqb (v .sxw x) absent || leb (v .sxd x) (v .sxw x))
+
+-- 0 to 4 or absent
+unfoldable pub sxwGood : Device → ℕ → Bool
+sxwGood v x = eqb (v .sxw x) absent || leb (v .sxw x) 4
+
+-- 0 to 4; 0 without `_PRW`
+unfoldable pub deepestGood : Device → Bool
+deepestGood v = leb (v .deepest) 4 && (hasPRW v || eqb (v .deepest) 0)
+
+-- the fields of a device's record in the order of document 01's table: bytes 0 to 3
+unfoldable pub headFields : ℕ → Device → List Field
+headFields d v = field 0 (parentGood d v) ∷ field 1 (ltb (v .ps) 16) ∷ field 2 (ltb (v .pr) 16) ∷ field 3 (ltb (v .flags) 4) ∷ []
+
+-- the five sets
+unfoldable pub setFields : ℕ → ℕ → Device → List Field
+setFields w resources v = each (λ k. field (4 + w * k) (setGood resources v k)) 5
+
+-- `_S1D` to `_S4D`, `_S0W` to `_S4W`
+unfoldable pub sxdFields : ℕ → Device → List Field
+sxdFields w v = each (λ k. field (4 + 5 * w + k) (sxdGood v (k + 1))) 4
+
+unfoldable pub sxwFields : ℕ → Device → List Field
+sxwFields w v = each (λ x. field (8 + 5 * w + x) (sxwGood v x)) 5
+
+-- deepest, then zeros to the record's end
+unfoldable pub lastFields : ℕ → List ℕ → ℕ → Device → List Field
+lastFields w t at v = field (13 + 5 * w) (deepestGood v) ∷ each (λ k. field (14 + 5 * w + k) (eqb (getD t (at + 14 + 5 * w + k) 0) 0)) (2 + w)
+
+-- all fields of device d in a table of R resources, its record starting at a byte
+unfoldable pub deviceFields : ℕ → ℕ → List ℕ → ℕ → ℕ → List Field
+deviceFields w resources t d at =
+    let v = deviceAt w t at in
+    headFields d v ++ setFields w resources v ++ sxdFields w v ++ sxwFields w v ++ lastFields w t at v
+
+-- where in device d's record the first bad field starts, else the record's size
+unfoldable pub badField : ℕ → List ℕ → ℕ → ℕ
+badField w t d = firstBad (recordSize w) (deviceFields w (countR t) t d (deviceStart w t d))
+
+-- 5: every field of the device's record is good
+unfoldable pub fieldsGood : ℕ → List ℕ → ℕ → Bool
+fieldsGood w t d = eqb (badField w t d) (recordSize w)
+
+-- 6: any `_PS` needs `_PS0` and `_PS3`; any `_PR` needs `_PR0`; with both kinds, mask bits 0 to 2 agree; `_DSW` needs `_PRW`
+unfoldable pub objectsGood : Device → Bool
+objectsGood v =
+    (eqb (v .ps) 0 || hasPS v 0 && hasPS v 3)
+    && (eqb (v .pr) 0 || hasPR v 0)
+    && (eqb (v .ps) 0 || eqb (v .pr) 0 || eqb (v .ps % 8) (v .pr % 8))
+    && (not (hasDSW v) || hasPRW v)
+
+-- 5 or 6 of one device, 5 first
+unfoldable pub deviceRefusal : ℕ → List ℕ → ℕ → Verdict
+deviceRefusal w t d = cond (fieldsGood w t d) (BadObjects d) (BadDevice d)
+
+unfoldable pub deviceGood : ℕ → List ℕ → ℕ → Bool
+deviceGood w t d = fieldsGood w t d && objectsGood (deviceAt w t (deviceStart w t d))
+
+-- 1 to 6 in their order, 5 and 6 device by device
+unfoldable pub tableVerdict : ℕ → List ℕ → Verdict
+tableVerdict w t =
+    firstOf
+    (unless (headerGood t) NotATable
+    ∷ unless (countsGood w t) TooMany
+    ∷ unless (lengthGood w t) WrongLength
+    ∷ lowest (λ r. not (resourceGood t r)) (countR t) BadResource
+    ∷ lowest (λ d. not (deviceGood w t d)) (countD t) (deviceRefusal w t)
+    ∷ [])
+    (Done 0)
