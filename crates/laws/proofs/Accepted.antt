@@ -1,0 +1,138 @@
+-- What an accepted table gives: its counts and length, and of each resource and device every rule of document 01's table, read off the station.
+-- Assumes nothing.
+use mathlib.Core.Path.{_≡_, refl, sym, ap, _∙_}
+use mathlib.Core.Bool.{Bool, true, false, not, _&&_, _||_, true≢false}
+use mathlib.Core.List.{List, [], _∷_, _++_}
+use Prim.Native.Nat.{ℕ, zero, suc, _+_, _*_, _^_, _≤_, _<_}
+use native.Mathlib.Omega.{arith}
+use native.Mathlib.Nat.{lt-irrefl}
+use borrow.Author.Tests.{eqb-true, leb-true, ltb-true, not-false}
+use lib.Dec.{eqb, ltb, leb}
+use lib.ListN.{length, getD}
+use Rattle.sets.proofs.Laws.{decide}
+use Rattle.rules.specs.declared.Verdict.{Verdict}
+use Rattle.rules.specs.declared.Verdict.the-variants.{Done, NotATable, TooMany, WrongLength, BadResource}
+use Rattle.rules.specs.Index.{eachFrom}
+use Rattle.rules.specs.Answers.{numberOf, passes, firstOf, unless, lowest}
+use Rattle.rules.specs.Station.{Device, Station, recordSize, countR, countD, resourceStart, deviceStart, resourceAt, deviceAt, stationOf}
+use Rattle.rules.specs.Table.{headerGood, countsGood, lengthGood, Field, field, firstBad, resourceFields, resourceGood, parentGood, setGood, sxdGood, sxwGood, deepestGood, headFields, setFields, sxdFields, sxwFields, lastFields, deviceFields, badField, fieldsGood, objectsGood, deviceRefusal, deviceGood, tableVerdict}
+use Rattle.rules.proofs.Index.{below-in}
+use Rattle.rules.proofs.Answers.{first-both, unless-at, lowest-at}
+use Rattle.laws.specs.Carried.{All}
+use Rattle.laws.proofs.Tests.{both-true}
+use Rattle.laws.proofs.All.{all-append, all-left, all-right, all-each, each-at}
+
+-- ---- a good field is passed over, and the first bad one is the answer
+pub field-good : (end : ℕ) (f : Field) (fs : List Field) → f .good ≡ true → firstBad end (f ∷ fs) ≡ firstBad end fs
+unfolding firstBad
+field-good end f fs e = rw (e, firstBad) refl
+
+pub field-bad : (end : ℕ) (f : Field) (fs : List Field) → f .good ≡ false → firstBad end (f ∷ fs) ≡ f .at
+unfolding firstBad
+field-bad end f fs e = rw (e, firstBad) refl
+
+-- no bad field: every field is good, since each starts inside the record
+pub no-bad : (end : ℕ) (fs : List Field) → All (λ f. f .at < end) fs → firstBad end fs ≡ end → All (λ f. f .good ≡ true) fs
+unfolding All
+no-bad end [] a e = tt
+no-bad end (f ∷ fs) a e =
+    let rest = no-bad end fs (a .1) in
+    decide (f .good) (λ g. (g, rest (sym (field-good end f fs g) ∙ e)))
+    (λ g. let same : f .at ≡ end = sym (field-bad end f fs g) ∙ e in absurd (lt-irrefl end (rw same at (a .0))))
+
+-- ---- what the table's checks say of a device's record
+pub record DeviceRules (resources d : ℕ) (v : Device) : Type 0 where
+  pub parent : parentGood d v ≡ true
+  pub ps : v .ps < 16
+  pub pr : v .pr < 16
+  pub flags : v .flags < 4
+  pub sets : (k : ℕ) → k < 5 → setGood resources v k ≡ true
+  pub sxd : (x : ℕ) → x < 4 → sxdGood v (x + 1) ≡ true
+  pub sxw : (x : ℕ) → x < 5 → sxwGood v x ≡ true
+  pub deepest : deepestGood v ≡ true
+
+-- every field starts inside its record
+module _ (w resources : ℕ) (t : List ℕ) (d at : ℕ) where
+  inside : All (λ f. f .at < recordSize w) (deviceFields w resources t d at)
+  unfolding deviceFields headFields setFields sxdFields sxwFields lastFields All eachFrom
+  inside =
+      let v = deviceAt w t at in
+      let In : Field → Type 0 = λ f. f .at < recordSize w in
+      let a : All In (headFields d v) = (omega arith, (omega arith, (omega arith, (omega arith, tt)))) in
+      let b : All In (setFields w resources v) = (omega arith, (omega arith, (omega arith, (omega arith, (omega arith, tt))))) in
+      let c : All In (sxdFields w v) = (omega arith, (omega arith, (omega arith, (omega arith, tt)))) in
+      let e : All In (sxwFields w v) = (omega arith, (omega arith, (omega arith, (omega arith, (omega arith, tt))))) in
+      let f : All In (lastFields w t at v) = (omega arith, all-each In _ 0 (2 + w) (λ k x y. omega arith)) in
+      all-append In (headFields d v ++ setFields w resources v ++ sxdFields w v ++ sxwFields w v) (lastFields w t at v)
+      (all-append In (headFields d v ++ setFields w resources v ++ sxdFields w v) (sxwFields w v)
+      (all-append In (headFields d v ++ setFields w resources v) (sxdFields w v)
+      (all-append In (headFields d v) (setFields w resources v) a b) c) e) f
+
+  -- so a record without a bad field keeps every rule
+  pub fields-rules : firstBad (recordSize w) (deviceFields w resources t d at) ≡ recordSize w → DeviceRules resources d (deviceAt w t at)
+  unfolding deviceFields headFields setFields sxdFields sxwFields lastFields All
+  fields-rules e =
+      let v = deviceAt w t at in
+      let Good : Field → Type 0 = λ f. f .good ≡ true in
+      let all : All Good (headFields d v ++ setFields w resources v ++ sxdFields w v ++ sxwFields w v ++ lastFields w t at v) = no-bad (recordSize w) (deviceFields w resources t d at) inside e in
+      let front3 = all-left Good (headFields d v ++ setFields w resources v ++ sxdFields w v ++ sxwFields w v) (lastFields w t at v) all in
+      let front2 = all-left Good (headFields d v ++ setFields w resources v ++ sxdFields w v) (sxwFields w v) front3 in
+      let front1 = all-left Good (headFields d v ++ setFields w resources v) (sxdFields w v) front2 in
+      let head : All Good (headFields d v) = all-left Good (headFields d v) (setFields w resources v) front1 in
+      record {
+        parent = head .0;
+        ps = ltb-true _ _ (head .1 .0);
+        pr = ltb-true _ _ (head .1 .1 .0);
+        flags = ltb-true _ _ (head .1 .1 .1 .0);
+        sets = λ k h. each-at Good (λ j. field (4 + w * j) (setGood resources v j)) 0 5 (all-right Good (headFields d v) (setFields w resources v) front1) k (omega arith) (omega arith);
+        sxd = λ k h. each-at Good (λ j. field (4 + 5 * w + j) (sxdGood v (j + 1))) 0 4 (all-right Good (headFields d v ++ setFields w resources v) (sxdFields w v) front2) k (omega arith) (omega arith);
+        sxw = λ k h. each-at Good (λ j. field (8 + 5 * w + j) (sxwGood v j)) 0 5 (all-right Good (headFields d v ++ setFields w resources v ++ sxdFields w v) (sxwFields w v) front3) k (omega arith) (omega arith);
+        deepest = all-right Good (headFields d v ++ setFields w resources v ++ sxdFields w v ++ sxwFields w v) (lastFields w t at v) all .0;
+      }
+
+-- ---- what an accepted table gives
+pub record Accepted (w : ℕ) (t : List ℕ) : Type 0 where
+  pub resources : countR t ≤ 8 * w
+  pub devices : countD t ≤ 8 * w
+  pub long : length t ≡ 8 + 4 * countR t + recordSize w * countD t
+  pub resource : (r : ℕ) → r < countR t → stationOf w t .resource r .level ≤ 4
+  pub device : (d : ℕ) → d < countD t → DeviceRules (countR t) d (stationOf w t .device d)
+  pub objects : (d : ℕ) → d < countD t → objectsGood (stationOf w t .device d) ≡ true
+
+-- the station's resource and device at a number below R and D
+pub resource-at : (w : ℕ) (t : List ℕ) (r : ℕ) → r < countR t → stationOf w t .resource r ≡ resourceAt t (resourceStart r)
+unfolding stationOf
+resource-at w t r h = below-in (countR t) _ _ r h
+
+pub device-at : (w : ℕ) (t : List ℕ) (d : ℕ) → d < countD t → stationOf w t .device d ≡ deviceAt w t (deviceStart w t d)
+unfolding stationOf
+device-at w t d h = below-in (countD t) _ _ d h
+
+refuses : (w : ℕ) (t : List ℕ) (d : ℕ) → eqb (numberOf (deviceRefusal w t d)) 0 ≡ false
+unfolding deviceRefusal
+refuses w t d = decide (fieldsGood w t d) (λ e. rw e refl) (λ e. rw e refl)
+
+level-good : (t : List ℕ) (r : ℕ) → resourceGood t r ≡ true → resourceAt t (resourceStart r) .level ≤ 4
+unfolding resourceGood resourceAt All
+level-good t r e =
+    leb-true _ _ (no-bad 4 (resourceFields t (resourceStart r)) (omega arith, (omega arith, tt)) (eqb-true _ _ e) .0)
+
+pub accepted : (w : ℕ) (t : List ℕ) → passes (tableVerdict w t) ≡ true → Accepted w t
+unfolding tableVerdict countsGood lengthGood deviceGood fieldsGood badField
+accepted w t e =
+    let a = first-both _ _ _ e in
+    let b = first-both _ _ _ (a .1) in
+    let c = first-both _ _ _ (b .1) in
+    let f = first-both _ _ _ (c .1) in
+    let g = first-both _ _ _ (f .1) in
+    let counts = both-true _ _ (unless-at _ TooMany refl (b .0)) in
+    let each : (d : ℕ) → d < countD t → (fieldsGood w t d ≡ true) × (objectsGood (deviceAt w t (deviceStart w t d)) ≡ true) =
+    λ d h. both-true _ _ (not-false (deviceGood w t d) (lowest-at _ (countD t) (deviceRefusal w t) (refuses w t) (g .0) d h)) in
+    record {
+      resources = leb-true _ _ (counts .0);
+      devices = leb-true _ _ (counts .1);
+      long = eqb-true _ _ (unless-at _ WrongLength refl (c .0));
+      resource = λ r h. rw (resource-at w t r h) (level-good t r (not-false _ (lowest-at _ (countR t) BadResource (λ i. refl) (f .0) r h)));
+      device = λ d h. rw (device-at w t d h) (fields-rules w (countR t) t d (deviceStart w t d) (eqb-true _ _ (each d h .0)));
+      objects = λ d h. rw (device-at w t d h) (each d h .1);
+    }

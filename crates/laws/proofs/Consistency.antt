@@ -1,0 +1,89 @@
+-- Consistency is kept: from a status in which every device is consistent, an accepted request leads to one in which every device is, with exactly the
+-- needed set on. Over a station whose parents have lower numbers and whose sets have no bit at or above R. Assumes nothing.
+use mathlib.Core.Path.{_≡_, refl, sym, ap, _∙_}
+use mathlib.Core.Bool.{Bool, true, false, not, _&&_, _||_, cond, true≢false}
+use mathlib.Core.Logic.{_⊎_, inl, inr, ⊎-elim}
+use Prim.Native.Nat.{ℕ, _^_, _≤_, _<_}
+use native.Mathlib.Omega.{arith}
+use borrow.Author.Tests.{eqb-true, eqb-false, eq-eqb, ne-eqb, ltb-true, ltb-false, leb-true, le-leb, not-true, not-false}
+use lib.Dec.{eqb, ltb, leb}
+use Rattle.sets.proofs.Laws.{decide}
+use Rattle.rules.specs.declared.Request.{Request}
+use Rattle.rules.specs.declared.Verdict.the-variants.{BadRequest, Unsupported, Shallower, ParentDeeper, ChildShallower, TooDeepToWake, NoWake, WakeUnpowered, BadWakeState}
+use Rattle.rules.specs.Answers.{passes}
+use Rattle.rules.specs.Station.{Station, absent}
+use Rattle.rules.specs.Power.{Entry, isArmed, supported, wakeFrom, wakePowered, wakeState, wakePair, needed}
+use Rattle.rules.specs.Status.{Status, underParent, wakeSound, consistentButPower, powered, consistent}
+use Rattle.rules.specs.Request.{isMove, isArm, isDisarm, formGood, notShallowerOrD0, parentAllows, childBars, wakeAllows, moveVerdict, armVerdict, kindVerdict, requestVerdict, newEntry, entriesAfter}
+use Rattle.rules.specs.Calls.{endSet, statusAfter}
+use Rattle.rules.proofs.Answers.{first-both, unless-at, lowest-at}
+use Rattle.laws.proofs.Tests.{both-true, and-true, or-cases, or-left, or-right}
+use Rattle.laws.proofs.Needed.{all-powered}
+
+-- ---- what an accepted request has passed
+
+pub record Moves (s : Station) (entries : ℕ → Entry) (d x : ℕ) : Type 0 where
+  pub known : supported s d x ≡ true
+  pub deeper : notShallowerOrD0 (entries d) x ≡ true
+  pub parent : parentAllows s entries d x ≡ true
+  pub children : (c : ℕ) → c < s .devices → childBars s entries d x c ≡ false
+  pub wake : wakeAllows (entries d) x ≡ true
+
+pub moves : (s : Station) (entries : ℕ → Entry) (d x : ℕ) → passes (moveVerdict s entries d x) ≡ true → Moves s entries d x
+unfolding moveVerdict
+moves s entries d x e =
+    let a = first-both _ _ _ e in
+    let b = first-both _ _ _ (a .1) in
+    let c = first-both _ _ _ (b .1) in
+    let f = first-both _ _ _ (c .1) in
+    let g = first-both _ _ _ (f .1) in
+    record {
+      known = unless-at _ Unsupported refl (a .0);
+      deeper = unless-at _ Shallower refl (b .0);
+      parent = unless-at _ (ParentDeeper (s .device d .parent)) refl (c .0);
+      children = lowest-at _ (s .devices) ChildShallower (λ i. refl) (f .0);
+      wake = unless-at _ TooDeepToWake refl (g .0);
+    }
+
+pub record Arms (s : Station) (entries : ℕ → Entry) (d x y : ℕ) : Type 0 where
+  pub from : wakeFrom s d x ≡ true
+  pub powered : wakePowered s d x ≡ true
+  pub state : wakeState s d x y ≡ true
+  pub deeper : leb (entries d .state) y ≡ true
+
+pub arms : (s : Station) (entries : ℕ → Entry) (d x y : ℕ) → passes (armVerdict s entries d x y) ≡ true → Arms s entries d x y
+unfolding armVerdict
+arms s entries d x y e =
+    let a = first-both _ _ _ e in
+    let b = first-both _ _ _ (a .1) in
+    let c = first-both _ _ _ (b .1) in
+    let f = both-true _ _ (unless-at _ BadWakeState refl (c .0)) in
+    record { from = unless-at _ NoWake refl (a .0); powered = unless-at _ WakeUnpowered refl (b .0); state = f .0; deeper = f .1 }
+
+-- ---- consistency apart from power, by its parts
+
+pub record Apart (s : Station) (entries : ℕ → Entry) (d : ℕ) : Type 0 where
+  pub known : supported s d (entries d .state) ≡ true
+  pub under : underParent s entries d ≡ true
+  pub wake : wakeSound s d (entries d) ≡ true
+
+pub apart-of : (s : Station) (entries : ℕ → Entry) (d : ℕ) → consistentButPower s entries d ≡ true → Apart s entries d
+unfolding consistentButPower
+apart-of s entries d e =
+    let a = both-true _ _ e in
+    let b = both-true _ _ (a .0) in
+    record { known = b .0; under = b .1; wake = a .1 }
+
+pub apart-is : (s : Station) (entries : ℕ → Entry) (d : ℕ) → Apart s entries d → consistentButPower s entries d ≡ true
+unfolding consistentButPower
+apart-is s entries d a = rw (a .known, a .under, a .wake) refl
+
+-- ---- the entries after
+
+pub after-same : (entries : ℕ → Entry) (q : Request) → entriesAfter entries q (q .device) ≡ newEntry (entries (q .device)) q
+unfolding entriesAfter
+after-same entries q = rw (eq-eqb (q .device) (q .device) refl) refl
+
+pub after-other : (entries : ℕ → Entry) (q : Request) (k : ℕ) → (k ≡ q .device → ⊥) → entriesAfter entries q k ≡ entries k
+unfolding entriesAfter
+after-other entries q k h = rw (ne-eqb k (q .device) h) refl

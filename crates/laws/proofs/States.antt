@@ -1,0 +1,186 @@
+-- The state image along requests: a fresh one is consistent, an accepted request leaves a consistent one with exactly the needed set on, and so after
+-- any run of requests from fresh, refused ones among them, it is consistent. Assumes nothing.
+use mathlib.Core.Path.{_≡_, refl, sym, ap, _∙_}
+use mathlib.Core.Bool.{Bool, true, false, not, _&&_, _||_, cond, true≢false}
+use mathlib.Core.List.{List, [], _∷_}
+use mathlib.Core.Logic.{_⊎_, inl, inr, ⊎-elim}
+use Prim.Native.Nat.{ℕ, _*_, _^_, _≤_, _<_}
+use native.Mathlib.Omega.{arith}
+use native.Mathlib.Nat.{lt-of-lt-of-le}
+use borrow.Author.Tests.{eqb-true, eqb-false, eq-eqb, ltb-true, lt-ltb, leb-true, not-false}
+use lib.Dec.{eqb, ltb, leb}
+use lib.ListN.{length}
+use lib.Pow.{pow-mono}
+use Rattle.sets.specs.Sets.{member, subset, firstN}
+use Rattle.sets.proofs.Laws.{decide, firstN-lt, member-firstN, subset-of}
+use Rattle.words.specs.Words.{readLE}
+use Rattle.rules.specs.declared.Request.{Request}
+use Rattle.rules.specs.declared.Verdict.the-variants.{Done, BadRequest, BadState, Inconsistent}
+use Rattle.rules.specs.Answers.{passes, firstOf, unless}
+use Rattle.rules.specs.Index.{every}
+use Rattle.rules.specs.Station.{Station, absent, countR, countD, stationOf}
+use Rattle.rules.specs.Table.{tableVerdict, setGood}
+use Rattle.rules.specs.Power.{Entry, supported, needs, needed}
+use Rattle.rules.specs.Status.{Status, noEntry, entriesOf, statusOf, imageOf, imageSize, freshStatus, entryGood, entryZero, entriesGood, onGood, underParent, wakeSound, consistentButPower, powered, consistent, valuesGood, consistencyVerdict, stateVerdict}
+use Rattle.rules.specs.Request.{isMove, isArm, isDisarm, formGood, requestVerdict, newEntry, entriesAfter}
+use Rattle.rules.specs.Calls.{endSet, statusAfter}
+use Rattle.rules.specs.Outcomes.{stateAfter}
+use Rattle.rules.proofs.Index.{every-at, every-of, below-out}
+use Rattle.rules.proofs.Answers.{first-both, first-pass, unless-at, unless-of, lowest-at, lowest-of}
+use Rattle.laws.proofs.Tests.{both-true, and-true, or-cases, or-left, or-right}
+use Rattle.laws.proofs.Accepted.{Accepted, accepted}
+use Rattle.laws.proofs.Needed.{needs-lt, needed-lt, all-powered}
+use Rattle.laws.proofs.Image.{image-length, status-image}
+use Rattle.laws.proofs.Consistency.{Apart, apart-of, apart-is, after-same, after-other}
+use Rattle.laws.proofs.Kept.{StationRules, apart-after}
+
+-- ---- an accepted table's station keeps the rules that consistency needs
+pub station-rules : (w : ℕ) (t : List ℕ) → Accepted w t → StationRules (stationOf w t)
+unfolding stationOf setGood
+station-rules w t a =
+    record { parents = λ d h. a .device d h .parent; sets = λ d h k l. ltb-true _ _ (both-true _ _ (a .device d h .sets k l) .0) }
+
+-- ---- a status that passes 7 and 8
+pub record Sound (n : ℕ) (s : Station) (st : Status) : Type 0 where
+  pub entries : entriesGood n s (st .entries) ≡ true
+  pub on : st .on < 2 ^ s .resources
+  pub apart : (d : ℕ) → d < s .devices → Apart s (st .entries) d
+  pub power : (d : ℕ) → d < s .devices → subset (needs s d (st .entries d)) (st .on) ≡ true
+
+pub sound-of : (w : ℕ) (s : Station) (b : List ℕ) → passes (stateVerdict w s b) ≡ true → (length b ≡ imageSize w) × Sound (8 * w) s (statusOf w b)
+unfolding stateVerdict valuesGood onGood consistencyVerdict consistent powered
+sound-of w s b e =
+    let a = first-both _ _ _ e in
+    let c = first-both _ _ _ (a .1) in
+    let v = both-true (eqb (length b) (imageSize w)) _ (unless-at _ BadState refl (a .0)) in
+    let u = both-true (entriesGood (8 * w) s (statusOf w b .entries)) _ (v .1) in
+    let k : (d : ℕ) → d < s .devices → (consistentButPower s (statusOf w b .entries) d ≡ true) × (powered s (statusOf w b) d ≡ true) =
+    λ d h. both-true _ _ (not-false (consistent s (statusOf w b) d) (lowest-at _ (s .devices) Inconsistent (λ i. refl) (c .0) d h)) in (
+      eqb-true _ _ (v .0),
+      record { entries = u .0; on = ltb-true _ _ (u .1); apart = λ d h. apart-of s (statusOf w b .entries) d (k d h .0); power = λ d h. k d h .1 },
+    )
+
+all-consistent : (n : ℕ) (s : Station) (st : Status) → Sound n s st → consistencyVerdict s st ≡ Done 0
+unfolding consistencyVerdict consistent powered
+all-consistent n s st a =
+    lowest-of _ (s .devices) Inconsistent (λ d h. rw (apart-is s (st .entries) d (a .apart d h), a .power d h) refl)
+
+pub sound-is : (w : ℕ) (s : Station) (b : List ℕ) → length b ≡ imageSize w → Sound (8 * w) s (statusOf w b) → stateVerdict w s b ≡ Done 0
+unfolding stateVerdict valuesGood onGood passes firstOf
+sound-is w s b l a =
+    rw (eq-eqb (length b) (imageSize w) l, a .entries, lt-ltb _ _ (a .on), unless-of true BadState refl, all-consistent (8 * w) s (statusOf w b) a) refl
+
+-- ---- the bounds of what a status has on: R bits are no more than the image's 8w
+fits-image : (w n x : ℕ) → n ≤ 8 * w → x < 2 ^ n → x < 2 ^ (8 * w)
+fits-image w n x h l = lt-of-lt-of-le l (pow-mono h)
+
+-- ---- fresh
+fresh-sound : (n : ℕ) (s : Station) → StationRules s → Sound n s (freshStatus s)
+unfolding freshStatus entriesGood entryGood entryZero underParent wakeSound supported
+fresh-sound n s rules =
+    record {
+      entries = every-of _ n (λ k h. or-right (ltb k (s .devices)) true refl);
+      on = firstN-lt (s .resources) (s .resources) (omega arith);
+      apart = λ d h. record { known = refl; under = or-right (eqb (s .device d .parent) absent) true refl; wake = refl };
+      power = λ d h. subset-of (s .resources) (needs s d noEntry) (firstN (s .resources)) (needs-lt (s .resources) s d noEntry (rules .sets d h))
+          (λ r l e. member-firstN (s .resources) r ∙ lt-ltb r (s .resources) l);
+    }
+
+pub fresh-consistent : (w : ℕ) (t : List ℕ) → passes (tableVerdict w t) ≡ true → stateVerdict w (stationOf w t) (imageOf w (freshStatus (stationOf w t))) ≡ Done 0
+fresh-consistent w t e =
+    let a = accepted w t e in
+    let s = stationOf w t in
+    let st = freshStatus s in
+    let f = fresh-sound (8 * w) s (station-rules w t a) in
+    let same : statusOf w (imageOf w st) ≡ st = status-image w st (fits-image w (s .resources) (st .on) (unfold stationOf in a .resources) (f .on)) (λ k h. unfold freshStatus in refl) in
+    sound-is w s (imageOf w st) (image-length w st) (rw same f)
+
+-- ---- an accepted request
+pub form-device : (s : Station) (q : Request) → formGood s q ≡ true → q .device < s .devices
+unfolding formGood
+form-device s q e = ltb-true _ _ (both-true _ _ e .0)
+
+-- the three kinds of request
+unfoldable pub Kinds : Request → Type 0
+Kinds q =
+    ((isMove q ≡ true) × (leb (q .a) 4 ≡ true))
+    ⊎ (((isMove q ≡ false) × (isArm q ≡ true) × (leb (q .a) 4 ≡ true) × (leb (q .b) 4 ≡ true)) ⊎ ((isMove q ≡ false) × (isArm q ≡ false)))
+
+pub kinds : (s : Station) (q : Request) → formGood s q ≡ true → Kinds q
+unfolding formGood Kinds
+kinds s q e =
+    ⊎-elim
+    (λ x. ⊎-elim (λ m. let a = both-true (isMove q) (leb (q .a) 4) (both-true (isMove q && leb (q .a) 4) (eqb (q .b) 0) m .0) in inl (a .0, a .1))
+    (λ m. let a = both-true (isArm q && leb (q .a) 4) (leb (q .b) 4) m in
+    let b = both-true (isArm q) (leb (q .a) 4) (a .0) in inr (inl (rw (eqb-true (q .kind) 2 (b .0)) refl, b .0, b .1, a .1)))
+    (or-cases (isMove q && leb (q .a) 4 && eqb (q .b) 0) (isArm q && leb (q .a) 4 && leb (q .b) 4) x))
+    (λ m. let b = both-true (isDisarm q) (eqb (q .a) 0) (both-true (isDisarm q && eqb (q .a) 0) (eqb (q .b) 0) m .0) in
+    inr (inr (rw (eqb-true (q .kind) 3 (b .0)) refl, rw (eqb-true (q .kind) 3 (b .0)) refl)))
+    (or-cases (isMove q && leb (q .a) 4 && eqb (q .b) 0 || isArm q && leb (q .a) 4 && leb (q .b) 4) (isDisarm q && eqb (q .a) 0 && eqb (q .b) 0)
+    (both-true (ltb (q .device) (s .devices)) _ e .1))
+
+-- five tests that hold, with the first exchanged for another that holds
+exchange : (x y b c d e : Bool) → y ≡ true → x && b && c && d && e ≡ true → y && b && c && d && e ≡ true
+exchange true y b c d e p f = rw p f
+exchange false y b c d e p f = absurd (true≢false (sym f))
+
+first-holds : (x b c d e : Bool) → x && b && c && d && e ≡ true → x ≡ true
+first-holds true b c d e f = refl
+first-holds false b c d e f = f
+
+new-good : (e : Entry) (q : Request) → entryGood e ≡ true → Kinds q → entryGood (newEntry e q) ≡ true
+unfolding entryGood newEntry Kinds
+new-good e q g k =
+    let small : leb (e .state) 4 ≡ true = first-holds (leb (e .state) 4) (leb (e .armed) 1) (leb (e .wakeS) 4) (leb (e .wakeD) 4) _ g in
+    ⊎-elim (λ m. rw (m .0) (exchange (leb (e .state) 4) (leb (q .a) 4) (leb (e .armed) 1) (leb (e .wakeS) 4) (leb (e .wakeD) 4) (eqb (e .armed) 1 || eqb (e .wakeS) 0 && eqb (e .wakeD) 0) (m .1) g))
+    (λ n. ⊎-elim (λ m. rw (m .0, m .1, small, m .2, m .3) refl) (λ m. rw (m .0, m .1, small) refl) n) k
+
+entries-after : (n : ℕ) (s : Station) (entries : ℕ → Entry) (q : Request) → formGood s q ≡ true → entriesGood n s entries ≡ true → entriesGood n s (entriesAfter entries q) ≡ true
+unfolding entriesGood
+entries-after n s entries q f g =
+    every-of _ n
+    (λ k h.
+    let a = both-true (entryGood (entries k)) (ltb k (s .devices) || entryZero (entries k)) (every-at _ n k g h) in
+    decide (eqb k (q .device))
+    (λ z.
+    let e : entriesAfter entries q k ≡ newEntry (entries k) q = rw (eqb-true k (q .device) z) (after-same entries q) in
+    let l : ltb k (s .devices) ≡ true = lt-ltb k (s .devices) (rw (eqb-true k (q .device) z) (form-device s q f)) in
+    rw (e, l, new-good (entries k) q (a .0) (kinds s q f)) refl)
+    (λ z. rw (after-other entries q k (eqb-false k (q .device) z)) (every-at _ n k g h)))
+
+pub after-sound : (n : ℕ) (s : Station) (st : Status) (q : Request) → StationRules s → Sound n s st → passes (requestVerdict s (st .entries) q) ≡ true → Sound n s (statusAfter s st q)
+unfolding statusAfter endSet needed
+after-sound n s st q rules a e =
+    let form : formGood s q ≡ true = unfold requestVerdict in unless-at _ BadRequest refl (first-both _ _ _ e .0) in
+    record {
+      entries = entries-after n s (st .entries) q form (a .entries);
+      on = needed-lt (s .resources) s (entriesAfter (st .entries) q) (s .devices) (rules .sets);
+      apart = apart-after s rules (st .entries) q (a .apart) e;
+      power = λ d h. all-powered (s .resources) s (entriesAfter (st .entries) q) d h (rules .sets d h);
+    }
+
+entries-out : (w : ℕ) (b : List ℕ) (k : ℕ) → 8 * w ≤ k → statusOf w b .entries k ≡ noEntry
+unfolding statusOf entriesOf
+entries-out w b k h = below-out (8 * w) noEntry _ k h
+
+-- the image after an accepted request reads back as the status after it
+pub after-reads : (w : ℕ) (t b : List ℕ) (q : Request) → passes (tableVerdict w t) ≡ true → passes (stateVerdict w (stationOf w t) b) ≡ true
+    → passes (requestVerdict (stationOf w t) (statusOf w b .entries) q) ≡ true → statusOf w (stateAfter w t b q) ≡ statusAfter (stationOf w t) (statusOf w b) q
+unfolding stateAfter
+after-reads w t b q e f g =
+    let a = accepted w t e in
+    let s = stationOf w t in
+    let st = statusOf w b in
+    let form : formGood s q ≡ true = unfold requestVerdict in unless-at _ BadRequest refl (first-both _ _ _ g .0) in
+    let new = after-sound (8 * w) s st q (station-rules w t a) (sound-of w s b f .1) g in
+    status-image w (statusAfter s st q) (fits-image w (s .resources) (statusAfter s st q .on) (unfold stationOf in a .resources) (new .on))
+    (λ k h.
+    let l : q .device < 8 * w = lt-of-lt-of-le (form-device s q form) (unfold stationOf in a .devices) in
+    unfold statusAfter in (after-other (st .entries) q k (λ z. omega arith) ∙ entries-out w b k h))
+
+pub after-consistent : (w : ℕ) (t b : List ℕ) (q : Request) → passes (tableVerdict w t) ≡ true → passes (stateVerdict w (stationOf w t) b) ≡ true
+    → passes (requestVerdict (stationOf w t) (statusOf w b .entries) q) ≡ true → stateVerdict w (stationOf w t) (stateAfter w t b q) ≡ Done 0
+after-consistent w t b q e f g =
+    let s = stationOf w t in
+    sound-is w s (stateAfter w t b q) (unfold stateAfter in image-length w (statusAfter s (statusOf w b) q))
+    (rw (after-reads w t b q e f g) (after-sound (8 * w) s (statusOf w b) q (station-rules w t (accepted w t e)) (sound-of w s b f .1) g))

@@ -1,0 +1,15 @@
+-- A run of requests: each with a plan buffer of its own, the state going from one to the next, refused requests among them. Assumes nothing.
+use Prim.Native.Nat.{ℕ}
+use mathlib.Core.List.{List, [], _∷_}
+use Rattle.rules.specs.declared.Request.{Request}
+use Rattle.rules.specs.Outcomes.{planWords}
+
+-- a request and the plan buffer that is lent with it
+pub record Asked : Type 0 where
+  pub request : Request
+  pub plan : List ℕ
+
+-- the state image after the requests, from first to last
+unfoldable pub stateAfterAll : ℕ → List ℕ → List ℕ → List Asked → List ℕ
+stateAfterAll w t b [] = b
+stateAfterAll w t b (r ∷ rs) = stateAfterAll w t (planWords w t b (r .request) (r .plan) .state) rs

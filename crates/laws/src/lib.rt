@@ -1,0 +1,1 @@
+// Theorems about the rules alone; they stand in proofs/.

@@ -1,0 +1,37 @@
+#!/usr/bin/env bash
+# Every step of the gate, in order. A step passes or fails as one; `rt ci` counts its own. The last line is the sum of them.
+set -u
+cd "$(dirname "$0")/.."
+passed=0
+failed=0
+
+step() {
+  echo "== $*"
+  if "$@"; then passed=$((passed + 1)); else failed=$((failed + 1)); echo "FAILED: $*"; fi
+}
+
+# rt ci proves every crate from nothing, tries the must-fail edits and runs the programs
+proofs() {
+  local log status sum
+  log=$(mktemp)
+  echo "== rt ci"
+  rt ci > "$log" 2>&1
+  status=$?
+  sum=$(grep -E '^[0-9]+ passed, [0-9]+ failed$' "$log" | tail -n 1)
+  if [ "$status" -eq 0 ] && [ -n "$sum" ]; then
+    grep -E '^rt: |^REFUSED|^must-fail' "$log" | tail -n 200
+    passed=$((passed + ${sum%% passed*}))
+    sum=${sum#*, }
+    failed=$((failed + ${sum%% failed*}))
+  else
+    tail -n 200 "$log"
+    failed=$((failed + 1))
+    echo "FAILED: rt ci (status $status)"
+  fi
+  rm -f "$log"
+}
+
+step rt fmt --check
+proofs
+echo "$passed passed, $failed failed"
+[ "$failed" -eq 0 ]
