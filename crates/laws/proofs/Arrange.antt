@@ -17,7 +17,8 @@ use Rattle.rules.specs.declared.Wake.the-variants.{Enable, Disable}
 use Rattle.rules.specs.declared.Call.{Call}
 use Rattle.rules.specs.declared.Call.the-variants.{ResourceOn, ResourceOff, SetState, SetWake}
 use Rattle.rules.specs.Station.{Station, hasPS, hasDSW}
-use Rattle.rules.specs.Power.{Entry, isArmed}
+use Rattle.rules.specs.declared.Entry.{Entry}
+use Rattle.rules.specs.Power.{isArmed}
 use Rattle.rules.specs.Status.{Status}
 use Rattle.rules.specs.Request.{isMove, isArm}
 use Rattle.rules.specs.Calls.{wordOf, wakeWord, only, methodFor, moveCall, wakeCall, ownCall, ownLast, endSet, toTurnOn, toTurnOff, arrange}

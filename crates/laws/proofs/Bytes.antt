@@ -21,7 +21,7 @@ use Rattle.rules.specs.declared.Call.the-variants.{SetState, SetWake}
 use Rattle.rules.specs.declared.Verdict.the-variants.{Done, NotConforming, BadRequest}
 use Rattle.rules.specs.Answers.{numberOf, countOf, passes}
 use Rattle.rules.specs.Station.{Station, stationOf}
-use Rattle.rules.specs.Power.{Entry}
+use Rattle.rules.specs.declared.Entry.{Entry}
 use Rattle.rules.specs.Status.{statusOf}
 use Rattle.rules.specs.Request.{isMove, isArm, formGood, requestVerdict}
 use Rattle.rules.specs.Calls.{wordOf, only, methodFor, moveCall, wakeCall, ownCall, ownLast, toTurnOn, toTurnOff, calls}

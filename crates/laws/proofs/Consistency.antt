@@ -12,7 +12,8 @@ use Rattle.rules.specs.declared.Request.{Request}
 use Rattle.rules.specs.declared.Verdict.the-variants.{BadRequest, Unsupported, Shallower, ParentDeeper, ChildShallower, TooDeepToWake, NoWake, WakeUnpowered, BadWakeState}
 use Rattle.rules.specs.Answers.{passes}
 use Rattle.rules.specs.Station.{Station, absent}
-use Rattle.rules.specs.Power.{Entry, isArmed, supported, wakeFrom, wakePowered, wakeState, wakePair, needed}
+use Rattle.rules.specs.declared.Entry.{Entry}
+use Rattle.rules.specs.Power.{isArmed, supported, wakeFrom, wakePowered, wakeState, wakePair, needed}
 use Rattle.rules.specs.Status.{Status, underParent, wakeSound, consistentButPower, powered, consistent}
 use Rattle.rules.specs.Request.{isMove, isArm, isDisarm, formGood, notShallowerOrD0, parentAllows, childBars, wakeAllows, moveVerdict, armVerdict, kindVerdict, requestVerdict, newEntry, entriesAfter}
 use Rattle.rules.specs.Calls.{endSet, statusAfter}

@@ -22,7 +22,8 @@ use Rattle.rules.specs.declared.Verdict.the-variants.{Done, NoRoom, NotConformi
 use Rattle.rules.specs.Answers.{numberOf, countOf, passes, firstOf, unless}
 use Rattle.rules.specs.Station.{Station, countR, stationOf}
 use Rattle.rules.specs.Table.{tableVerdict}
-use Rattle.rules.specs.Power.{Entry, needs, needed, neededBelow}
+use Rattle.rules.specs.declared.Entry.{Entry}
+use Rattle.rules.specs.Power.{needs, needed, neededBelow}
 use Rattle.rules.specs.Status.{Status, statusOf, stateVerdict}
 use Rattle.rules.specs.Request.{formGood, requestVerdict, entriesAfter}
 use Rattle.rules.specs.Calls.{wordOf, calls, ownCall, ownLast, endSet, toTurnOn, toTurnOff}

@@ -13,7 +13,7 @@ use lib.Seq.{getD-append-add}
 use Rattle.sets.proofs.Laws.{decide}
 use Rattle.words.specs.Words.{readLE, bytesLE}
 use Rattle.words.proofs.Laws.{bytes-length, read-bytes-at}
-use Rattle.rules.specs.Power.{Entry}
+use Rattle.rules.specs.declared.Entry.{Entry}
 use Rattle.rules.specs.Status.{Status, noEntry, entryAt, entryBytes, entriesOf, statusOf, entriesBytes, imageOf, imageSize}
 use Rattle.rules.proofs.Index.{below-in, below-out}
 
@@ -36,7 +36,7 @@ entry-here e ys = refl
 
 entry-skip : (e : Entry) (ys : List ℕ) (n : ℕ) → entryAt (entryBytes e ++ ys) (4 + n) ≡ entryAt ys n
 unfolding entryBytes
-entry-skip e ys n = entry-past (e .state ∷ e .armed ∷ e .wakeS ∷ e .wakeD ∷ []) ys n
+entry-skip e ys n = entry-past (e .state ∷ e .armed ∷ e .sleep ∷ e .wake ∷ []) ys n
 
 -- ---- all entries
 pub entries-length : (entries : ℕ → Entry) (i k : ℕ) → length (entriesBytes entries i k) ≡ 4 * k

@@ -13,7 +13,8 @@ use Rattle.rules.specs.declared.Verdict.the-variants.{BadRequest}
 use Rattle.rules.specs.Answers.{passes}
 use Rattle.rules.specs.Station.{Station, absent}
 use Rattle.rules.specs.Table.{parentGood}
-use Rattle.rules.specs.Power.{Entry, isArmed, supported, wakePair, needed}
+use Rattle.rules.specs.declared.Entry.{Entry}
+use Rattle.rules.specs.Power.{isArmed, supported, wakePair, needed}
 use Rattle.rules.specs.Status.{Status, underParent, wakeSound, consistentButPower, powered, consistent}
 use Rattle.rules.specs.Request.{isMove, isArm, formGood, parentAllows, childBars, wakeAllows, moveVerdict, armVerdict, kindVerdict, requestVerdict, newEntry, entriesAfter}
 use Rattle.rules.specs.Calls.{endSet, statusAfter}
@@ -52,7 +53,7 @@ module _ (s : Station) (rules : StationRules s) (entries : ℕ → Entry) (q : R
   unfolding newEntry wakeSound wakeAllows
   moved-wake m v h =
       let e = entries (q .device) in
-      rw m (still (not (isArmed e)) (wakePair s (q .device) (e .wakeS) (e .wakeD)) (leb (e .state) (e .wakeD)) (leb (q .a) (e .wakeD)) h (v .wake))
+      rw m (still (not (isArmed e)) (wakePair s (q .device) (e .sleep) (e .wake)) (leb (e .state) (e .wake)) (leb (q .a) (e .wake)) h (v .wake))
 
   move-same : q .device < s .devices → isMove q ≡ true → Moves s entries (q .device) (q .a) → Apart s (entriesAfter entries q) (q .device)
   unfolding underParent parentAllows

@@ -12,7 +12,8 @@ use Rattle.sets.specs.Sets.{member, union, subset}
 use Rattle.sets.proofs.Laws.{decide, member-union, member-none, union-lt, subset-of}
 use Rattle.rules.specs.Station.{Device, Station, hasPR, hasPRW}
 use Rattle.laws.proofs.Tests.{or-cases}
-use Rattle.rules.specs.Power.{Entry, isArmed, ownSet, listedSet, stateNeeds, wakeNeeds, needs, neededBelow, needed}
+use Rattle.rules.specs.declared.Entry.{Entry}
+use Rattle.rules.specs.Power.{isArmed, ownSet, listedSet, stateNeeds, wakeNeeds, needs, neededBelow, needed}
 
 -- ---- members
 

@@ -20,7 +20,8 @@ use Rattle.rules.specs.Answers.{passes, firstOf, unless}
 use Rattle.rules.specs.Index.{every}
 use Rattle.rules.specs.Station.{Station, absent, countR, countD, stationOf}
 use Rattle.rules.specs.Table.{tableVerdict, setGood}
-use Rattle.rules.specs.Power.{Entry, supported, needs, needed}
+use Rattle.rules.specs.declared.Entry.{Entry}
+use Rattle.rules.specs.Power.{supported, needs, needed}
 use Rattle.rules.specs.Status.{Status, noEntry, entriesOf, statusOf, imageOf, imageSize, freshStatus, entryGood, entryZero, entriesGood, onGood, underParent, wakeSound, consistentButPower, powered, consistent, valuesGood, consistencyVerdict, stateVerdict}
 use Rattle.rules.specs.Request.{isMove, isArm, isDisarm, formGood, requestVerdict, newEntry, entriesAfter}
 use Rattle.rules.specs.Calls.{endSet, statusAfter}
@@ -131,8 +132,8 @@ first-holds false b c d e f = f
 new-good : (e : Entry) (q : Request) → entryGood e ≡ true → Kinds q → entryGood (newEntry e q) ≡ true
 unfolding entryGood newEntry Kinds
 new-good e q g k =
-    let small : leb (e .state) 4 ≡ true = first-holds (leb (e .state) 4) (leb (e .armed) 1) (leb (e .wakeS) 4) (leb (e .wakeD) 4) _ g in
-    ⊎-elim (λ m. rw (m .0) (exchange (leb (e .state) 4) (leb (q .a) 4) (leb (e .armed) 1) (leb (e .wakeS) 4) (leb (e .wakeD) 4) (eqb (e .armed) 1 || eqb (e .wakeS) 0 && eqb (e .wakeD) 0) (m .1) g))
+    let small : leb (e .state) 4 ≡ true = first-holds (leb (e .state) 4) (leb (e .armed) 1) (leb (e .sleep) 4) (leb (e .wake) 4) _ g in
+    ⊎-elim (λ m. rw (m .0) (exchange (leb (e .state) 4) (leb (q .a) 4) (leb (e .armed) 1) (leb (e .sleep) 4) (leb (e .wake) 4) (eqb (e .armed) 1 || eqb (e .sleep) 0 && eqb (e .wake) 0) (m .1) g))
     (λ n. ⊎-elim (λ m. rw (m .0, m .1, small, m .2, m .3) refl) (λ m. rw (m .0, m .1, small) refl) n) k
 
 entries-after : (n : ℕ) (s : Station) (entries : ℕ → Entry) (q : Request) → formGood s q ≡ true → entriesGood n s entries ≡ true → entriesGood n s (entriesAfter entries q) ≡ true

@@ -11,7 +11,8 @@ use Rattle.rules.specs.declared.Request.{Request}
 use Rattle.rules.specs.declared.Call.{Call}
 use Rattle.rules.specs.Answers.{numberOf, countOf}
 use Rattle.rules.specs.Station.{Station, stationOf}
-use Rattle.rules.specs.Power.{Entry, needs, needed}
+use Rattle.rules.specs.declared.Entry.{Entry}
+use Rattle.rules.specs.Power.{needs, needed}
 use Rattle.rules.specs.Status.{statusOf}
 use Rattle.rules.specs.Request.{entriesAfter}
 use Rattle.rules.specs.Calls.{wordOf, ownCall, ownLast, endSet}

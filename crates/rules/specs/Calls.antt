@@ -12,7 +12,8 @@ use Rattle.rules.specs.declared.Call.the-variants.{ResourceOn, ResourceO
 use Rattle.rules.specs.declared.Word.{Word}
 use Rattle.rules.specs.declared.Word.the-variants.{Is, NoCall}
 use Rattle.rules.specs.Station.{Station, hasPS, hasDSW}
-use Rattle.rules.specs.Power.{Entry, isArmed, needed}
+use Rattle.rules.specs.declared.Entry.{Entry}
+use Rattle.rules.specs.Power.{isArmed, needed}
 use Rattle.rules.specs.Status.{Status}
 use Rattle.rules.specs.Request.{isMove, isArm, isDisarm, newEntry, entriesAfter}
 

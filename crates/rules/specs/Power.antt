@@ -3,15 +3,9 @@ use Prim.Native.Nat.{ℕ, zero, suc}
 use mathlib.Core.Bool.{Bool, true, false, _&&_, _||_, not, cond}
 use lib.Dec.{eqb, leb, ltb}
 use Rattle.sets.specs.Sets.{member, union}
+use Rattle.rules.specs.declared.Entry.{Entry}
 use Rattle.rules.specs.Index.{every}
 use Rattle.rules.specs.Station.{Device, Station, absent, hasPS, hasPR, hasPRW}
-
--- what the state image says of a device: its state, armed 0 or 1, wake S and wake D
-pub record Entry : Type 0 where
-  pub state : ℕ
-  pub armed : ℕ
-  pub wakeS : ℕ
-  pub wakeD : ℕ
 
 abbrev pub isArmed : Entry → Bool
 isArmed e = eqb (e .armed) 1

@@ -9,7 +9,8 @@ use Rattle.rules.specs.declared.Verdict.{Verdict}
 use Rattle.rules.specs.declared.Verdict.the-variants.{Done, BadRequest, Unsupported, Shallower, ParentDeeper, ChildShallower, TooDeepToWake, NoWake, WakeUnpowered, BadWakeState}
 use Rattle.rules.specs.Answers.{firstOf, unless, lowest}
 use Rattle.rules.specs.Station.{Station, absent}
-use Rattle.rules.specs.Power.{Entry, isArmed, supported, wakeFrom, wakePowered, wakeState}
+use Rattle.rules.specs.declared.Entry.{Entry}
+use Rattle.rules.specs.Power.{isArmed, supported, wakeFrom, wakePowered, wakeState}
 
 -- kind 1 moves to state a; kind 2 arms for S = a, D = b; kind 3 disarms
 abbrev pub isMove : Request → Bool
@@ -41,7 +42,7 @@ childBars s entries d x c = eqb (s .device c .parent) d && ltb (entries c .state
 
 -- 15: not armed, or the target is not deeper than wake D
 unfoldable pub wakeAllows : Entry → ℕ → Bool
-wakeAllows e x = not (isArmed e) || leb x (e .wakeD)
+wakeAllows e x = not (isArmed e) || leb x (e .wake)
 
 -- 11 to 15: device d to state x
 unfoldable pub moveVerdict : Station → (ℕ → Entry) → ℕ → ℕ → Verdict
@@ -77,9 +78,9 @@ requestVerdict s entries q = firstOf (unless (formGood s q) BadRequest ∷ kindV
 -- a move changes the state, arming writes the pair, disarming zeroes it
 unfoldable pub newEntry : Entry → Request → Entry
 newEntry e q =
-    cond (isMove q) (record { state = q .a; armed = e .armed; wakeS = e .wakeS; wakeD = e .wakeD })
-    (cond (isArm q) (record { state = e .state; armed = 1; wakeS = q .a; wakeD = q .b })
-    (record { state = e .state; armed = 0; wakeS = 0; wakeD = 0 }))
+    cond (isMove q) (record { state = q .a; armed = e .armed; sleep = e .sleep; wake = e .wake })
+    (cond (isArm q) (record { state = e .state; armed = 1; sleep = q .a; wake = q .b })
+    (record { state = e .state; armed = 0; sleep = 0; wake = 0 }))
 
 -- the entries after the request: the device's new one, the others as before
 unfoldable pub entriesAfter : (ℕ → Entry) → Request → ℕ → Entry

@@ -11,7 +11,8 @@ use Rattle.rules.specs.declared.Verdict.the-variants.{Done, BadState, In
 use Rattle.rules.specs.Index.{every, below, eachFrom, each}
 use Rattle.rules.specs.Answers.{firstOf, unless, lowest}
 use Rattle.rules.specs.Station.{Station, absent}
-use Rattle.rules.specs.Power.{Entry, isArmed, supported, needs, wakePair}
+use Rattle.rules.specs.declared.Entry.{Entry}
+use Rattle.rules.specs.Power.{isArmed, supported, needs, wakePair}
 
 -- the entries of the devices, and the set of the resources that are on
 pub record Status : Type 0 where
@@ -20,14 +21,14 @@ pub record Status : Type 0 where
 
 -- D0, not armed
 abbrev pub noEntry : Entry
-noEntry = record { state = 0; armed = 0; wakeS = 0; wakeD = 0 }
+noEntry = record { state = 0; armed = 0; sleep = 0; wake = 0 }
 
 -- four bytes a device
 unfoldable pub entryAt : List ℕ → ℕ → Entry
-entryAt b at = record { state = getD b at 0; armed = getD b (at + 1) 0; wakeS = getD b (at + 2) 0; wakeD = getD b (at + 3) 0 }
+entryAt b at = record { state = getD b at 0; armed = getD b (at + 1) 0; sleep = getD b (at + 2) 0; wake = getD b (at + 3) 0 }
 
 unfoldable pub entryBytes : Entry → List ℕ
-entryBytes e = e .state ∷ e .armed ∷ e .wakeS ∷ e .wakeD ∷ []
+entryBytes e = e .state ∷ e .armed ∷ e .sleep ∷ e .wake ∷ []
 
 -- four bytes a device for 8w devices, then the on-set; 33w bytes, 132 for w = 4
 abbrev pub imageSize : ℕ → ℕ
@@ -55,10 +56,10 @@ freshStatus s = record { entries = λ k. noEntry; on = firstN (s .resources) }
 -- state 0 to 4; armed 0 or 1; wake S and wake D 0 to 4; not armed means both wake numbers are zero
 unfoldable pub entryGood : Entry → Bool
 entryGood e =
-    leb (e .state) 4 && leb (e .armed) 1 && leb (e .wakeS) 4 && leb (e .wakeD) 4 && (eqb (e .armed) 1 || eqb (e .wakeS) 0 && eqb (e .wakeD) 0)
+    leb (e .state) 4 && leb (e .armed) 1 && leb (e .sleep) 4 && leb (e .wake) 4 && (eqb (e .armed) 1 || eqb (e .sleep) 0 && eqb (e .wake) 0)
 
 unfoldable pub entryZero : Entry → Bool
-entryZero e = eqb (e .state) 0 && eqb (e .armed) 0 && eqb (e .wakeS) 0 && eqb (e .wakeD) 0
+entryZero e = eqb (e .state) 0 && eqb (e .armed) 0 && eqb (e .sleep) 0 && eqb (e .wake) 0
 
 -- of the n entries each is good, and those at or above D are zero
 unfoldable pub entriesGood : ℕ → Station → (ℕ → Entry) → Bool
@@ -74,7 +75,7 @@ underParent s entries d = eqb (s .device d .parent) absent || leb (entries (s .d
 
 -- if armed, its pair is legal and its state is not deeper than wake D
 unfoldable pub wakeSound : Station → ℕ → Entry → Bool
-wakeSound s d e = not (isArmed e) || wakePair s d (e .wakeS) (e .wakeD) && leb (e .state) (e .wakeD)
+wakeSound s d e = not (isArmed e) || wakePair s d (e .sleep) (e .wake) && leb (e .state) (e .wake)
 
 -- what document 01 calls sound, apart from power: a supported state, not shallower than its parent, the wake rules
 unfoldable pub consistentButPower : Station → (ℕ → Entry) → ℕ → Bool

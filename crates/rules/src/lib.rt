@@ -32,6 +32,14 @@ pub struct Request {
     pub b: u32,
 }
 
+// What the state image says of a device: its state; armed, 0 or 1; and the pair it is armed for, document 01's wake S and wake D.
+pub struct Entry {
+    pub state: u8,
+    pub armed: u8,
+    pub sleep: u8,
+    pub wake: u8,
+}
+
 // The state image: four bytes a device, and the set of the resources that are on.
 pub struct State {
     pub devices: [u8; 128],
