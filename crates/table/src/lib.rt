@@ -1,0 +1,2 @@
+// Reading a power table: its fields, and whether any bytes are one.
+pub mod fields;
