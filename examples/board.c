@@ -1,0 +1,119 @@
+/*
+ * How a board's program calls Sailgarnet: the bench station from its fresh state, and requests as the drivers would make them.
+ * Each plan is checked before its calls are carried out, and each call is printed in words.
+ */
+#include <inttypes.h>
+#include <stdio.h>
+#include <string.h>
+
+#include "sailgarnet.h"
+
+/* header; resources r0 (level 3, order 1), r1 (0, 2), r2 (3, 1); devices bus, camera, lamp */
+static const uint8_t table[140] = {
+    0x50, 0x57, 0x54, 3, 1, 0, 3, 0,
+    3, 0, 1, 0, 0, 0, 2, 0, 3, 0, 1, 0,
+    /* 0 bus */
+    0xff, 9, 9, 0, 1, 0, 0, 0, 0, 0, 0, 0, 0, 0, 0, 0, 1, 0, 0, 0, 0, 0, 0, 0,
+    0xff, 0xff, 0xff, 0xff, 0xff, 0xff, 0xff, 0xff, 0xff, 0, 0, 0, 0, 0, 0, 0,
+    /* 1 camera */
+    0, 0x0d, 0x0d, 3, 7, 0, 0, 0, 0, 0, 0, 0, 5, 0, 0, 0, 1, 0, 0, 0, 4, 0, 0, 0,
+    0xff, 0xff, 2, 0xff, 0xff, 0xff, 0xff, 3, 0xff, 3, 0, 0, 0, 0, 0, 0,
+    /* 2 lamp */
+    0, 0, 9, 0, 2, 0, 0, 0, 0, 0, 0, 0, 0, 0, 0, 0, 0, 0, 0, 0, 0, 0, 0, 0,
+    0xff, 0xff, 0xff, 0xff, 0xff, 0xff, 0xff, 0xff, 0xff, 0, 0, 0, 0, 0, 0, 0,
+};
+
+static const char *const devices[3] = {"bus", "camera", "lamp"};
+static const char *const states[5] = {"D0", "D1", "D2", "D3hot", "D3cold"};
+
+struct request {
+    const char *title;
+    uint32_t kind, device, a, b;
+};
+
+/* A real board would run the method here. */
+static void carry_out(const uint8_t *plan, size_t i)
+{
+    unsigned target = sailgarnet_call_target(plan, i);
+
+    switch (sailgarnet_call_kind_of(plan, i)) {
+    case SAILGARNET_CALL_ON:
+        printf("    r%u._ON\n", target);
+        break;
+    case SAILGARNET_CALL_OFF:
+        printf("    r%u._OFF\n", target);
+        break;
+    case SAILGARNET_CALL_SET_STATE:
+        printf("    %s._PS%u\n", devices[target], sailgarnet_call_state(plan, i));
+        break;
+    case SAILGARNET_CALL_SET_WAKE:
+        if (sailgarnet_call_wake_on(plan, i))
+            printf("    %s._DSW on, from S%u in %s\n", devices[target], sailgarnet_call_wake_sleep(plan, i), states[sailgarnet_call_wake_state(plan, i)]);
+        else
+            printf("    %s._DSW off\n", devices[target]);
+        break;
+    }
+}
+
+static void print_state(const uint8_t *state)
+{
+    printf("    now");
+    for (unsigned d = 0; d < 3; d++)
+        printf(" %s %s%s,", devices[d], states[state[4 * d]], state[4 * d + 1] ? " (armed)" : "");
+    printf(" on:");
+    for (unsigned r = 0; r < 3; r++)
+        if (state[128] >> r & 1)
+            printf(" r%u", r);
+    printf("\n");
+}
+
+static int ask(uint8_t *state, const struct request *q)
+{
+    uint8_t plan[SAILGARNET_PLAN_SIZE], before[SAILGARNET_STATE_SIZE];
+    uint64_t answer, checked;
+
+    memcpy(before, state, sizeof before);
+    answer = sailgarnet_plan(table, sizeof table, state, SAILGARNET_STATE_SIZE, q->kind, q->device, q->a, q->b, plan, sizeof plan);
+    printf("%s\n", q->title);
+    if (sailgarnet_number_of(answer) != SAILGARNET_DONE) {
+        printf("    refused: answer %u, place %" PRIu64 "\n", sailgarnet_number_of(answer), sailgarnet_place_of(answer));
+        return 0;
+    }
+    checked = sailgarnet_check(table, sizeof table, before, sizeof before, q->kind, q->device, q->a, q->b, plan, 4 * (size_t)sailgarnet_count_of(answer));
+    if (checked != SAILGARNET_DONE) {
+        printf("    the checker refuses the plan: answer %u\n", sailgarnet_number_of(checked));
+        return 1;
+    }
+    if (sailgarnet_count_of(answer) == 0)
+        printf("    no calls\n");
+    for (unsigned i = 0; i < sailgarnet_count_of(answer); i++)
+        carry_out(plan, i);
+    print_state(state);
+    return 0;
+}
+
+int main(void)
+{
+    static const struct request day[] = {
+        {"W1 camera to D2", SAILGARNET_MOVE, 1, SAILGARNET_D2, 0},
+        {"W2 lamp to D3cold", SAILGARNET_MOVE, 2, SAILGARNET_D3COLD, 0},
+        {"W3 camera to D0", SAILGARNET_MOVE, 1, SAILGARNET_D0, 0},
+        {"W4 camera to D3hot", SAILGARNET_MOVE, 1, SAILGARNET_D3HOT, 0},
+        {"W7 camera to D2, which is shallower and not D0", SAILGARNET_MOVE, 1, SAILGARNET_D2, 0},
+        {"W5 camera to D0", SAILGARNET_MOVE, 1, SAILGARNET_D0, 0},
+        {"W9 arm camera for S3, D2", SAILGARNET_ARM, 1, 3, SAILGARNET_D2},
+        {"disarm camera", SAILGARNET_DISARM, 1, 0, 0},
+    };
+    uint8_t state[SAILGARNET_STATE_SIZE];
+
+    if (sailgarnet_fresh(table, sizeof table, state, sizeof state) != SAILGARNET_DONE) {
+        fprintf(stderr, "the table is refused\n");
+        return 1;
+    }
+    printf("fresh\n");
+    print_state(state);
+    for (size_t i = 0; i < sizeof day / sizeof day[0]; i++)
+        if (ask(state, &day[i]))
+            return 1;
+    return 0;
+}
