@@ -1,1 +1,4 @@
 pub mod Readers
+pub mod OnBytes
+pub mod Bad
+pub mod Verdicts

@@ -1,2 +1,4 @@
 // Reading a power table: its fields, and whether any bytes are one.
+pub mod check;
 pub mod fields;
+pub mod records;

@@ -1,0 +1,5 @@
+pub mod Coding
+pub mod Inverse
+pub mod Choice
+pub mod Device
+pub mod Run

@@ -1,0 +1,61 @@
+-- `planner::write::write_calls` meets its contract. Two runs, the own call last or first; together they have at most R + 1 words. Assumes nothing.
+use mathlib.Core.Path.{_≡_, sym, _∙_}
+use native.Mathlib.Omega.{arith}
+use lib.ListN.{length}
+use Rattle.rules.specs.Station.{stationOf}
+use Rattle.planner.specs.Phases.{phaseWords}
+use Rattle.planner.specs.Plan.{ownWords, planWords}
+use Rattle.planner.proofs.Run.{phase-room, own-long, plan-last, plan-first, written}
+use borrow.Author.Needs.{needs}
+use Rattle.planner.proofs.write.write_calls.Statement.{statement}
+use Rattle.planner.proofs.write.write_calls.Tie as tie
+
+write-switches-requires : tie.Need-write-switches-requires
+write-switches-requires c κs =
+    let a = c .before .before .before .before .before .before in
+    let n = phase-room (a .args .table .now) (a .args .on) (a .args .off) (a .pre .6) in
+    search needs
+
+write-own-requires : tie.Need-write-own-requires
+write-own-requires c κs =
+    let a = c .before .before .before .before .before .before .before .before .before .before in
+    let n = phase-room (a .args .table .now) (a .args .on) (a .args .off) (a .pre .6) in
+    let m = own-long (c .before .before .before .before .before .before .before .own-call .result) in
+    search needs
+
+returns : tie.Need-returns
+returns c =
+    let b = c .before .before .before .before .before .before .before .before in
+    written _ _ _ _ _ _ _ _ (plan-last _ _ _ _ _ _ (b .before .before .own-call .ensures) (sym (b .before .own-last .ensures) ∙ b .if1 .taken))
+    (b .before .before .before .before .before .pre .6) (search needs) (search needs) (c .before .before .before .before .before .before .write-switches .ensures) (c .before .before .write-own .ensures)
+
+write-own-requires-2 : tie.Need-write-own-requires-2
+write-own-requires-2 c κs = let m = own-long (c .before .before .before .own-call .result) in search needs
+
+write-switches-requires-2 : tie.Need-write-switches-requires-2
+write-switches-requires-2 c κs =
+    let a = c .before .before .before .before .before .before .before .before .before .before in
+    let n = phase-room (a .args .table .now) (a .args .on) (a .args .off) (a .pre .6) in
+    let m = own-long (c .before .before .before .before .before .before .before .own-call .result) in
+    search needs
+
+returns-2 : tie.Need-returns-2
+returns-2 c =
+    let b = c .before .before .before .before .before .before .before .before in
+    written _ _ _ _ _ _ _ _ (plan-first _ _ _ _ _ _ (b .before .before .own-call .ensures) (sym (b .before .own-last .ensures) ∙ b .if1 .left))
+    (b .before .before .before .before .before .pre .6) (search needs) (search needs) (c .before .before .before .before .before .before .write-own2 .ensures) (c .before .before .write-switches2 .ensures)
+
+pub write-calls-spec : {M : Type 1} → statement M
+write-calls-spec =
+    tie.close
+    (tie.spec
+    (λ c κs. search needs)
+    (λ c κs. search needs)
+    write-switches-requires
+    write-own-requires
+    (λ c. search needs)
+    returns
+    write-own-requires-2
+    write-switches-requires-2
+    (λ c. search needs)
+    returns-2)

@@ -1,0 +1,4 @@
+pub mod Every
+pub mod RangeLaws
+pub mod StateLaws
+pub mod WakeLaws

@@ -1,0 +1,76 @@
+// For which sleep state and from which device state a device may wake the system.
+ghost use mathlib.Core.Path.{_≡_};
+ghost use mathlib.Core.Bool.{_||_, not};
+ghost use Prim.Native.Nat.{_<_};
+ghost use lib.Dec.{leb};
+ghost use Rattle.sets.specs.Sets.{member};
+ghost use Rattle.rules.specs.Station.{countR, countD, stationOf};
+ghost use Rattle.rules.specs.Power.{wakeFrom, wakePowered, wakeState, wakePair};
+ghost use Rattle.table.specs.Layout.{Laid};
+
+// `_PRW` exists, and x is not above its deepest state.
+pub fn wake_from(table: &[u8], d: usize, x: u8) -> bool
+    requires { ⌜ Laid (now table) × (d < countD (now table)) ⌝ }
+    ensures { λ r. ⌜ r ≡ wakeFrom (stationOf 4 (now (table .entry))) d x ⌝ }
+{
+    if crate::states::has_prw(table, d) {
+        return x <= table::fields::deepest(table, d);
+    }
+    false
+}
+
+// Resource r, if it is in the set, has systemlevel x or more.
+pub fn powered(table: &[u8], set: u32, r: usize, x: u8) -> bool
+    requires { ⌜ Laid (now table) × (r < countR (now table)) ⌝ }
+    ensures { λ b. ⌜ b ≡ (not (member set r) || leb x (stationOf 4 (now (table .entry)) .resource r .level)) ⌝ }
+{
+    if sets::has(set, r as u32) {
+        return x <= table::fields::level(table, r);
+    }
+    true
+}
+
+// Every `_PRW` resource has systemlevel x or more.
+pub fn wake_powered(table: &[u8], d: usize, x: u8) -> bool
+    requires { ⌜ Laid (now table) × (d < countD (now table)) ⌝ }
+    ensures { λ r. ⌜ r ≡ wakePowered (stationOf 4 (now (table .entry))) d x ⌝ }
+{
+    let set = table::fields::set(table, d, 4);
+    let n = table::fields::resources(table);
+    let mut i = 0;
+    while i < n {
+        let r = i;
+        i += 1;
+        if !powered(table, set, r, x) {
+            return false;
+        }
+    }
+    true
+}
+
+// State y is supported and in the wake range for x.
+pub fn wake_state(table: &[u8], d: usize, x: u8, y: u8) -> bool
+    requires { ⌜ Laid (now table) × (d < countD (now table)) × (x < 5) ⌝ }
+    ensures { λ r. ⌜ r ≡ wakeState (stationOf 4 (now (table .entry))) d x y ⌝ }
+{
+    if crate::states::supported(table, d, y) {
+        let sxd = table::fields::sxd(table, d, x as usize);
+        let sxw = table::fields::sxw(table, d, x as usize);
+        return crate::range::wake_range(sxd, sxw, y);
+    }
+    false
+}
+
+// The wake pair (x, y) is legal.
+pub fn wake_pair(table: &[u8], d: usize, x: u8, y: u8) -> bool
+    requires { ⌜ Laid (now table) × (d < countD (now table)) × (x < 5) ⌝ }
+    ensures { λ r. ⌜ r ≡ wakePair (stationOf 4 (now (table .entry))) d x y ⌝ }
+{
+    if !wake_from(table, d, x) {
+        return false;
+    }
+    if !wake_powered(table, d, x) {
+        return false;
+    }
+    wake_state(table, d, x, y)
+}

@@ -1,0 +1,250 @@
+-- Each answer of the request's checks from the tests that lead to it. Assumes nothing.
+use mathlib.Core.Path.{_≡_, refl, sym, ap, _∙_}
+use mathlib.Core.Bool.{Bool, true, false, not, _&&_, _||_, or-false}
+use mathlib.Core.Logic.{⊎-elim}
+use mathlib.Core.List.{List, [], _∷_}
+use Prim.Native.Nat.{ℕ, _-_, _<_, _≤_}
+use native.Mathlib.Omega.{arith}
+use borrow.Author.Tests.{eqb-true, leb-true, eq-eqb, ne-eqb, le-leb, lt-leb, lt-ltb, le-ltb, not-true, not-false}
+use lib.Dec.{eqb, leb, ltb}
+use Rattle.rules.specs.declared.Entry.{Entry}
+use Rattle.rules.specs.declared.Request.{Request}
+use Rattle.rules.specs.declared.Verdict.{Verdict}
+use Rattle.rules.specs.declared.Verdict.the-variants.{Done, BadRequest, Unsupported, Shallower, ParentDeeper, ChildShallower, TooDeepToWake, NoWake, WakeUnpowered, BadWakeState}
+use Rattle.rules.specs.Index.{leastFrom, least}
+use Rattle.rules.specs.Answers.{passes, firstOf, unless, lowest}
+use Rattle.rules.specs.Station.{Station, absent, countD, stationOf}
+use Rattle.rules.specs.Power.{supported, wakeFrom, wakePowered, wakeState}
+use Rattle.rules.specs.Table.{parentGood}
+use Rattle.rules.specs.Request.{isMove, isArm, isDisarm, formGood, notShallowerOrD0, parentAllows, childBars, wakeAllows, moveVerdict, armVerdict, kindVerdict, requestVerdict, newEntry}
+use Rattle.rules.proofs.Index.{starts, found, next, done}
+use Rattle.rules.proofs.Answers.{lowest-stop, first-pass, first-stop, first-none, first-both}
+use Rattle.sets.proofs.Laws.{decide}
+use Rattle.laws.proofs.Tests.{both-true, or-cases}
+use Rattle.laws.proofs.States.{form-device}
+use Rattle.request.specs.Form.{numbersGood}
+
+-- ---- 10
+module _ (q : Request) where
+  pub move-far : q .kind ≡ 1 → 4 < q .a → false ≡ numbersGood q
+  unfolding numbersGood
+  move-far k h = rw (k, lt-leb (q .a) 4 h) refl
+
+  pub move-form : q .kind ≡ 1 → q .a ≤ 4 → eqb (q .b) 0 ≡ numbersGood q
+  unfolding numbersGood
+  move-form k h = rw (k, le-leb (q .a) 4 h) (sym (or-false (eqb (q .b) 0 || false) ∙ or-false (eqb (q .b) 0)))
+
+  pub arm-far : q .kind ≡ 2 → 4 < q .a → false ≡ numbersGood q
+  unfolding numbersGood
+  arm-far k h = rw (k, lt-leb (q .a) 4 h) refl
+
+  pub arm-form : q .kind ≡ 2 → q .a ≤ 4 → leb (q .b) 4 ≡ numbersGood q
+  unfolding numbersGood
+  arm-form k h = rw (k, le-leb (q .a) 4 h) (sym (or-false (leb (q .b) 4)))
+
+  pub disarm-far : q .kind ≡ 3 → 0 < q .a → false ≡ numbersGood q
+  unfolding numbersGood
+  disarm-far k h = rw (k, ne-eqb (q .a) 0 (omega arith)) refl
+
+  pub disarm-form : q .kind ≡ 3 → q .a ≤ 0 → eqb (q .b) 0 ≡ numbersGood q
+  unfolding numbersGood
+  disarm-form k h = rw (k, eq-eqb (q .a) 0 (omega arith)) refl
+
+  pub no-kind : (q .kind ≡ 1 → ⊥) → (q .kind ≡ 2 → ⊥) → (q .kind ≡ 3 → ⊥) → false ≡ numbersGood q
+  unfolding numbersGood
+  no-kind x y z = rw (ne-eqb (q .kind) 1 x, ne-eqb (q .kind) 2 y, ne-eqb (q .kind) 3 z) refl
+
+pub form-out : (t : List ℕ) (q : Request) (n : ℕ) → (n ≡ countD t) × (n ≤ 32) → n ≤ q .device → false ≡ formGood (stationOf 4 t) q
+unfolding formGood stationOf
+form-out t q n e h = rw (le-ltb (q .device) (countD t) (omega arith)) refl
+
+pub form-in : (t : List ℕ) (q : Request) (n : ℕ) (b : Bool) → (n ≡ countD t) × (n ≤ 32) → q .device < n → b ≡ numbersGood q → b ≡ formGood (stationOf 4 t) q
+unfolding formGood numbersGood stationOf
+form-in t q n b e h f = rw (lt-ltb (q .device) (countD t) (omega arith)) f
+
+-- what a form that is good says of the numbers
+small : (s : Station) (q : Request) → formGood s q ≡ true → (q .a ≤ 4) × (q .b ≤ 4)
+unfolding formGood
+small s q e =
+    let move = isMove q && leb (q .a) 4 && eqb (q .b) 0 in
+    let arm = isArm q && leb (q .a) 4 && leb (q .b) 4 in
+    let disarm = isDisarm q && eqb (q .a) 0 && eqb (q .b) 0 in
+    ⊎-elim
+    (λ x. ⊎-elim
+    (λ m. let b = both-true (isMove q && leb (q .a) 4) (eqb (q .b) 0) m in
+    (leb-true _ _ (both-true (isMove q) (leb (q .a) 4) (b .0) .1), omega (arith, eqb-true (q .b) 0 (b .1))))
+    (λ m. let b = both-true (isArm q && leb (q .a) 4) (leb (q .b) 4) m in
+    (leb-true _ _ (both-true (isArm q) (leb (q .a) 4) (b .0) .1), leb-true _ _ (b .1)))
+    (or-cases move arm x))
+    (λ m. let b = both-true (isDisarm q && eqb (q .a) 0) (eqb (q .b) 0) m in
+    (omega (arith, eqb-true (q .a) 0 (both-true (isDisarm q) (eqb (q .a) 0) (b .0) .1)), omega (arith, eqb-true (q .b) 0 (b .1))))
+    (or-cases (move || arm) disarm (both-true (ltb (q .device) (s .devices)) (move || arm || disarm) e .1))
+
+pub form-small : (s : Station) (q : Request) (f : Bool) → f ≡ formGood s q → not f ≡ false → (q .a ≤ 4) × (q .b ≤ 4)
+form-small s q f form good = small s q (sym form ∙ not-false f good)
+
+pub form-device-below : (t : List ℕ) (q : Request) (f : Bool) → f ≡ formGood (stationOf 4 t) q → not f ≡ false → q .device < countD t
+form-device-below t q f form good = unfold stationOf in form-device (stationOf 4 t) q (sym form ∙ not-false f good)
+
+pub ruleset forms = (move-far, move-form, arm-far, arm-form, disarm-far, disarm-form, no-kind, form-out, form-in)
+
+-- ---- 12, 15 and the new entry
+pub to-d0 : (e : Entry) (x : ℕ) → x ≡ 0 → true ≡ notShallowerOrD0 e x
+unfolding notShallowerOrD0
+to-d0 e x h = rw h refl
+
+pub to-other : (e : Entry) (x : ℕ) → (x ≡ 0 → ⊥) → leb (e .state) x ≡ notShallowerOrD0 e x
+unfolding notShallowerOrD0
+to-other e x h = rw (ne-eqb x 0 h) refl
+
+pub not-armed : (e : Entry) (x : ℕ) → (e .armed ≡ 1 → ⊥) → true ≡ wakeAllows e x
+unfolding wakeAllows
+not-armed e x h = rw (ne-eqb (e .armed) 1 h) refl
+
+pub is-armed : (e : Entry) (x : ℕ) → e .armed ≡ 1 → leb x (e .wake) ≡ wakeAllows e x
+unfolding wakeAllows
+is-armed e x h = rw h refl
+
+pub ruleset device-alone = (to-d0, to-other, not-armed, is-armed)
+
+-- ---- 13 and 14
+pub no-parent : (s : Station) (entries : ℕ → Entry) (d x p : ℕ) → p ≡ s .device d .parent → p ≡ 255 → true ≡ parentAllows s entries d x
+unfolding parentAllows
+no-parent s entries d x p e h = rw (sym e ∙ h) refl
+
+pub its-parent : (s : Station) (entries : ℕ → Entry) (d x p : ℕ) (u : Entry) → p ≡ s .device d .parent → (p ≡ 255 → ⊥) → u ≡ entries p → leb (u .state) x ≡ parentAllows s entries d x
+unfolding parentAllows
+its-parent s entries d x p u e h f = rw (← e, ne-eqb p 255 h, f) refl
+
+pub no-child : (s : Station) (entries : ℕ → Entry) (d x c p : ℕ) → p ≡ s .device c .parent → (p ≡ d → ⊥) → false ≡ childBars s entries d x c
+unfolding childBars
+no-child s entries d x c p e h = rw (← e, ne-eqb p d h) refl
+
+pub its-child : (s : Station) (entries : ℕ → Entry) (d x c p : ℕ) (u : Entry) → p ≡ s .device c .parent → p ≡ d → u ≡ entries c → ltb (u .state) x ≡ childBars s entries d x c
+unfolding childBars
+its-child s entries d x c p u e h f = rw (← e, eq-eqb p d h, f) refl
+
+pub ruleset family = (no-parent, its-parent, no-child, its-child)
+
+-- ---- the loop over children
+pub from-none : (f : ℕ → Bool) (n m : ℕ) → (n ≡ m) × (n ≤ 32) → leastFrom f 0 (n - 0) ≡ least f m
+from-none f n m e = starts f n ∙ ap (least f) (e .0)
+
+pub ruleset lowest-bad = (from-none, found, next, done)
+
+lowest-none : (bad : ℕ → Bool) (n i : ℕ) (refusal : ℕ → Verdict) → i ≡ least bad n → n ≤ i → lowest bad n refusal ≡ Done 0
+unfolding lowest
+lowest-none bad n i refusal e h = rw (← e, le-ltb i n h) refl
+
+-- ---- 11 to 15. Each test's result stands apart from what it tests
+module _ (s : Station) (entries : ℕ → Entry) (d x : ℕ) (u : Entry) (own : u ≡ entries d) (a : Bool) (known : a ≡ supported s d x) where
+  pub move-11 : not a ≡ true → Unsupported ≡ moveVerdict s entries d x
+  unfolding moveVerdict firstOf unless passes
+  move-11 n = rw (sym known ∙ not-true a n) refl
+
+  module _ (yes : not a ≡ false) (b : Bool) (deep : b ≡ notShallowerOrD0 u x) where
+    pub move-12 : not b ≡ true → Shallower ≡ moveVerdict s entries d x
+    unfolding moveVerdict firstOf unless passes
+    move-12 n = rw (← own, sym known ∙ not-false a yes, sym deep ∙ not-true b n) refl
+
+    module _ (yes2 : not b ≡ false) (c : Bool) (up : c ≡ parentAllows s entries d x) where
+      pub move-13 : (p : ℕ) → p ≡ s .device d .parent → not c ≡ true → ParentDeeper p ≡ moveVerdict s entries d x
+      unfolding moveVerdict firstOf unless passes
+      move-13 p e n = rw (← own, sym known ∙ not-false a yes, sym deep ∙ not-false b yes2, sym up ∙ not-true c n, e) refl
+
+      module _ (yes3 : not c ≡ false) (k m : ℕ) (low : k ≡ least (childBars s entries d x) m) (all : m ≡ s .devices) where
+        low-all : k ≡ least (childBars s entries d x) (s .devices)
+        low-all = low ∙ ap (least (childBars s entries d x)) all
+
+        pub move-14 : k < m → ChildShallower k ≡ moveVerdict s entries d x
+        unfolding moveVerdict firstOf unless passes
+        move-14 h =
+            rw (← own, sym known ∙ not-false a yes, sym deep ∙ not-false b yes2, sym up ∙ not-false c yes3, lowest-stop (childBars s entries d x) (s .devices) k ChildShallower low-all (omega arith)) refl
+
+        pub move-15 : m ≤ k → (g : Bool) → g ≡ wakeAllows u x → not g ≡ true → TooDeepToWake ≡ moveVerdict s entries d x
+        unfolding moveVerdict firstOf unless passes
+        move-15 h g w n =
+            rw (← own, sym known ∙ not-false a yes, sym deep ∙ not-false b yes2, sym up ∙ not-false c yes3, lowest-none (childBars s entries d x) (s .devices) k ChildShallower low-all (omega arith), sym w ∙ not-true g n) refl
+
+        pub move-done : m ≤ k → (g : Bool) → g ≡ wakeAllows u x → not g ≡ false → Done 0 ≡ moveVerdict s entries d x
+        unfolding moveVerdict firstOf unless passes
+        move-done h g w n =
+            rw (← own, sym known ∙ not-false a yes, sym deep ∙ not-false b yes2, sym up ∙ not-false c yes3, lowest-none (childBars s entries d x) (s .devices) k ChildShallower low-all (omega arith), sym w ∙ not-false g n) refl
+
+-- the number of devices as the table has it
+pub devices-are : (t : List ℕ) (n : ℕ) → n ≡ countD t → n ≡ stationOf 4 t .devices
+unfolding stationOf
+devices-are t n e = e
+
+pub ruleset moving = (devices-are, move-11, move-12, move-13, move-14, move-15, move-done)
+
+-- ---- 16 to 18
+module _ (s : Station) (entries : ℕ → Entry) (d x y : ℕ) (a : Bool) (from : a ≡ wakeFrom s d x) where
+  pub arm-16 : not a ≡ true → NoWake ≡ armVerdict s entries d x y
+  unfolding armVerdict firstOf unless passes
+  arm-16 n = rw (sym from ∙ not-true a n) refl
+
+  module _ (yes : not a ≡ false) (b : Bool) (level : b ≡ wakePowered s d x) where
+    pub arm-17 : not b ≡ true → WakeUnpowered ≡ armVerdict s entries d x y
+    unfolding armVerdict firstOf unless passes
+    arm-17 n = rw (sym from ∙ not-false a yes, sym level ∙ not-true b n) refl
+
+    module _ (yes2 : not b ≡ false) (c : Bool) (state : c ≡ wakeState s d x y) where
+      pub arm-18 : not c ≡ true → BadWakeState ≡ armVerdict s entries d x y
+      unfolding armVerdict firstOf unless passes
+      arm-18 n = rw (sym from ∙ not-false a yes, sym level ∙ not-false b yes2, sym state ∙ not-true c n) refl
+
+      pub arm-18-shallower : not c ≡ false → (u : Entry) → u ≡ entries d → y < u .state → BadWakeState ≡ armVerdict s entries d x y
+      unfolding armVerdict firstOf unless passes
+      arm-18-shallower n u e h = rw (sym from ∙ not-false a yes, sym level ∙ not-false b yes2, sym state ∙ not-false c n, ← e, lt-leb (u .state) y h) refl
+
+      pub arm-done : not c ≡ false → (u : Entry) → u ≡ entries d → u .state ≤ y → Done 0 ≡ armVerdict s entries d x y
+      unfolding armVerdict firstOf unless passes
+      arm-done n u e h = rw (sym from ∙ not-false a yes, sym level ∙ not-false b yes2, sym state ∙ not-false c n, ← e, le-leb (u .state) y h) refl
+
+pub ruleset arming = (arm-16, arm-17, arm-18, arm-18-shallower, arm-done)
+
+-- ---- a chain that ends done, alone in a chain, is itself
+first-done : (vs : List Verdict) → passes (firstOf vs (Done 0)) ≡ true → firstOf vs (Done 0) ≡ Done 0
+first-done [] e = first-none (Done 0)
+first-done (v ∷ vs) e = let b = first-both v vs (Done 0) e in first-pass v vs (Done 0) (b .0) ∙ first-done vs (b .1)
+
+alone : (vs : List Verdict) → firstOf (firstOf vs (Done 0) ∷ []) (Done 0) ≡ firstOf vs (Done 0)
+alone vs =
+    decide (passes (firstOf vs (Done 0))) (λ e. first-pass (firstOf vs (Done 0)) [] (Done 0) e ∙ first-none (Done 0) ∙ sym (first-done vs e))
+    (λ e. first-stop (firstOf vs (Done 0)) [] (Done 0) e)
+
+-- ---- 10 to 18
+module _ (s : Station) (entries : ℕ → Entry) (q : Request) (f : Bool) (form : f ≡ formGood s q) where
+  pub asked-10 : not f ≡ true → BadRequest ≡ requestVerdict s entries q
+  unfolding requestVerdict firstOf unless passes
+  asked-10 n = rw (sym form ∙ not-true f n) refl
+
+  pub asked-move : not f ≡ false → q .kind ≡ 1 → (v : Verdict) → v ≡ moveVerdict s entries (q .device) (q .a) → v ≡ requestVerdict s entries q
+  unfolding requestVerdict kindVerdict moveVerdict
+  asked-move n k v e = e ∙ sym (rw (sym form ∙ not-false f n, k) (first-pass (unless true BadRequest) _ (Done 0) (unfold unless passes in refl) ∙ alone _))
+
+  pub asked-arm : not f ≡ false → q .kind ≡ 2 → (v : Verdict) → v ≡ armVerdict s entries (q .device) (q .a) (q .b) → v ≡ requestVerdict s entries q
+  unfolding requestVerdict kindVerdict armVerdict
+  asked-arm n k v e = e ∙ sym (rw (sym form ∙ not-false f n, k) (first-pass (unless true BadRequest) _ (Done 0) (unfold unless passes in refl) ∙ alone _))
+
+  pub asked-disarm : not f ≡ false → (q .kind ≡ 1 → ⊥) → (q .kind ≡ 2 → ⊥) → Done 0 ≡ requestVerdict s entries q
+  unfolding requestVerdict kindVerdict firstOf unless passes
+  asked-disarm n k l = rw (sym form ∙ not-false f n, ne-eqb (q .kind) 1 k, ne-eqb (q .kind) 2 l) refl
+
+pub ruleset asking = (asked-10, asked-move, asked-arm, asked-disarm)
+
+-- ---- the new entry
+pub entry-moved : (e : Entry) (q : Request) → q .kind ≡ 1 → record { state = q .a; armed = e .armed; sleep = e .sleep; wake = e .wake } ≡ newEntry e q
+unfolding newEntry
+entry-moved e q k = rw k refl
+
+pub entry-armed : (e : Entry) (q : Request) → q .kind ≡ 2 → record { state = e .state; armed = 1; sleep = q .a; wake = q .b } ≡ newEntry e q
+unfolding newEntry
+entry-armed e q k = rw k refl
+
+pub entry-disarmed : (e : Entry) (q : Request) → (q .kind ≡ 1 → ⊥) → (q .kind ≡ 2 → ⊥) → record { state = e .state; armed = 0; sleep = 0; wake = 0 } ≡ newEntry e q
+unfolding newEntry
+entry-disarmed e q k l = rw (ne-eqb (q .kind) 1 k, ne-eqb (q .kind) 2 l) refl
+
+pub ruleset new-entry = (entry-moved, entry-armed, entry-disarmed)

@@ -1,0 +1,5 @@
+pub mod Held
+pub mod Loops
+pub mod Ranges
+pub mod Keeps
+pub mod Chains
