@@ -1,5 +1,5 @@
 // The planner: the calls of a request, in their order, as words of a lent plan.
-pub mod word;
 pub mod order;
 pub mod own;
+pub mod word;
 pub mod write;

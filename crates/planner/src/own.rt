@@ -49,7 +49,10 @@ fn move_call(table: &[u8], e: rules::Entry, d: u32, x: u32) -> Own
     if !sets::has(words::wide(table::fields::ps(table, d as usize)), m) {
         return Own::NoCall;
     }
-    Own::Word(crate::word::word_of(rules::Call::SetState { device: d as u8, state: m as u8 }))
+    Own::Word(crate::word::word_of(rules::Call::SetState {
+        device: d as u8,
+        state: m as u8,
+    }))
 }
 
 // `_DSW`, for arming and disarming.
@@ -62,11 +65,20 @@ fn wake_call(table: &[u8], e: rules::Entry, q: rules::Request) -> Own
         return Own::NoCall;
     }
     if q.kind == 2 {
-        let wake = rules::Wake::Enable { sleep: q.a as u8, state: q.b as u8 };
-        return Own::Word(crate::word::word_of(rules::Call::SetWake { device: d as u8, wake: wake }));
+        let wake = rules::Wake::Enable {
+            sleep: q.a as u8,
+            state: q.b as u8,
+        };
+        return Own::Word(crate::word::word_of(rules::Call::SetWake {
+            device: d as u8,
+            wake: wake,
+        }));
     }
     if e.armed == 1 {
-        return Own::Word(crate::word::word_of(rules::Call::SetWake { device: d as u8, wake: rules::Wake::Disable }));
+        return Own::Word(crate::word::word_of(rules::Call::SetWake {
+            device: d as u8,
+            wake: rules::Wake::Disable,
+        }));
     }
     Own::NoCall
 }

@@ -7,7 +7,10 @@ ghost use Rattle.rules.specs.Calls.{word4, wordOf, wakeWord, callOf, callOfByte
 fn word4(a: u8, b: u8, c: u8, d: u8) -> u32
     ensures { λ r. ⌜ r ≡ word4 a b c d ⌝ }
 {
-    words::wide(a) + 0x100 * words::wide(b) + 0x1_0000 * words::wide(c) + 0x100_0000 * words::wide(d)
+    words::wide(a)
+        + 0x100 * words::wide(b)
+        + 0x1_0000 * words::wide(c)
+        + 0x100_0000 * words::wide(d)
 }
 
 // The word of a `_DSW` call.
@@ -40,7 +43,10 @@ fn wake_of(device: u8, x: u8, y: u8) -> rules::Word
 {
     if y == 0 {
         if x == 0 {
-            return rules::Word::Is(rules::Call::SetWake { device: device, wake: rules::Wake::Disable });
+            return rules::Word::Is(rules::Call::SetWake {
+                device: device,
+                wake: rules::Wake::Disable,
+            });
         }
         return rules::Word::NoCall;
     }
@@ -53,7 +59,13 @@ fn wake_of(device: u8, x: u8, y: u8) -> rules::Word
     if y > 132 {
         return rules::Word::NoCall;
     }
-    rules::Word::Is(rules::Call::SetWake { device: device, wake: rules::Wake::Enable { sleep: x, state: y - 128 } })
+    rules::Word::Is(rules::Call::SetWake {
+        device: device,
+        wake: rules::Wake::Enable {
+            sleep: x,
+            state: y - 128,
+        },
+    })
 }
 
 // The call with these bytes, if there is one.
@@ -68,7 +80,10 @@ fn call_of_bytes(kind: u8, number: u8, x: u8, y: u8) -> rules::Word
     }
     if kind == 3 {
         if x <= 3 {
-            return rules::Word::Is(rules::Call::SetState { device: number, state: x });
+            return rules::Word::Is(rules::Call::SetState {
+                device: number,
+                state: x,
+            });
         }
         return rules::Word::NoCall;
     }
@@ -88,5 +103,10 @@ fn call_of_bytes(kind: u8, number: u8, x: u8, y: u8) -> rules::Word
 pub fn call_of(word: u32) -> rules::Word
     ensures { λ r. ⌜ r ≡ callOf word ⌝ }
 {
-    call_of_bytes((word % 0x100) as u8, (word / 0x100 % 0x100) as u8, (word / 0x1_0000 % 0x100) as u8, (word / 0x100_0000) as u8)
+    call_of_bytes(
+        (word % 0x100) as u8,
+        (word / 0x100 % 0x100) as u8,
+        (word / 0x1_0000 % 0x100) as u8,
+        (word / 0x100_0000) as u8,
+    )
 }

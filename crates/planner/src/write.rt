@@ -32,7 +32,14 @@ fn write_switches(table: &[u8], on: u32, off: u32, plan: &mut [u32], at: usize) 
 }
 
 // The words of all calls of a request in range, from the start of the plan. The answer is their count.
-pub fn write_calls(table: &[u8], e: rules::Entry, q: rules::Request, on: u32, off: u32, plan: &mut [u32]) -> usize
+pub fn write_calls(
+    table: &[u8],
+    e: rules::Entry,
+    q: rules::Request,
+    on: u32,
+    off: u32,
+    plan: &mut [u32],
+) -> usize
     requires { ⌜ Laid (now table) × (q .device < countD (now table)) × (q .a ≤ 4) × (q .b ≤ 4) × (on < 2 ^ countR (now table)) × (off < 2 ^ countR (now table)) × Apart on off × (33 ≤ length (now plan)) ⌝ }
     ensures { λ r. ⌜ (r ≡ length (planWords (stationOf 4 (now (table .entry))) e q on off)) × (now (plan .exit) ≡ put (now (plan .entry)) 0 (planWords (stationOf 4 (now (table .entry))) e q on off)) ⌝ }
 {
