@@ -3,3 +3,4 @@ pub mod Inverse
 pub mod Choice
 pub mod Device
 pub mod Run
+pub mod Whole

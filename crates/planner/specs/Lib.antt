@@ -1,3 +1,4 @@
 pub mod Ranges
 pub mod Phases
 pub mod Plan
+pub mod After

@@ -1,6 +1,6 @@
 -- The wake range, a law for each way that the code answers. Only these open it. Assumes nothing.
-use mathlib.Core.Path.{_≡_, refl}
-use mathlib.Core.Bool.{true, false, and-true, and-false}
+use mathlib.Core.Path.{_≡_}
+use mathlib.Core.Bool.{false, and-true, and-false}
 use Prim.Native.Nat.{ℕ, _≤_, _<_}
 use borrow.Author.Tests.{le-leb, lt-leb, eq-eqb, ne-eqb}
 use lib.Dec.{eqb, leb}

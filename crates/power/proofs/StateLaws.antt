@@ -1,8 +1,8 @@
 -- What a device supports and needs, a law for each way that the code answers: from the tests on the way and what the readers of the table gave.
 -- Assumes nothing.
-use mathlib.Core.Path.{_≡_, refl, sym, _∙_}
+use mathlib.Core.Path.{_≡_, sym, _∙_}
 use mathlib.Core.Bool.{Bool, true, false, or-false}
-use Prim.Native.Nat.{ℕ, zero, suc, _+_, _-_, _≤_, _<_}
+use Prim.Native.Nat.{ℕ, zero, suc, _-_, _≤_, _<_}
 use native.Mathlib.Omega.{arith}
 use borrow.Author.Tests.{lt-ltb, le-ltb, eq-eqb, ne-eqb}
 use Rattle.sets.specs.Sets.{member, union}
@@ -100,7 +100,10 @@ module _ (v : Device) where
   unfolding wakeNeeds
   prw-absent e b a p t = rw (eq-eqb (e .armed) 1 a, sym p ∙ t)
 
-pub ruleset set-laws = (own-yes, own-no, listed-here, listed-next, listed-last, shallow-needs, d3cold-needs, d3hot-needs, unarmed-needs, armed-needs, prw-absent)
+pub ruleset set-laws = (own-yes, own-no, shallow-needs, d3cold-needs, d3hot-needs, unarmed-needs, armed-needs, prw-absent)
+
+-- apart, since these end in a bare w, which every goal fits
+pub ruleset listed-laws = (listed-here, listed-next, listed-last)
 
 pub needs-are : (s : Station) (d a b r : ℕ) (e : Entry) → r ≡ union a b → a ≡ stateNeeds (s .device d) (e .state) → b ≡ wakeNeeds (s .device d) e → r ≡ needs s d e
 unfolding needs

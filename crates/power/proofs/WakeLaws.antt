@@ -58,4 +58,4 @@ module _ (s : Station) (d x y : ℕ) where
   unfolding wakePair
   pair-told u v w e t f h q = rw (sym e ∙ not-false u t, sym f ∙ not-false v h) q
 
-pub ruleset wake-laws = (from-told, from-none, level-told, level-free, powered-starts, state-told, state-unsupported, pair-sleep, pair-unpowered, pair-told)
+pub ruleset wake-laws = (from-told, from-none, level-told, level-free, state-told, state-unsupported, pair-sleep, pair-unpowered, pair-told)

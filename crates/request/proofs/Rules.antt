@@ -18,8 +18,7 @@ use Rattle.rules.specs.Power.{supported, wakeFrom, wakePowered, wakeState}
 use Rattle.rules.specs.Table.{parentGood}
 use Rattle.rules.specs.Request.{isMove, isArm, isDisarm, formGood, notShallowerOrD0, parentAllows, childBars, wakeAllows, moveVerdict, armVerdict, kindVerdict, requestVerdict, newEntry}
 use Rattle.rules.proofs.Index.{starts, found, next, done}
-use Rattle.rules.proofs.Answers.{lowest-stop, first-pass, first-stop, first-none, first-both}
-use Rattle.sets.proofs.Laws.{decide}
+use Rattle.rules.proofs.Answers.{lowest-stop, lowest-none, first-pass, first-alone}
 use Rattle.laws.proofs.Tests.{both-true, or-cases}
 use Rattle.laws.proofs.States.{form-device}
 use Rattle.request.specs.Form.{numbersGood}
@@ -132,10 +131,6 @@ from-none f n m e = starts f n ∙ ap (least f) (e .0)
 
 pub ruleset lowest-bad = (from-none, found, next, done)
 
-lowest-none : (bad : ℕ → Bool) (n i : ℕ) (refusal : ℕ → Verdict) → i ≡ least bad n → n ≤ i → lowest bad n refusal ≡ Done 0
-unfolding lowest
-lowest-none bad n i refusal e h = rw (← e, le-ltb i n h) refl
-
 -- ---- 11 to 15. Each test's result stands apart from what it tests
 module _ (s : Station) (entries : ℕ → Entry) (d x : ℕ) (u : Entry) (own : u ≡ entries d) (a : Bool) (known : a ≡ supported s d x) where
   pub move-11 : not a ≡ true → Unsupported ≡ moveVerdict s entries d x
@@ -204,16 +199,6 @@ module _ (s : Station) (entries : ℕ → Entry) (d x y : ℕ) (a : Bool) (from 
 
 pub ruleset arming = (arm-16, arm-17, arm-18, arm-18-shallower, arm-done)
 
--- ---- a chain that ends done, alone in a chain, is itself
-first-done : (vs : List Verdict) → passes (firstOf vs (Done 0)) ≡ true → firstOf vs (Done 0) ≡ Done 0
-first-done [] e = first-none (Done 0)
-first-done (v ∷ vs) e = let b = first-both v vs (Done 0) e in first-pass v vs (Done 0) (b .0) ∙ first-done vs (b .1)
-
-alone : (vs : List Verdict) → firstOf (firstOf vs (Done 0) ∷ []) (Done 0) ≡ firstOf vs (Done 0)
-alone vs =
-    decide (passes (firstOf vs (Done 0))) (λ e. first-pass (firstOf vs (Done 0)) [] (Done 0) e ∙ first-none (Done 0) ∙ sym (first-done vs e))
-    (λ e. first-stop (firstOf vs (Done 0)) [] (Done 0) e)
-
 -- ---- 10 to 18
 module _ (s : Station) (entries : ℕ → Entry) (q : Request) (f : Bool) (form : f ≡ formGood s q) where
   pub asked-10 : not f ≡ true → BadRequest ≡ requestVerdict s entries q
@@ -222,11 +207,11 @@ module _ (s : Station) (entries : ℕ → Entry) (q : Request) (f : Bool) (form 
 
   pub asked-move : not f ≡ false → q .kind ≡ 1 → (v : Verdict) → v ≡ moveVerdict s entries (q .device) (q .a) → v ≡ requestVerdict s entries q
   unfolding requestVerdict kindVerdict moveVerdict
-  asked-move n k v e = e ∙ sym (rw (sym form ∙ not-false f n, k) (first-pass (unless true BadRequest) _ (Done 0) (unfold unless passes in refl) ∙ alone _))
+  asked-move n k v e = e ∙ sym (rw (sym form ∙ not-false f n, k) (first-pass (unless true BadRequest) _ (Done 0) (unfold unless passes in refl) ∙ first-alone _))
 
   pub asked-arm : not f ≡ false → q .kind ≡ 2 → (v : Verdict) → v ≡ armVerdict s entries (q .device) (q .a) (q .b) → v ≡ requestVerdict s entries q
   unfolding requestVerdict kindVerdict armVerdict
-  asked-arm n k v e = e ∙ sym (rw (sym form ∙ not-false f n, k) (first-pass (unless true BadRequest) _ (Done 0) (unfold unless passes in refl) ∙ alone _))
+  asked-arm n k v e = e ∙ sym (rw (sym form ∙ not-false f n, k) (first-pass (unless true BadRequest) _ (Done 0) (unfold unless passes in refl) ∙ first-alone _))
 
   pub asked-disarm : not f ≡ false → (q .kind ≡ 1 → ⊥) → (q .kind ≡ 2 → ⊥) → Done 0 ≡ requestVerdict s entries q
   unfolding requestVerdict kindVerdict firstOf unless passes

@@ -33,6 +33,27 @@ first-both v vs last e = go (passes v) refl
     go true p = (p, rw (first-pass v vs last p) at e)
     go false p = absurd (true≢false (sym e ∙ ap passes (first-stop v vs last p) ∙ p))
 
+-- a chain that passes gives its last answer, and one that does not is the same whatever its last answer
+pub first-through : (vs : List Verdict) (last : Verdict) → passes (firstOf vs (Done 0)) ≡ true → firstOf vs last ≡ last
+first-through [] last e = first-none last
+first-through (v ∷ vs) last e = let b = first-both v vs (Done 0) e in first-pass v vs last (b .0) ∙ first-through vs last (b .1)
+
+pub first-same : (vs : List Verdict) (last : Verdict) → passes (firstOf vs (Done 0)) ≡ false → firstOf vs last ≡ firstOf vs (Done 0)
+first-same [] last e = absurd (true≢false (sym (ap passes (first-none (Done 0)) ∙ (unfold passes in refl)) ∙ e))
+first-same (v ∷ vs) last e = let rest = first-same vs last in go (passes v) refl rest
+  where
+    go : (b : Bool) → passes v ≡ b → (passes (firstOf vs (Done 0)) ≡ false → firstOf vs last ≡ firstOf vs (Done 0)) → firstOf (v ∷ vs) last ≡ firstOf (v ∷ vs) (Done 0)
+    go true p f = first-pass v vs last p ∙ f (sym (ap passes (first-pass v vs (Done 0) p)) ∙ e) ∙ sym (first-pass v vs (Done 0) p)
+    go false p f = first-stop v vs last p ∙ sym (first-stop v vs (Done 0) p)
+
+-- a chain alone in a chain is itself
+pub first-alone : (vs : List Verdict) → firstOf (firstOf vs (Done 0) ∷ []) (Done 0) ≡ firstOf vs (Done 0)
+first-alone vs = go (passes (firstOf vs (Done 0))) refl
+  where
+    go : (b : Bool) → passes (firstOf vs (Done 0)) ≡ b → firstOf (firstOf vs (Done 0) ∷ []) (Done 0) ≡ firstOf vs (Done 0)
+    go true p = first-pass (firstOf vs (Done 0)) [] (Done 0) p ∙ first-none (Done 0) ∙ sym (first-through vs (Done 0) p)
+    go false p = first-stop (firstOf vs (Done 0)) [] (Done 0) p
+
 -- ---- one check
 pub unless-of : (good : Bool) (refusal : Verdict) → good ≡ true → unless good refusal ≡ Done 0
 unfolding unless
@@ -55,6 +76,10 @@ lowest-of bad n refusal h = rw (le-ltb (least bad n) n (omega (arith, no-hit bad
 pub lowest-stop : (bad : ℕ → Bool) (n i : ℕ) (refusal : ℕ → Verdict) → i ≡ least bad n → i < n → lowest bad n refusal ≡ refusal i
 unfolding lowest
 lowest-stop bad n i refusal e h = rw (← e, lt-ltb i n h)
+
+pub lowest-none : (bad : ℕ → Bool) (n i : ℕ) (refusal : ℕ → Verdict) → i ≡ least bad n → n ≤ i → lowest bad n refusal ≡ Done 0
+unfolding lowest
+lowest-none bad n i refusal e h = rw (← e, le-ltb i n h)
 
 pub lowest-at : (bad : ℕ → Bool) (n : ℕ) (refusal : ℕ → Verdict) → ((i : ℕ) → eqb (numberOf (refusal i)) 0 ≡ false)
     → passes (lowest bad n refusal) ≡ true → (i : ℕ) → i < n → bad i ≡ false

@@ -4,7 +4,7 @@ use Prim.Native.Nat.{_<_}
 use borrow.Author.Needs.{needs}
 use Rattle.rules.specs.Station.{stationOf}
 use Rattle.rules.specs.Power.{listedSet}
-use Rattle.power.proofs.StateLaws.{set-laws}
+use Rattle.power.proofs.StateLaws.{listed-laws}
 use Rattle.power.proofs.states.listed_set.Statement.{statement}
 use Rattle.power.proofs.states.listed_set.Tie as tie
 
@@ -25,9 +25,9 @@ listed-set-spec =
     (λ c κs. search needs)
     (λ c. search needs)
     (λ c κs. search needs)
-    (λ c. search (needs, set-laws))
+    (λ c. search (needs, listed-laws))
     (λ c. search needs)
     (λ c. search needs)
-    (λ c. search (needs, set-laws))
+    (λ c. search (needs, listed-laws))
     (λ c κs. search needs)
-    (λ c. search (needs, set-laws)))
+    (λ c. search (needs, listed-laws)))
