@@ -1,17 +1,16 @@
 -- Words and calls: what each way out of the functions that read and make a word says. Assumes nothing.
-use mathlib.Core.Path.{_≡_, refl, sym, _∙_}
-use mathlib.Core.Bool.{Bool, true, false, _&&_, cond, and-false}
+use mathlib.Core.Path.{_≡_, refl, _∙_}
+use mathlib.Core.Bool.{and-false}
 use Prim.Native.Nat.{ℕ, _+_, _-_, _^_, _≤_, _<_}
 use native.Mathlib.Omega.{arith}
 use borrow.Author.Tests.{eq-eqb, ne-eqb, le-leb, lt-leb}
-use lib.Dec.{eqb, leb}
 use Rattle.rules.specs.declared.Wake.{Wake}
 use Rattle.rules.specs.declared.Wake.the-variants.{Enable, Disable}
 use Rattle.rules.specs.declared.Call.{Call}
 use Rattle.rules.specs.declared.Call.the-variants.{ResourceOn, ResourceOff, SetState, SetWake}
 use Rattle.rules.specs.declared.Word.{Word}
 use Rattle.rules.specs.declared.Word.the-variants.{Is, NoCall}
-use Rattle.rules.specs.Calls.{wordOf, wakeWord, wakeOf, callOfBytes, callOf}
+use Rattle.rules.specs.Calls.{wordOf, wakeWord, wakeOf, callOfBytes}
 
 -- ---- a word that fits
 pub wake-room : (d x y : ℕ) (k : Wake) → wakeWord d k < 2 ^ 32 → k ≡ Enable x y → 128 + y < 256

@@ -1,9 +1,8 @@
 -- The device's own call: what each way out of the functions that make it says. Assumes nothing.
-use mathlib.Core.Path.{_≡_, refl, sym, ap, _∙_}
-use mathlib.Core.Bool.{Bool, true, false, not, _&&_, _||_, cond, and-false, or-false}
+use mathlib.Core.Path.{_≡_, refl, sym, _∙_}
+use mathlib.Core.Bool.{Bool, true, false, not, and-false, or-false}
 use mathlib.Core.List.{List, [], _∷_, map}
-use Prim.Native.Nat.{ℕ, _≤_, _<_}
-use native.Mathlib.Omega.{arith}
+use Prim.Native.Nat.{ℕ}
 use borrow.Author.Tests.{eq-eqb, ne-eqb, not-true, not-false}
 use lib.Dec.{eqb}
 use Rattle.sets.specs.Sets.{member}
@@ -11,15 +10,11 @@ use Rattle.sets.proofs.Laws.{decide}
 use Rattle.rules.specs.declared.Entry.{Entry}
 use Rattle.rules.specs.declared.Request.{Request}
 use Rattle.rules.specs.declared.Wake.the-variants.{Enable, Disable}
-use Rattle.rules.specs.declared.Call.{Call}
 use Rattle.rules.specs.declared.Call.the-variants.{SetState, SetWake}
 use Rattle.rules.specs.Station.{Station, hasPS, hasDSW}
-use Rattle.rules.specs.Power.{isArmed}
-use Rattle.rules.specs.Request.{isMove, isArm}
+use Rattle.rules.specs.Request.{isArm}
 use Rattle.rules.specs.Calls.{wordOf, only, methodFor, moveCall, wakeCall, ownCall, ownLast}
-use Rattle.planner.specs.declared.own.Own.{Own}
-use Rattle.planner.specs.declared.own.Own.the-variants.{Word, NoCall}
-use Rattle.planner.specs.Plan.{ownWords, callsMethod, ownOf}
+use Rattle.planner.specs.Plan.{callsMethod, ownOf}
 
 -- ---- the method of a move
 

@@ -1,20 +1,18 @@
 -- A call of document 01 is read back from its word, and a word that says a call is that call's word: no two words say the same. Assumes nothing.
-use mathlib.Core.Path.{_≡_, refl, sym, ap, _∙_, subst}
+use mathlib.Core.Path.{_≡_, refl, sym, _∙_, subst}
 use mathlib.Core.Bool.{Bool, true, false, cond, _&&_}
-use Prim.Native.Nat.{ℕ, _+_, _-_, _*_, _/_, _%_, _^_, _≤_, _<_}
+use Prim.Native.Nat.{ℕ, _+_, _-_, _*_, _/_, _%_, _<_}
 use native.Mathlib.Omega.{arith}
 use borrow.Author.Tests.{eqb-true, leb-true}
 use lib.Dec.{eqb, leb}
-use Rattle.sets.proofs.Laws.{decide}
-use Rattle.rules.specs.declared.Wake.{Wake}
 use Rattle.rules.specs.declared.Wake.the-variants.{Enable, Disable}
 use Rattle.rules.specs.declared.Call.{Call}
 use Rattle.rules.specs.declared.Call.the-variants.{ResourceOn, ResourceOff, SetState, SetWake}
 use Rattle.rules.specs.declared.Word.{Word}
 use Rattle.rules.specs.declared.Word.the-variants.{Is, NoCall}
-use Rattle.rules.specs.Calls.{word4, wordOf, wakeWord, wakeOf, callOfBytes, callOf}
+use Rattle.rules.specs.Calls.{word4, wordOf, wakeOf, callOfBytes, callOf}
 use Rattle.laws.proofs.Tests.{both-true}
-use Rattle.planner.specs.Ranges.{WakeInRange, InRange}
+use Rattle.planner.specs.Ranges.{InRange}
 use Rattle.planner.proofs.Coding.{wake-off, wake-on, is-on, is-off, is-state, is-wake}
 
 -- the bytes of a word are those it was made of
@@ -50,12 +48,6 @@ at-cond : (w : ℕ) (b : Bool) (p q : Word) → (b ≡ true → Right w p) → R
 at-cond w true p q f g = f refl
 at-cond w false p q f g = g
 
-three : (a b c : Bool) → a && b && c ≡ true → (a ≡ true) × (b ≡ true) × (c ≡ true)
-three a b c e =
-    let p = both-true (a && b) c e in
-    let q = both-true a b (p .0) in
-    (q .0, q .1, p .1)
-
 ends : (w : ℕ) (c : Call) → wordOf c ≡ w → Right w (Is c)
 unfolding Right
 ends w c e = e
@@ -64,25 +56,26 @@ none : (w : ℕ) → Right w NoCall
 unfolding Right
 none w = tt
 
+-- a call under three tests
+at-call : (w : ℕ) (a b c : Bool) (p : Call) (q : Word) → (a ≡ true → b ≡ true → c ≡ true → wordOf p ≡ w) → Right w q → Right w (cond (a && b && c) (Is p) q)
+at-call w a b c p q f g =
+    at-cond w (a && b && c) (Is p) q
+    (λ t. let u = both-true (a && b) c t in let v = both-true a b (u .0) in ends w p (f (v .0) (v .1) (u .1))) g
+
 module _ (w k d x y : ℕ) (e : w ≡ word4 k d x y) where
   wake-right : k ≡ 4 → Right w (wakeOf d x y)
   unfolding wakeOf
   wake-right h =
-      at-cond w (eqb x 0 && eqb y 0) _ _
-      (λ t. let b = both-true (eqb x 0) (eqb y 0) t in ends w _ (omega (arith, eqb-true x 0 (b .0), eqb-true y 0 (b .1))))
-      (at-cond w (leb x 4 && leb 128 y && leb y 132) _ _
-      (λ t. ends w _ (omega (arith, leb-true 128 y (three (leb x 4) (leb 128 y) (leb y 132) t .1)))) (none w))
+      at-call w true (eqb x 0) (eqb y 0) (SetWake d Disable) _ (λ _ t u. omega (arith, eqb-true x 0 t, eqb-true y 0 u))
+      (at-call w (leb x 4) (leb 128 y) (leb y 132) (SetWake d (Enable x (y - 128))) _ (λ _ t _. omega (arith, leb-true 128 y t)) (none w))
 
   bytes-right : Right w (callOfBytes k d x y)
   unfolding callOfBytes
   bytes-right =
-      at-cond w (eqb k 1 && eqb x 0 && eqb y 0) _ _
-      (λ t. let b = three (eqb k 1) (eqb x 0) (eqb y 0) t in ends w _ (omega (arith, eqb-true k 1 (b .0), eqb-true x 0 (b .1), eqb-true y 0 (b .2))))
-      (at-cond w (eqb k 2 && eqb x 0 && eqb y 0) _ _
-      (λ t. let b = three (eqb k 2) (eqb x 0) (eqb y 0) t in ends w _ (omega (arith, eqb-true k 2 (b .0), eqb-true x 0 (b .1), eqb-true y 0 (b .2))))
-      (at-cond w (eqb k 3 && leb x 3 && eqb y 0) _ _
-      (λ t. let b = three (eqb k 3) (leb x 3) (eqb y 0) t in ends w _ (omega (arith, eqb-true k 3 (b .0), eqb-true y 0 (b .2))))
-      (at-cond w (eqb k 4) _ _ (λ t. wake-right (eqb-true k 4 t)) (none w))))
+      at-call w (eqb k 1) (eqb x 0) (eqb y 0) (ResourceOn d) _ (λ a b c. omega (arith, eqb-true k 1 a, eqb-true x 0 b, eqb-true y 0 c))
+      (at-call w (eqb k 2) (eqb x 0) (eqb y 0) (ResourceOff d) _ (λ a b c. omega (arith, eqb-true k 2 a, eqb-true x 0 b, eqb-true y 0 c))
+      (at-call w (eqb k 3) (leb x 3) (eqb y 0) (SetState d x) _ (λ a _ c. omega (arith, eqb-true k 3 a, eqb-true y 0 c))
+      (at-cond w (eqb k 4) _ _ (λ a. wake-right (eqb-true k 4 a)) (none w))))
 
 -- every word is the word of its four bytes
 whole : (w : ℕ) → w ≡ word4 (w % 0x100) (w / 0x100 % 0x100) (w / 0x1_0000 % 0x100) (w / 0x100_0000)

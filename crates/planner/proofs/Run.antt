@@ -1,12 +1,12 @@
 -- The plan as runs of words that follow one another: the own call's, the ONs' and the OFFs'. Two sets with no resource in common have at most R words.
 -- Assumes nothing.
 use mathlib.Core.Path.{_≡_, refl, sym, ap, _∙_}
-use mathlib.Core.Bool.{Bool, true, false, _&&_, not, cond, and-true, and-false}
+use mathlib.Core.Bool.{Bool, true, false, _&&_, not}
 use mathlib.Core.List.{List, [], _∷_, _++_, map, reverse, reverseAux, map-append, map-map, append-assoc}
 use Prim.Native.Nat.{ℕ, zero, suc, _+_, _≤_, _<_}
 use native.Mathlib.Omega.{arith}
 use lib.ListN.{length, length-append, length-map, set}
-use Rattle.sets.specs.Sets.{member, minus}
+use Rattle.sets.specs.Sets.{member}
 use Rattle.sets.proofs.Bits.{both}
 use Rattle.sets.proofs.Laws.{decide, member-minus}
 use Rattle.words.specs.Words.{put}
@@ -17,7 +17,7 @@ use Rattle.rules.specs.declared.Request.{Request}
 use Rattle.rules.specs.declared.Call.{Call}
 use Rattle.rules.specs.Status.{Status}
 use Rattle.rules.specs.Request.{isMove, isArm}
-use Rattle.rules.specs.Calls.{wordOf, only, moveCall, wakeCall, ownCall, ownLast, endSet, toTurnOn, toTurnOff, turnOn, turnOff, calls, membersFrom, earlier, sort, orderIn, rising, arrange}
+use Rattle.rules.specs.Calls.{wordOf, only, moveCall, wakeCall, ownCall, ownLast, endSet, toTurnOn, toTurnOff, turnOn, turnOff, calls, membersFrom, earlier, orderIn, rising, arrange}
 use Rattle.rules.specs.Check.{onWord, offWord}
 use Rattle.laws.proofs.Sort.{length-sort}
 use Rattle.planner.specs.declared.own.Own.{Own}
@@ -61,13 +61,10 @@ length-aux : (l k : List ℕ) → length (reverseAux l k) ≡ length l + length 
 length-aux [] k = omega arith
 length-aux (x ∷ l) k = omega (arith, length-aux l (x ∷ k))
 
-switch-long : (off : Bool) (s : Station) (m : ℕ) → length (switchWords off s m) ≡ length (membersFrom m 0 (s .resources))
-unfolding switchWords rising
-switch-long true s m =
-    let l = sort (earlier (orderIn s)) (membersFrom m 0 (s .resources)) in
-    omega (arith, length-map (reverse l) offWord, length-aux l [], length-sort (earlier (orderIn s)) (membersFrom m 0 (s .resources)))
-switch-long false s m =
-    omega (arith, length-map (rising s m) onWord, length-sort (earlier (orderIn s)) (membersFrom m 0 (s .resources)))
+switch-long : (off : Bool) (s : Station) (m : ℕ) → length (switchWords off s m) ≡ length (rising s m)
+unfolding switchWords
+switch-long true s m = omega (arith, length-map (reverse (rising s m)) offWord, length-aux (rising s m) [])
+switch-long false s m = length-map (rising s m) onWord
 
 members-apart : (a b i k : ℕ) → Apart a b → length (membersFrom a i k) + length (membersFrom b i k) ≤ k
 unfolding membersFrom Apart
@@ -78,18 +75,28 @@ members-apart a b i (suc k) h =
     (λ p. rw (p, rw p at (h i)) (omega arith))
     (λ p. rw p (decide (member b i) (λ q. rw q (omega arith)) (λ q. rw q (omega arith))))
 
--- sets with no resource in common have at most R words together
-pub phase-fits : (s : Station) (on off : ℕ) → Apart on off → length (phaseWords s on off) ≤ s .resources
-phase-fits s on off h =
-    omega (arith, phase-long s on off, switch-long false s on, switch-long true s off, members-apart on off 0 (s .resources) h)
+-- two sets with no resource in common have at most R resources together
+pub rising-apart : (s : Station) (a b : ℕ) → Apart a b → length (rising s a) + length (rising s b) ≤ s .resources
+unfolding rising
+rising-apart s a b h =
+    let n = s .resources in
+    let before = earlier (orderIn s) in
+    omega (arith, length-sort before (membersFrom a 0 n), length-sort before (membersFrom b 0 n), members-apart a b 0 n h)
 
-pub phase-room : (t : List ℕ) (on off : ℕ) → Apart on off → length (phaseWords (stationOf 4 t) on off) ≤ countR t
+pub phase-fits : (s : Station) (on off : ℕ) → Apart on off → length (phaseWords s on off) ≤ s .resources
+phase-fits s on off h = omega (arith, phase-long s on off, switch-long false s on, switch-long true s off, rising-apart s on off h)
+
+phase-room : (t : List ℕ) (on off : ℕ) → Apart on off → length (phaseWords (stationOf 4 t) on off) ≤ countR t
 unfolding stationOf
 phase-room t = phase-fits (stationOf 4 t)
 
-pub own-long : (o : Own) → length (ownWords o) ≤ 1
+own-long : (o : Own) → length (ownWords o) ≤ 1
 own-long (Word w) = omega arith
 own-long NoCall = omega arith
+
+-- and with the own call's word R + 1
+pub runs-fit : (t : List ℕ) (on off : ℕ) (o : Own) → Apart on off → length (phaseWords (stationOf 4 t) on off) + length (ownWords o) ≤ 1 + countR t
+runs-fit t on off o h = omega (arith, phase-room t on off h, own-long o)
 
 -- ---- all words
 

@@ -31,7 +31,8 @@ use Rattle.laws.proofs.Demand3.{end-lt, on-lt}
 use Rattle.table.specs.Layout.{Laid}
 use Rattle.table.proofs.Verdicts.{laid-of}
 use Rattle.status.specs.State.{stateOf, bytesOf, withEntry}
-use Rattle.status.proofs.Held.{entries-of, after-entries, after-image}
+use Rattle.status.proofs.Held.{entries-of}
+use Rattle.status.proofs.Written.{after-entries, after-image}
 use Rattle.request.specs.Stages.{stagesOf, stagesVerdict}
 use Rattle.request.proofs.Rules.{form-small, form-device-below}
 use Rattle.planner.specs.Plan.{ownOf, planWords, Apart}

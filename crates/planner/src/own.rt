@@ -6,6 +6,12 @@ ghost use Rattle.rules.specs.Station.{countD, stationOf};
 ghost use Rattle.rules.specs.Calls.{wordOf, methodFor, moveCall, wakeCall, ownLast};
 ghost use Rattle.table.specs.Layout.{Laid};
 ghost use Rattle.planner.specs.Plan.{ownWords, callsMethod, ownOf};
+use crate::word::word_of;
+use rules::Call;
+use rules::Entry;
+use rules::Request;
+use rules::Wake;
+use table::fields;
 
 // The word of the own call, or that there is none.
 pub enum Own {
@@ -38,7 +44,7 @@ fn method_for(x: u32) -> u32
 }
 
 // `_PSx`, for a move of device d to state x.
-fn move_call(table: &[u8], e: rules::Entry, d: u32, x: u32) -> Own
+fn move_call(table: &[u8], e: Entry, d: u32, x: u32) -> Own
     requires { ⌜ Laid (now table) × (d < countD (now table)) × (x ≤ 4) ⌝ }
     ensures { λ r. ⌜ ownWords r ≡ map wordOf (moveCall (stationOf 4 (now (table .entry))) e d x) ⌝ }
 {
@@ -46,45 +52,45 @@ fn move_call(table: &[u8], e: rules::Entry, d: u32, x: u32) -> Own
         return Own::NoCall;
     }
     let m = method_for(x);
-    if !sets::has(words::wide(table::fields::ps(table, d as usize)), m) {
+    if !sets::has(words::wide(fields::ps(table, d as usize)), m) {
         return Own::NoCall;
     }
-    Own::Word(crate::word::word_of(rules::Call::SetState {
+    Own::Word(word_of(Call::SetState {
         device: d as u8,
         state: m as u8,
     }))
 }
 
 // `_DSW`, for arming and disarming.
-fn wake_call(table: &[u8], e: rules::Entry, q: rules::Request) -> Own
+fn wake_call(table: &[u8], e: Entry, q: Request) -> Own
     requires { ⌜ Laid (now table) × (q .device < countD (now table)) × (q .a ≤ 4) × (q .b ≤ 4) ⌝ }
     ensures { λ r. ⌜ ownWords r ≡ map wordOf (wakeCall (stationOf 4 (now (table .entry))) e q) ⌝ }
 {
     let d = q.device;
-    if !sets::has(words::wide(table::fields::flags(table, d as usize)), 1) {
+    if !sets::has(words::wide(fields::flags(table, d as usize)), 1) {
         return Own::NoCall;
     }
     if q.kind == 2 {
-        let wake = rules::Wake::Enable {
+        let wake = Wake::Enable {
             sleep: q.a as u8,
             state: q.b as u8,
         };
-        return Own::Word(crate::word::word_of(rules::Call::SetWake {
+        return Own::Word(word_of(Call::SetWake {
             device: d as u8,
-            wake: wake,
+            wake,
         }));
     }
     if e.armed == 1 {
-        return Own::Word(crate::word::word_of(rules::Call::SetWake {
+        return Own::Word(word_of(Call::SetWake {
             device: d as u8,
-            wake: rules::Wake::Disable,
+            wake: Wake::Disable,
         }));
     }
     Own::NoCall
 }
 
 // The own call of a request in range, for a device whose entry is e.
-pub fn own_call(table: &[u8], e: rules::Entry, q: rules::Request) -> Own
+pub fn own_call(table: &[u8], e: Entry, q: Request) -> Own
     requires { ⌜ Laid (now table) × (q .device < countD (now table)) × (q .a ≤ 4) × (q .b ≤ 4) ⌝ }
     ensures { λ r. ⌜ ownWords r ≡ map wordOf (ownOf (stationOf 4 (now (table .entry))) e q) ⌝ }
 {
@@ -95,7 +101,7 @@ pub fn own_call(table: &[u8], e: rules::Entry, q: rules::Request) -> Own
 }
 
 // Whether the own call comes last: moving to D0, or arming.
-pub fn own_last(q: rules::Request) -> bool
+pub fn own_last(q: Request) -> bool
     ensures { λ r. ⌜ r ≡ ownLast q ⌝ }
 {
     if q.kind == 2 {

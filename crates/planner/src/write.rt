@@ -7,18 +7,24 @@ ghost use Rattle.rules.specs.Station.{countR, countD, stationOf};
 ghost use Rattle.table.specs.Layout.{Laid};
 ghost use Rattle.planner.specs.Phases.{phaseWords};
 ghost use Rattle.planner.specs.Plan.{ownWords, planWords, Apart};
+use crate::order::emit;
+use crate::own::Own;
+use crate::own::own_call;
+use crate::own::own_last;
+use rules::Entry;
+use rules::Request;
 
 // The own call's word, if there is one. The answer is the place after it.
-fn write_own(own: crate::own::Own, plan: &mut [u32], at: usize) -> usize
+fn write_own(own: Own, plan: &mut [u32], at: usize) -> usize
     requires { ⌜ at + length (ownWords own) ≤ length (now plan) ⌝ }
     ensures { λ r. ⌜ (r ≡ at + length (ownWords own)) × (now (plan .exit) ≡ put (now (plan .entry)) at (ownWords own)) ⌝ }
 {
     match own {
-        crate::own::Own::Word(w) => {
+        Own::Word(w) => {
             plan[at] = w;
             at + 1
         }
-        crate::own::Own::NoCall => at,
+        Own::NoCall => at,
     }
 }
 
@@ -27,24 +33,17 @@ fn write_switches(table: &[u8], on: u32, off: u32, plan: &mut [u32], at: usize) 
     requires { ⌜ Laid (now table) × (on < 2 ^ countR (now table)) × (off < 2 ^ countR (now table)) × (at + length (phaseWords (stationOf 4 (now table)) on off) ≤ length (now plan)) ⌝ }
     ensures { λ r. ⌜ (r ≡ at + length (phaseWords (stationOf 4 (now (table .entry))) on off)) × (now (plan .exit) ≡ put (now (plan .entry)) at (phaseWords (stationOf 4 (now (table .entry))) on off)) ⌝ }
 {
-    let p = crate::order::emit(table, false, on, plan, at);
-    crate::order::emit(table, true, off, plan, p)
+    let p = emit(table, false, on, plan, at);
+    emit(table, true, off, plan, p)
 }
 
 // The words of all calls of a request in range, from the start of the plan. The answer is their count.
-pub fn write_calls(
-    table: &[u8],
-    e: rules::Entry,
-    q: rules::Request,
-    on: u32,
-    off: u32,
-    plan: &mut [u32],
-) -> usize
+pub fn write_calls(table: &[u8], e: Entry, q: Request, on: u32, off: u32, plan: &mut [u32]) -> usize
     requires { ⌜ Laid (now table) × (q .device < countD (now table)) × (q .a ≤ 4) × (q .b ≤ 4) × (on < 2 ^ countR (now table)) × (off < 2 ^ countR (now table)) × Apart on off × (33 ≤ length (now plan)) ⌝ }
     ensures { λ r. ⌜ (r ≡ length (planWords (stationOf 4 (now (table .entry))) e q on off)) × (now (plan .exit) ≡ put (now (plan .entry)) 0 (planWords (stationOf 4 (now (table .entry))) e q on off)) ⌝ }
 {
-    let own = crate::own::own_call(table, e, q);
-    if crate::own::own_last(q) {
+    let own = own_call(table, e, q);
+    if own_last(q) {
         let p = write_switches(table, on, off, plan, 0);
         return write_own(own, plan, p);
     }

@@ -2,9 +2,9 @@
 use mathlib.Core.Path.{_≡_, refl, sym, ap, _∙_}
 use mathlib.Core.Bool.{Bool, true, false, not, _&&_, cond}
 use mathlib.Core.List.{List, [], _∷_}
-use Prim.Native.Nat.{ℕ, _+_, _*_, _≤_, _<_}
+use Prim.Native.Nat.{ℕ}
 use native.Mathlib.Omega.{arith}
-use borrow.Author.Tests.{eq-eqb, ne-eqb, ltb-true, ltb-false, not-true, not-false}
+use borrow.Author.Tests.{eq-eqb, ne-eqb, not-true, not-false}
 use lib.Dec.{eqb, ltb}
 use lib.ListN.{length}
 use Rattle.sets.proofs.Laws.{decide}
@@ -13,18 +13,31 @@ use Rattle.rules.specs.declared.State.{State}
 use Rattle.rules.specs.declared.Verdict.{Verdict}
 use Rattle.rules.specs.declared.Verdict.the-variants.{Done, BadState, Inconsistent}
 use Rattle.rules.specs.Index.{least}
-use Rattle.rules.specs.Answers.{numberOf, passes, firstOf, unless, lowest}
-use Rattle.rules.specs.Station.{Station, countR, countD, stationOf}
+use Rattle.rules.specs.Answers.{passes, firstOf, unless, lowest}
+use Rattle.rules.specs.Station.{Station, countR, stationOf}
 use Rattle.rules.specs.Table.{tableVerdict}
-use Rattle.rules.specs.Status.{Status, entriesOf, statusOf, imageOf, freshStatus, entriesGood, onGood, valuesGood, consistencyVerdict, stateVerdict}
+use Rattle.rules.specs.Status.{entriesOf, statusOf, entriesGood, onGood, valuesGood, consistencyVerdict, stateVerdict}
 use Rattle.rules.specs.Outcomes.{outcome, freshVerdict, fresh}
-use Rattle.rules.proofs.Answers.{first-pass, first-stop, unless-of}
+use Rattle.rules.proofs.Answers.{first-pass, first-stop, first-none, first-both, unless-of}
 use Rattle.laws.proofs.Accepted.{accepted}
-use Rattle.table.specs.Layout.{Laid}
 use Rattle.table.proofs.Verdicts.{laid-done, laid-told, accepted-is}
 use Rattle.status.specs.State.{bytesOf, freshState}
 use Rattle.status.specs.Ready.{Ready, statusWith}
 use Rattle.status.proofs.Held.{fresh-image}
+
+-- ---- a chain that passes comes to its last answer
+first-done : (vs : List Verdict) (last : Verdict) → passes (firstOf vs last) ≡ true → firstOf vs last ≡ last
+first-done [] last e = first-none last
+first-done (v ∷ vs) last e = let a = first-both v vs last e in first-pass v vs last (a .0) ∙ first-done vs last (a .1)
+
+-- so for a caller: v is what the check answered, p whether that passes
+pub table-done : (t : List ℕ) (v : Verdict) (p : Bool) → v ≡ tableVerdict 4 t → p ≡ passes v → not p ≡ false → tableVerdict 4 t ≡ Done 0
+unfolding tableVerdict
+table-done t v p e f n = first-done _ (Done 0) (ap passes (sym e) ∙ sym f ∙ not-false p n)
+
+pub state-done : (s : Station) (b : List ℕ) (v : Verdict) (p : Bool) → v ≡ stateVerdict 4 s b → p ≡ passes v → not p ≡ false → stateVerdict 4 s b ≡ Done 0
+unfolding stateVerdict
+state-done s b v p e f n = first-done _ (Done 0) (ap passes (sym e) ∙ sym f ∙ not-false p n)
 
 -- ---- what an accepted table and good entries give; g is what the test of the entries returned
 pub ready-by : (t b : List ℕ) (g : Bool) → tableVerdict 4 t ≡ Done 0 → length b ≡ 132 → g ≡ entriesGood 32 (stationOf 4 t) (entriesOf 4 b) → not g ≡ false → Ready t b

@@ -1,17 +1,14 @@
--- A state, its image and its status say the same: what is loaded and stored, what a fresh state says, and what one entry written changes.
--- Assumes nothing.
-use mathlib.Core.Path.{_≡_, refl, sym, ap, ap₂, _∙_, fun-ext}
-use mathlib.Core.Bool.{Bool, true, false, cond}
+-- A state, its image and its status say the same: what is loaded and stored, and what a fresh state says. Assumes nothing.
+use mathlib.Core.Path.{_≡_, refl, sym, ap, _∙_, fun-ext}
 use mathlib.Core.List.{List, [], _∷_, _++_}
-use mathlib.Core.Logic.{_⊎_, inl, inr, ⊎-elim}
 use Prim.Native.Nat.{ℕ, zero, suc, _+_, _*_, _≤_, _<_}
 use native.Mathlib.Nat.{add-zero}
 use native.Mathlib.Numerals.{towards-suc}
 use native.Mathlib.Omega.{arith}
-use borrow.Author.Tests.{eqb-true, eqb-false, eq-eqb, ltb-true, ltb-false}
-use lib.Dec.{eqb, ltb}
-use lib.ListN.{length, getD, set, take, drop, replicate, length-set, length-append, length-drop, length-replicate, getD-replicate, take-append-drop, drop-of-length-le}
-use lib.Seq.{sets, length-take-le, take-all, getD-take, drop-cons, getD-set-same, getD-set-other, length-sets}
+use borrow.Author.Tests.{ltb-true, ltb-false}
+use lib.Dec.{ltb}
+use lib.ListN.{length, getD, take, drop, replicate, length-append, length-drop, length-replicate, getD-replicate, take-append-drop, drop-of-length-le}
+use lib.Seq.{length-take-le, take-all, getD-take, drop-cons}
 use Rattle.sets.specs.Sets.{firstN}
 use Rattle.sets.proofs.Laws.{decide}
 use Rattle.words.specs.Words.{readLE, bytesLE, put}
@@ -20,15 +17,11 @@ use Rattle.words.proofs.Below.{below-drop}
 use Rattle.words.proofs.Put.{Emitted, emitted-run, put-all}
 use Rattle.rules.specs.declared.State.{State}
 use Rattle.rules.specs.declared.Entry.{Entry}
-use Rattle.rules.specs.declared.Request.{Request}
 use Rattle.rules.specs.Index.{below}
 use Rattle.rules.specs.Station.{Station}
-use Rattle.rules.specs.Status.{Status, noEntry, entryAt, entryBytes, entriesOf, statusOf, entriesBytes, imageOf, freshStatus}
-use Rattle.rules.specs.Power.{needed}
-use Rattle.rules.specs.Request.{newEntry, entriesAfter}
-use Rattle.rules.specs.Calls.{endSet, statusAfter}
+use Rattle.rules.specs.Status.{noEntry, entryAt, entryBytes, entriesOf, statusOf, entriesBytes, imageOf, freshStatus}
 use Rattle.rules.proofs.Index.{below-in, below-out}
-use Rattle.status.specs.State.{stateOf, bytesOf, statusIn, freshState, withEntry}
+use Rattle.status.specs.State.{stateOf, bytesOf, statusIn, freshState}
 
 -- ---- one entry
 
@@ -48,7 +41,7 @@ entries-ext b f h out =
     (λ e. entry-out b k (ltb-false k 32 e) ∙ sym (out k (ltb-false k 32 e))))
 
 -- lists that agree at the four bytes from n on have the same entry there
-entry-same : (a b : List ℕ) (n : ℕ) → ((i : ℕ) → i < 4 → getD a (n + i) 0 ≡ getD b (n + i) 0) → entryAt a n ≡ entryAt b n
+pub entry-same : (a b : List ℕ) (n : ℕ) → ((i : ℕ) → i < 4 → getD a (n + i) 0 ≡ getD b (n + i) 0) → entryAt a n ≡ entryAt b n
 unfolding entryAt
 entry-same a b n h =
     rw (rw add-zero at (h 0 (omega arith)), h 1 (omega arith), h 2 (omega arith), h 3 (omega arith)) refl
@@ -137,80 +130,11 @@ fresh-is n on e = rw e refl
 pub fresh-status : (s : Station) → statusIn (freshState (s .resources)) ≡ freshStatus s
 unfolding statusIn freshState freshStatus entryAt
 fresh-status s =
-    rw (entries-ext (replicate 128 0) (λ k. noEntry)
-    (λ k h. rw (getD-replicate {A = ℕ} 128 (4 * k) 0 0 (omega arith), getD-replicate {A = ℕ} 128 (4 * k + 1) 0 0 (omega arith), getD-replicate {A = ℕ} 128 (4 * k + 2) 0 0 (omega arith), getD-replicate {A = ℕ} 128 (4 * k + 3) 0 0 (omega arith)) refl)
-    (λ k h. refl)) refl
+    let none : (k : ℕ) → k < 32 → entryAt (replicate 128 0) (4 * k) ≡ noEntry = λ k h. entry-same (replicate 128 0) [] (4 * k) (λ i l. getD-replicate {A = ℕ} 128 (4 * k + i) 0 0 (omega arith)) in
+    rw (entries-ext (replicate 128 0) (λ k. noEntry) none (λ k h. refl)) refl
 
 pub fresh-image : (s : Station) → bytesOf (freshState (s .resources)) ≡ imageOf 4 (freshStatus s)
 unfolding freshState
 fresh-image s = sym (image-of (freshState (s .resources)) (length-replicate {A = ℕ} 128 0)) ∙ ap (imageOf 4) (fresh-status s)
 
--- ---- an entry written
-
--- a run of stores leaves what is before and after it
-sets-other : (vs l : List ℕ) (i j : ℕ) → (j < i) ⊎ (i + length vs ≤ j) → getD (sets l i vs) j 0 ≡ getD l j 0
-sets-other [] l i j h = refl
-sets-other (a ∷ vs) l i j h =
-    sets-other vs (set l i a) (suc i) j (⊎-elim (λ g. inl (omega arith)) (λ g. inr (omega arith)) h)
-    ∙ getD-set-other l i j a 0 (⊎-elim (λ g e. omega arith) (λ g e. omega arith) h)
-
-sets-same : (vs l : List ℕ) (i j : ℕ) → j < length vs → i + j < length l → getD (sets l i vs) (i + j) 0 ≡ getD vs j 0
-sets-same [] l i j h g = absurd (omega arith)
-sets-same (a ∷ vs) l i zero h g =
-    rw add-zero (sets-other vs (set l i a) (suc i) i (inl (omega arith)) ∙ getD-set-same l i a 0 (omega arith))
-sets-same (a ∷ vs) l i (suc j) h g =
-    let n : i + suc j ≡ suc i + j = omega arith in
-    rw n (sets-same vs (set l i a) (suc i) j (omega arith) (simp length-set (omega arith)))
-
-pub entry-written : (ds : List ℕ) (d : ℕ) (e : Entry) → d < 32 → length ds ≡ 128 → entriesOf 4 (sets ds (4 * d) (entryBytes e)) d ≡ e
-unfolding entryBytes entryAt
-entry-written ds d e h l =
-    let vs = e .state ∷ e .armed ∷ e .sleep ∷ e .wake ∷ [] in
-    let at : (j : ℕ) → j < 4 → getD (sets ds (4 * d) vs) (4 * d + j) 0 ≡ getD vs j 0 = λ j g. sets-same vs ds (4 * d) j g (omega arith) in
-    entry-in (sets ds (4 * d) vs) d h ∙ rw (rw add-zero at (at 0 (omega arith)), at 1 (omega arith), at 2 (omega arith), at 3 (omega arith)) refl
-
-pub entry-kept : (ds : List ℕ) (d k : ℕ) (e : Entry) → (k ≡ d → ⊥) → entriesOf 4 (sets ds (4 * d) (entryBytes e)) k ≡ entriesOf 4 ds k
-unfolding entryBytes
-entry-kept ds d k e n =
-    let vs = e .state ∷ e .armed ∷ e .sleep ∷ e .wake ∷ [] in
-    let apart : (k < d) ⊎ (d < k) = decide (ltb k d) (λ a. inl (ltb-true k d a)) (λ a. inr (omega (arith, ltb-false k d a))) in
-    decide (ltb k 32)
-    (λ a. entry-in (sets ds (4 * d) vs) k (ltb-true k 32 a)
-    ∙ entry-same (sets ds (4 * d) vs) ds (4 * k) (λ i g. sets-other vs ds (4 * d) (4 * k + i) (⊎-elim (λ b. inl (omega arith)) (λ b. inr (omega arith)) apart))
-    ∙ sym (entry-in ds k (ltb-true k 32 a)))
-    (λ a. entry-out (sets ds (4 * d) vs) k (ltb-false k 32 a) ∙ sym (entry-out ds k (ltb-false k 32 a)))
-
--- the four stores, as the code makes them
-pub with-is : (st : State) (d : ℕ) (e : Entry)
-    → record { devices = set (set (set (set (st .devices) (4 * d) (e .state)) (4 * d + 1) (e .armed)) (4 * d + 2) (e .sleep)) (4 * d + 3) (e .wake); on = st .on } ≡ withEntry st d e
-unfolding withEntry entryBytes
-with-is st d e = simp towards-suc
-
--- the request's new entry written, the entries are those after the request
-pub after-entries : (st : State) (q : Request) (e : Entry) → q .device < 32 → length (st .devices) ≡ 128 → e ≡ newEntry (entriesOf 4 (st .devices) (q .device)) q
-    → entriesOf 4 (withEntry st (q .device) e .devices) ≡ entriesAfter (entriesOf 4 (st .devices)) q
-unfolding withEntry entriesAfter
-after-entries st q e h l n =
-    let ds = st .devices in
-    fun-ext
-    (λ k. decide (eqb k (q .device)) (λ z. rw (z, eqb-true k (q .device) z) (entry-written ds (q .device) e h l ∙ n))
-    (λ z. rw z (entry-kept ds (q .device) k e (eqb-false k (q .device) z))))
-
-with-long : (st : State) (d : ℕ) (e : Entry) → length (withEntry st d e .devices) ≡ length (st .devices)
-unfolding withEntry
-with-long st d e = length-sets (st .devices) (4 * d) (entryBytes e)
-
--- and the image of that, with the set at the request's end, is the image after the request
-pub after-image : (s : Station) (b : List ℕ) (q : Request) (e : Entry) (on : ℕ) → length b ≡ 132 → q .device < 32 → e ≡ newEntry (entriesOf 4 (stateOf b .devices) (q .device)) q
-    → on ≡ needed s (entriesOf 4 (withEntry (stateOf b) (q .device) e .devices))
-    → bytesOf (record { devices = withEntry (stateOf b) (q .device) e .devices; on = on }) ≡ imageOf 4 (statusAfter s (statusOf 4 b) q)
-unfolding statusAfter endSet statusIn
-after-image s b q e on l h n f =
-    let st = stateOf b in
-    let long : length (st .devices) ≡ 128 = unfold stateOf in length-take-le 128 b (omega arith) in
-    let new : State = record { devices = withEntry st (q .device) e .devices; on = on } in
-    let es : entriesOf 4 (new .devices) ≡ entriesAfter (statusOf 4 b .entries) q = after-entries st q e h long n ∙ ap (λ (x : ℕ → Entry). entriesAfter x q) (entries-of b) in
-    let same : statusIn new ≡ statusAfter s (statusOf 4 b) q = rw (f, es) refl in
-    sym (image-of new (with-long st (q .device) e ∙ long)) ∙ ap (imageOf 4) same
-
-pub ruleset held = (entry-read, loaded, stored, fresh-is, with-is)
+pub ruleset held = (entry-read, loaded, stored, fresh-is)

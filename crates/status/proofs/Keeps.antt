@@ -1,6 +1,6 @@
 -- A device's consistency by its parts, and the needed set by its turns: one law for each way out of the code that tests or sums them.
 -- Assumes nothing.
-use mathlib.Core.Path.{_≡_, refl, sym, ap, _∙_}
+use mathlib.Core.Path.{_≡_, refl, ap, _∙_}
 use mathlib.Core.Bool.{Bool, true, false, not, _&&_, _||_}
 use mathlib.Core.Logic.{⊎-elim}
 use mathlib.Core.List.{List}
@@ -16,7 +16,7 @@ use Rattle.rules.specs.Answers.{lowest}
 use Rattle.rules.specs.Station.{Station, countD, stationOf}
 use Rattle.rules.specs.Table.{parentGood}
 use Rattle.rules.specs.Power.{supported, needs, neededBelow, needed, wakePair}
-use Rattle.rules.specs.Status.{Status, entriesOf, entryGood, entryZero, entriesGood, underParent, wakeSound, consistentButPower, powered, consistent, consistencyVerdict}
+use Rattle.rules.specs.Status.{Status, entriesOf, entryGood, entriesGood, underParent, wakeSound, consistentButPower, powered, consistent, consistencyVerdict}
 use Rattle.rules.proofs.Index.{every-at}
 use Rattle.laws.proofs.Tests.{both-true, or-cases}
 use Rattle.table.specs.Layout.{Laid}

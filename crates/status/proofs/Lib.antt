@@ -1,4 +1,5 @@
 pub mod Held
+pub mod Written
 pub mod Loops
 pub mod Ranges
 pub mod Keeps

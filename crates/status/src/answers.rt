@@ -1,7 +1,6 @@
 // Answers 7 and 8 of a lent image, and a fresh state written into lent bytes.
 ghost use mathlib.Core.Path.{_≡_};
 ghost use Rattle.rules.specs.declared.Verdict.the-variants.{Done};
-ghost use Rattle.rules.specs.Answers.{passes};
 ghost use Rattle.rules.specs.Station.{stationOf};
 ghost use Rattle.rules.specs.Table.{tableVerdict};
 ghost use Rattle.rules.specs.Status.{stateVerdict};

@@ -12,8 +12,8 @@ ghost use Rattle.table.specs.Layout.{Laid};
 pub fn entry_good(e: rules::Entry) -> bool
     ensures { λ r. ⌜ r ≡ entryGood e ⌝ }
 {
-    let unarmed = (e.sleep == 0) & (e.wake == 0);
-    (e.state <= 4) & (e.armed <= 1) & (e.sleep <= 4) & (e.wake <= 4) & ((e.armed == 1) | unarmed)
+    let no_pair = (e.sleep == 0) & (e.wake == 0);
+    (e.state <= 4) & (e.armed <= 1) & (e.sleep <= 4) & (e.wake <= 4) & ((e.armed == 1) | no_pair)
 }
 
 // All four bytes zero.
@@ -24,7 +24,7 @@ pub fn entry_zero(e: rules::Entry) -> bool
 }
 
 // Entry k is good, and zero where there is no device k.
-pub fn place_good(table: &[u8], devices: &[u8], k: usize) -> bool
+fn place_good(table: &[u8], devices: &[u8], k: usize) -> bool
     requires { ⌜ Laid (now table) × (128 ≤ length (now devices)) × (k < 32) ⌝ }
     ensures { λ r. ⌜ r ≡ entryGood (entriesOf 4 (now (devices .entry)) k) && (ltb k (stationOf 4 (now (table .entry)) .devices) || entryZero (entriesOf 4 (now (devices .entry)) k)) ⌝ }
 {

@@ -7,14 +7,12 @@ use Prim.Native.Nat.{ℕ, _+_, _*_, _-_, _<_, _≤_}
 use native.Mathlib.Nat.{sub-zero, add-sub-cancel-left}
 use native.Mathlib.Omega.{arith}
 use borrow.Author.Tests.{eqb-true, leb-true, eq-eqb, lt-ltb, le-ltb, le-leb, lt-leb, not-true, not-false}
-use types.Run.{OneOf, miss}
-use denote.Enum.Declared.{tagOf}
 use lib.Dec.{eqb, leb}
 use lib.ListN.{length, getD, take, drop}
 use Rattle.sets.proofs.Laws.{decide}
 use Rattle.words.specs.Words.{readLE}
 use Rattle.rules.specs.declared.Verdict.{Verdict}
-use Rattle.rules.specs.declared.Verdict.the-variants.{Done, NotATable, TooMany, WrongLength, BadResource, BadDevice, BadObjects, BadState, Inconsistent, NoRoom, BadRequest, Unsupported, Shallower, ParentDeeper, ChildShallower, TooDeepToWake, NoWake, WakeUnpowered, BadWakeState, NotConforming}
+use Rattle.rules.specs.declared.Verdict.the-variants.{Done, NotATable, TooMany, WrongLength, BadResource, BadDevice, BadObjects}
 use Rattle.rules.specs.Index.{leastFrom, least}
 use Rattle.rules.specs.Answers.{passes, firstOf, unless, lowest}
 use Rattle.rules.specs.Station.{countR, countD, deviceStart, deviceAt}
@@ -24,7 +22,6 @@ use Rattle.rules.proofs.Index.{found, next, done}
 use Rattle.rules.proofs.Answers.{first-pass, first-stop, first-none, unless-of, unless-stop, lowest-stop}
 use Rattle.laws.proofs.Accepted.{accepted}
 use Rattle.laws.proofs.Tests.{both-true}
-use Rattle.rules.proofs.Verdict.{the-type}
 use Rattle.table.specs.Layout.{Laid}
 
 -- ---- each check, on the bytes
@@ -91,6 +88,7 @@ laid-by t h c l a x b y d z =
     let counts = both-true _ _ (sym b ∙ not-false c y) in
     (record { head = long-of t header; resources = leb-true _ _ (counts .0); devices = leb-true _ _ (counts .1); long = eqb-true _ _ (sym d ∙ not-false l z) }, header)
 
+-- the answer for a bad device is a refusal
 refuses : (t : List ℕ) (d : ℕ) → passes (deviceRefusal 4 t d) ≡ false
 unfolding passes deviceRefusal
 refuses t d = decide (fieldsGood 4 t d) (λ e. rw e refl) (λ e. rw e refl)
@@ -176,7 +174,7 @@ module _ (t : List ℕ) where
 
 pub ruleset table-answers = (long-enough, no-table, too-many, wrong-length, bad-resource, bad-device, all-pass)
 
--- ---- what an accepted table is known to have
+-- ---- what an accepted table is known to have: from the rules, and from what a caller knows of the answer v of the check, and b whether it passes
 pub laid-of : (t : List ℕ) → passes (tableVerdict 4 t) ≡ true → Laid t
 laid-of t e =
     let a = accepted 4 t e in
@@ -185,6 +183,18 @@ laid-of t e =
 pub laid-done : (t : List ℕ) (n : ℕ) → tableVerdict 4 t ≡ Done n → Laid t
 unfolding passes
 laid-done t n e = laid-of t (ap passes e)
+
+pub laid-matched : (t : List ℕ) (v : Verdict) (n : ℕ) → v ≡ tableVerdict 4 t → v ≡ Done n → Laid t
+laid-matched t v n e f = laid-done t n (sym e ∙ f)
+
+pub accepted-is : (t : List ℕ) (v : Verdict) (b : Bool) → v ≡ tableVerdict 4 t → b ≡ passes v → b ≡ passes (tableVerdict 4 t)
+accepted-is t v b e f = f ∙ ap passes e
+
+pub laid-told : (t : List ℕ) (b : Bool) → b ≡ passes (tableVerdict 4 t) → not b ≡ false → Laid t
+laid-told t b e p = laid-of t (sym e ∙ not-false b p)
+
+pub laid-passed : (t : List ℕ) (v : Verdict) (b : Bool) → v ≡ tableVerdict 4 t → b ≡ passes v → not b ≡ false → Laid t
+laid-passed t v b e f p = laid-told t b (accepted-is t v b e f) p
 
 -- ---- a device's record
 module _ (t : List ℕ) (d : ℕ) (b : Bool) (e : b ≡ passes (tableVerdict 4 t)) where
@@ -200,39 +210,4 @@ module _ (t : List ℕ) (d : ℕ) (b : Bool) (e : b ≡ passes (tableVerdict 4 t
   unfolding recordPart
   part-is n at f g p h = rw (add-sub-cancel-left, sym e ∙ not-false b p, lt-ltb d (countD t) (rw f at h), g) refl
 
--- an accepted table's layout, from the answer of the function that checks
-pub laid-told : (t : List ℕ) (b : Bool) → b ≡ passes (tableVerdict 4 t) → not b ≡ false → Laid t
-laid-told t b e p = laid-of t (sym e ∙ not-false b p)
-
-pub accepted-is : (t : List ℕ) (v : Verdict) (b : Bool) → v ≡ tableVerdict 4 t → b ≡ passes v → b ≡ passes (tableVerdict 4 t)
-accepted-is t v b e f = f ∙ ap passes e
-
 pub ruleset record-part = (part-refused, part-past, part-is)
-
--- ---- the answers that pass, by the variant's number
-pub done-passes : (v : Verdict) (n : ℕ) → v ≡ Done n → true ≡ passes v
-unfolding passes
-done-passes v n e = rw e
-
-pub others-refuse : (v : Verdict) → OneOf (1 ∷ 2 ∷ 3 ∷ 4 ∷ 5 ∷ 6 ∷ 7 ∷ 8 ∷ 9 ∷ 10 ∷ 11 ∷ 12 ∷ 13 ∷ 14 ∷ 15 ∷ 16 ∷ 17 ∷ 18 ∷ 19 ∷ []) (tagOf the-type v) → false ≡ passes v
-unfolding passes
-others-refuse (Done n) h = absurd (miss (1 ∷ 2 ∷ 3 ∷ 4 ∷ 5 ∷ 6 ∷ 7 ∷ 8 ∷ 9 ∷ 10 ∷ 11 ∷ 12 ∷ 13 ∷ 14 ∷ 15 ∷ 16 ∷ 17 ∷ 18 ∷ 19 ∷ []) 0 tt h)
-others-refuse NotATable h = refl
-others-refuse TooMany h = refl
-others-refuse WrongLength h = refl
-others-refuse (BadResource r) h = refl
-others-refuse (BadDevice d) h = refl
-others-refuse (BadObjects d) h = refl
-others-refuse BadState h = refl
-others-refuse (Inconsistent d) h = refl
-others-refuse NoRoom h = refl
-others-refuse BadRequest h = refl
-others-refuse Unsupported h = refl
-others-refuse Shallower h = refl
-others-refuse (ParentDeeper p) h = refl
-others-refuse (ChildShallower c) h = refl
-others-refuse TooDeepToWake h = refl
-others-refuse NoWake h = refl
-others-refuse WakeUnpowered h = refl
-others-refuse BadWakeState h = refl
-others-refuse NotConforming h = refl

@@ -150,21 +150,11 @@ pub fn check_table(table: &[u8]) -> Verdict
     check_records(table)
 }
 
-// Whether an answer is no refusal.
-fn passes(v: Verdict) -> bool
-    ensures { λ b. ⌜ b ≡ passes v ⌝ }
-{
-    match v {
-        Verdict::Done(_) => true,
-        _ => false,
-    }
-}
-
 // Whether bytes are a power table.
 pub fn accepted(table: &[u8]) -> bool
     ensures { λ b. ⌜ b ≡ passes (tableVerdict 4 (now (table .entry))) ⌝ }
 {
-    passes(check_table(table))
+    rules::passes(check_table(table))
 }
 
 // A device's own bytes of the table; empty if the table is refused or the number is not below D.

@@ -1,8 +1,5 @@
 -- `planner::write::write_switches` meets its contract. Two runs, one after the other. Assumes nothing.
-use mathlib.Core.Bool.{true, false}
-use native.Mathlib.Omega.{arith}
 use Rattle.rules.specs.Station.{stationOf}
-use Rattle.planner.specs.Phases.{switchWords, phaseWords}
 use Rattle.planner.proofs.Run.{two-runs, phase-is, phase-long}
 use borrow.Author.Needs.{needs}
 use Rattle.planner.proofs.write.write_switches.Statement.{statement}

@@ -1,6 +1,6 @@
 -- Four stores, one after another, are the entry's bytes in their place. Assumes nothing.
 use borrow.Author.Needs.{needs}
-use Rattle.status.proofs.Held.{held}
+use Rattle.status.proofs.Written.{with-is}
 use Rattle.status.proofs.image.with_entry.Statement.{statement}
 use Rattle.status.proofs.image.with_entry.Tie as tie
 
@@ -16,4 +16,4 @@ with-entry-spec =
     (λ c. search needs)
     (λ c. search needs)
     (λ c. search needs)
-    (λ c. search (needs, held)))
+    (λ c. search with-is))

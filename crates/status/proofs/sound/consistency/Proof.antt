@@ -2,7 +2,7 @@
 use Prim.Native.Nat.{_≤_, _-_}
 use mathlib.Core.Path.{_≡_}
 use borrow.Author.Needs.{needs}
-use Rattle.rules.specs.Station.{countD, stationOf}
+use Rattle.rules.specs.Station.{stationOf}
 use Rattle.rules.specs.Status.{consistent}
 use Rattle.status.specs.Ready.{statusWith}
 use Rattle.status.proofs.Loops.{Looking, looks}

@@ -5,7 +5,6 @@ use mathlib.Core.Bool.{_&&_, _||_}
 use lib.Dec.{ltb}
 use borrow.Author.Needs.{needs}
 use borrow.Author.Tests.{not-true, not-false}
-use Rattle.rules.specs.Index.{every}
 use Rattle.rules.specs.Station.{stationOf}
 use Rattle.rules.specs.Status.{entriesOf, entryGood, entryZero, entriesGood}
 use Rattle.power.proofs.Every.{everyFrom, everyOf}

@@ -19,6 +19,5 @@ abbrev μ-loop : tie.MeasureT-loop
 pub lowest-resource-spec : {M : Type 1} → statement M
 lowest-resource-spec =
     tie.close
-    (tie.spec Inv-loop μ-loop (λ c κs. search (needs, lowest-bad)) (λ c. search (needs, lowest-bad)) (λ c. search (needs, lowest-bad))
-    (λ c κs. search (needs, lowest-bad)) (λ c. search (needs, lowest-bad)) (λ c. search (needs, lowest-bad)) (λ c. search (needs, lowest-bad))
-    (λ c. search (needs, lowest-bad)))
+    (tie.spec Inv-loop μ-loop (λ c κs. search needs) (λ c. search (needs, lowest-bad)) (λ c. search needs) (λ c κs. search needs)
+    (λ c. search (needs, lowest-bad)) (λ c. search needs) (λ c. search (needs, lowest-bad)) (λ c. search (needs, lowest-bad)))

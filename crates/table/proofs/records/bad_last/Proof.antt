@@ -18,7 +18,6 @@ abbrev μ-loop : tie.MeasureT-loop
 pub bad-last-spec : {M : Type 1} → statement M
 bad-last-spec =
     tie.close
-    (tie.spec Inv-loop μ-loop (λ c κs. search (needs, last-part)) (λ c. search (needs, last-part)) (λ c. search (needs, last-part))
-    (λ c. search (needs, last-part)) (λ c. search (needs, last-part)) (λ c. search (needs, last-part)) (λ c. search (needs, last-part))
-    (λ c. search (needs, last-part)) (λ c. search (needs, last-part)) (λ c. search (needs, last-part)) (λ c. search (needs, last-part))
-    (λ c. search (needs, last-part)))
+    (tie.spec Inv-loop μ-loop (λ c κs. search needs) (λ c. search (needs, last-part)) (λ c. search (needs, last-part)) (λ c. search needs)
+    (λ c. search needs) (λ c. search needs) (λ c. search needs) (λ c. search needs) (λ c. search (needs, last-part)) (λ c. search needs)
+    (λ c. search (needs, last-part)) (λ c. search (needs, last-part)))

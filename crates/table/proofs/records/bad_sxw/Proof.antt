@@ -22,5 +22,5 @@ loop-holds c = (search needs, refl)
 pub bad-sxw-spec : {M : Type 1} → statement M
 bad-sxw-spec =
     tie.close
-    (tie.spec Inv-loop μ-loop loop-holds (λ c. search (needs, rising)) (λ c κs. search (needs, rising)) (λ c. search (needs, rising))
-    (λ c. search (needs, rising)) (λ c. search (needs, rising)) (λ c. search (needs, rising)) (λ c. search (needs, rising)))
+    (tie.spec Inv-loop μ-loop loop-holds (λ c. search needs) (λ c κs. search needs) (λ c. search needs) (λ c. search (needs, rising)) (λ c. search needs)
+    (λ c. search (needs, rising)) (λ c. search (needs, rising)))
