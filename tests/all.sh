@@ -31,7 +31,13 @@ proofs() {
   rm -f "$log"
 }
 
+# the bench program's stored output is what an independent script works out from document 01
+bench_output() {
+  python3 tests/bench_expected.py | diff - crates/bench/stdout
+}
+
 step rt fmt --check
+step bench_output
 proofs
 echo "$passed passed, $failed failed"
 [ "$failed" -eq 0 ]

@@ -1,0 +1,34 @@
+-- The sum is at most 255 for each byte passed. Assumes nothing.
+use Prim.Native.Nat.{_≤_, _*_, _-_}
+use borrow.Author.Needs.{needs}
+use lib.ListN.{length}
+use Rattle.bench.proofs.lines.total.Statement.{statement}
+use Rattle.bench.proofs.lines.total.Tie as tie
+
+abbrev Inv-loop : tie.InvT-loop
+Inv-loop bytes sum₀ i₀ sum i = (i ≤ length bytes) × (sum ≤ 255 * i)
+
+abbrev μ-loop : tie.MeasureT-loop
+μ-loop bytes sum₀ i₀ sum i = length bytes - i
+
+add-sum : tie.Need-add-sum Inv-loop μ-loop
+add-sum c = search needs
+
+loop-again : tie.Need-loop-again Inv-loop μ-loop
+loop-again c = search needs
+
+pub total-spec : {M : Type 1} → statement M
+total-spec =
+    tie.close
+    (tie.spec
+    Inv-loop
+    μ-loop
+    (λ c. search needs)
+    (λ c. search needs)
+    (λ c κs. search needs)
+    (λ c. search needs)
+    add-sum
+    (λ c. search needs)
+    (λ c. search needs)
+    loop-again
+    (λ c. search needs))

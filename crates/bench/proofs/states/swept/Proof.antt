@@ -1,0 +1,16 @@
+-- The part that is lent has the length that its slice says. Assumes nothing.
+use borrow.Author.Needs.{needs}
+use Rattle.bench.proofs.Parts.{parts}
+use Rattle.bench.proofs.states.swept.Statement.{statement}
+use Rattle.bench.proofs.states.swept.Tie as tie
+
+pub swept-spec : {M : Type 1} → statement M
+swept-spec =
+    tie.close
+    (tie.spec
+    (λ c κs. search needs)
+    (λ c κs. search needs)
+    (λ c. search needs)
+    (λ c. search (needs, parts))
+    (λ c κs. search needs)
+    (λ c. search needs))

@@ -1,0 +1,20 @@
+-- The part that is lent has the length that its slice says. Assumes nothing.
+use borrow.Author.Needs.{needs}
+use Rattle.bench.proofs.Parts.{parts}
+use Rattle.bench.proofs.tables.one.Statement.{statement}
+use Rattle.bench.proofs.tables.one.Tie as tie
+
+pub one-spec : {M : Type 1} → statement M
+one-spec =
+    tie.close
+    (tie.spec
+    (λ c. search needs)
+    (λ c κs. search needs)
+    (λ c κs. search needs)
+    (λ c κs. search needs)
+    (λ c κs. search needs)
+    (λ c. search needs)
+    (λ c. search (needs, parts))
+    (λ c κs. search needs)
+    (λ c κs. search needs)
+    (λ c. search needs))
