@@ -39,7 +39,7 @@ use Rattle.planner.specs.Plan.{ownOf, planWords, Apart}
 use Rattle.planner.specs.After.{afterOf, Asked, Carried}
 
 -- ---- what the checks have shown
-stages-passed : (room : Bool) (t b : List ℕ) (q : Request) → passes (stagesVerdict room t b q) ≡ true → Stages 4 t b q
+pub stages-passed : (room : Bool) (t b : List ℕ) (q : Request) → passes (stagesVerdict room t b q) ≡ true → Stages 4 t b q
 unfolding stagesVerdict stagesOf requestStage
 stages-passed room t b q e =
     let x = first-both _ _ _ e in
@@ -84,7 +84,7 @@ apart x y r = rw (member-minus x y r, member-minus y x r) (go (member x r) (memb
     go false true = refl
     go false false = refl
 
-own-of : (s : Station) (entries : ℕ → Entry) (q : Request) (e : Entry) → e ≡ entries (q .device) → ownOf s e q ≡ ownCall s entries q
+pub own-of : (s : Station) (entries : ℕ → Entry) (q : Request) (e : Entry) → e ≡ entries (q .device) → ownOf s e q ≡ ownCall s entries q
 unfolding ownOf ownCall
 own-of s entries q e h = rw h refl
 
@@ -100,7 +100,7 @@ module _ (t b : List ℕ) (q : Request) (g : Asked t b q) (before : State) (e ne
   small-device : q .device < 32
   small-device = omega (arith, g .device, g .laid .devices)
 
-  entry-is : e ≡ statusOf 4 b .entries (q .device)
+  pub entry-is : e ≡ statusOf 4 b .entries (q .device)
   entry-is = i ∙ ap (λ (x : State). entriesOf 4 (x .devices) (q .device)) h ∙ ap (λ (f : ℕ → Entry). f (q .device)) (entries-of b)
 
   new-is : ne ≡ newEntry (entriesOf 4 (stateOf b .devices) (q .device)) q
@@ -110,13 +110,13 @@ module _ (t b : List ℕ) (q : Request) (g : Asked t b q) (before : State) (e ne
   unfolding stateOf
   devices-long = length-take-le 128 b (omega (arith, g .long))
 
-  on-after : after .on ≡ endSet (stationOf 4 t) (statusOf 4 b .entries) q
+  pub on-after : after .on ≡ endSet (stationOf 4 t) (statusOf 4 b .entries) q
   unfolding afterOf endSet
   on-after =
       ap (λ (x : State). x .on) (k ∙ ap (λ (x : State). afterOf (stationOf 4 t) x (q .device) ne) h)
       ∙ ap (needed (stationOf 4 t)) (after-entries (stateOf b) q ne small-device devices-long new-is ∙ ap (λ (f : ℕ → Entry). entriesAfter f q) (entries-of b))
 
-  on-before : before .on ≡ statusOf 4 b .on
+  pub on-before : before .on ≡ statusOf 4 b .on
   on-before = ap (λ (x : State). x .on) h ∙ state-on b
 
   pub on-small : (on : ℕ) → on ≡ minus (after .on) (before .on) → on < 2 ^ countR t

@@ -12,7 +12,7 @@ ghost use Rattle.table.specs.Layout.{Laid};
 ghost use Rattle.planner.specs.After.{afterOf, Asked, Carried};
 
 // The state after the request: the device's new entry, and exactly what is then needed on.
-fn next_state(table: &[u8], before: State, d: usize, e: Entry) -> State
+pub fn next_state(table: &[u8], before: State, d: usize, e: Entry) -> State
     requires { ⌜ Laid (now table) × (d < countD (now table)) ⌝ }
     ensures { λ r. ⌜ r ≡ afterOf (stationOf 4 (now (table .entry))) before d e ⌝ }
 {

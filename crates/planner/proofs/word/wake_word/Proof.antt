@@ -5,7 +5,7 @@ use Rattle.planner.proofs.word.wake_word.Statement.{statement}
 use Rattle.planner.proofs.word.wake_word.Tie as tie
 
 add-word4 : tie.Need-add-word4
-add-word4 c = search wake-room
+add-word4 c = search (needs, wake-room)
 
 returns : tie.Need-returns
 returns c = cc
