@@ -36,8 +36,28 @@ bench_output() {
   python3 tests/bench_expected.py | diff - crates/bench/stdout
 }
 
+# the host side without the static library: the independent reference, the generators of cases, the command over the reference
+host() {
+  local log status sums
+  log=$(mktemp)
+  echo "== cargo test (host)"
+  cargo test --offline --manifest-path host/Cargo.toml --workspace --no-default-features > "$log" 2>&1
+  status=$?
+  sums=$(awk '/^test result:/ { p += $4; f += $6 } END { print p + 0, f + 0 }' "$log")
+  grep -E '^test result:|FAILED|panicked' "$log"
+  passed=$((passed + ${sums% *}))
+  failed=$((failed + ${sums#* }))
+  if [ "$status" -ne 0 ] || [ "${sums% *}" -eq 0 ]; then
+    [ "${sums#* }" -gt 0 ] || failed=$((failed + 1))
+    tail -n 40 "$log"
+    echo "FAILED: cargo test (status $status)"
+  fi
+  rm -f "$log"
+}
+
 step rt fmt --check
 step bench_output
+host
 proofs
 echo "$passed passed, $failed failed"
 [ "$failed" -eq 0 ]

@@ -1,0 +1,220 @@
+//! Seeded random inputs for comparing two planners.
+//!
+//! [`Cases`] gives one case after the other without end. A station is drawn, a
+//! walk of requests leads it from its fresh state or a drawn one through others,
+//! and each step of the walk is a case. Some cases are damaged on purpose: the table, the state, the request,
+//! the room for the plan or the list. The same seed gives the same cases.
+//!
+//! [`sweep`] has small sets of inputs that are gone through completely, and
+//! [`Guarded`] lends a buffer between two runs of bytes that must stay as they are.
+
+#![forbid(unsafe_code)]
+
+mod damage;
+mod guard;
+mod lists;
+mod requests;
+mod rng;
+mod states;
+mod station;
+pub mod sweep;
+
+use std::fmt;
+
+use reference::{fresh, plan, Request, PLAN_BYTES, STATE_BYTES};
+
+pub use damage::{damage_state, damage_table};
+pub use guard::Guarded;
+pub use lists::{permute_equal_orders, vary_list};
+pub use requests::{any_request, likely_request};
+pub use rng::Rng;
+pub use states::draw_state;
+pub use station::{Record, Resource, Station, SHAPES};
+
+/// One input for every function.
+#[derive(Clone, Default, PartialEq, Eq)]
+pub struct Case {
+    /// The table.
+    pub table: Vec<u8>,
+    /// The state lent to planner and checker.
+    pub state: Vec<u8>,
+    /// The request.
+    pub request: Request,
+    /// The buffer lent for the plan, with any content.
+    pub plan: Vec<u8>,
+    /// The list lent to the checker.
+    pub list: Vec<u8>,
+    /// The buffer lent for a fresh state, with any content.
+    pub fresh: Vec<u8>,
+    /// The device whose record is asked for.
+    pub device: usize,
+}
+
+impl fmt::Debug for Case {
+    fn fmt(&self, f: &mut fmt::Formatter) -> fmt::Result {
+        writeln!(f, "{:?}", self.request)?;
+        for (name, bytes) in [
+            ("table", &self.table),
+            ("state", &self.state),
+            ("list", &self.list),
+        ] {
+            write!(f, "{name}, {} bytes:", bytes.len())?;
+            for byte in bytes {
+                write!(f, " {byte:02x}")?;
+            }
+            writeln!(f)?;
+        }
+        writeln!(f, "plan: {} bytes", self.plan.len())?;
+        writeln!(f, "fresh: {} bytes", self.fresh.len())?;
+        write!(f, "record of device {}", self.device)
+    }
+}
+
+/// A stream of cases.
+pub struct Cases {
+    rng: Rng,
+    /// The table of the present station.
+    table: Vec<u8>,
+    /// The state the walk has reached.
+    state: Vec<u8>,
+    /// How many cases the present station still gives.
+    steps: usize,
+    /// The list of an earlier request.
+    earlier_list: Vec<u8>,
+    case: Case,
+}
+
+impl Cases {
+    /// The cases of a seed.
+    pub fn new(seed: u64) -> Self {
+        Self {
+            rng: Rng::new(seed),
+            table: Vec::new(),
+            state: Vec::new(),
+            steps: 0,
+            earlier_list: Vec::new(),
+            case: Case::default(),
+        }
+    }
+
+    /// The next case. It is lent, so that its buffers serve again.
+    pub fn next_case(&mut self) -> &Case {
+        if self.steps == 0 {
+            self.draw_station();
+        }
+        self.steps -= 1;
+        self.lend_table_and_state();
+        self.lend_request();
+        self.lend_list_and_step();
+        self.lend_buffers();
+        &self.case
+    }
+
+    fn draw_station(&mut self) {
+        self.steps = 1 + self.rng.below(48);
+        Station::random(&mut self.rng).write(&mut self.table);
+        self.state.resize(STATE_BYTES, 0);
+        let answer = fresh(&self.table, &mut self.state);
+        assert!(answer.is_done(), "a drawn station must be good");
+        if self.rng.one_in(8) {
+            self.damage_station();
+        }
+        if !self.rng.one_in(3) {
+            self.draw_start();
+        }
+    }
+
+    /// Starts the walk from a drawn state, which a few tries find for most stations.
+    fn draw_start(&mut self) {
+        let start = (0..4).find_map(|_| draw_state(&mut self.rng, &self.table));
+        if let Some(state) = start {
+            self.state.copy_from_slice(&state);
+        }
+    }
+
+    /// Walks on a table with one field changed, if it is still good.
+    fn damage_station(&mut self) {
+        let mut table = self.table.clone();
+        damage_table(&mut self.rng, &mut table);
+        let mut state = [0; STATE_BYTES];
+        if fresh(&table, &mut state).is_done() {
+            self.table = table;
+            self.state.copy_from_slice(&state);
+        }
+    }
+
+    fn lend_table_and_state(&mut self) {
+        let (rng, case) = (&mut self.rng, &mut self.case);
+        case.table.clone_from(&self.table);
+        if rng.one_in(8) {
+            damage_table(rng, &mut case.table);
+        }
+        case.state.clone_from(&self.state);
+        if rng.one_in(4) {
+            switch_more_on(rng, &self.table, &mut case.state);
+        }
+        if rng.one_in(8) {
+            damage_state(rng, self.table[6].into(), &mut case.state);
+        }
+    }
+
+    fn lend_request(&mut self) {
+        let rng = &mut self.rng;
+        self.case.request = match rng.below(8) {
+            0 => any_request(rng, self.table[6].into()),
+            _ => likely_request(rng, &self.table, &self.state),
+        };
+    }
+
+    /// Plans the request for the sake of its list, and walks on if all was undamaged.
+    fn lend_list_and_step(&mut self) {
+        let (rng, case) = (&mut self.rng, &mut self.case);
+        let mut state = [0; STATE_BYTES];
+        let mut buffer = [0; PLAN_BYTES];
+        case.list.clear();
+        let accepted = case.state.len() == STATE_BYTES && {
+            state.copy_from_slice(&case.state);
+            let answer = plan(&case.table, &mut state, case.request, &mut buffer);
+            let length = 4 * usize::from(answer.count);
+            case.list.extend_from_slice(&buffer[..length]);
+            answer.is_done()
+        };
+        if accepted && case.table == self.table && !rng.one_in(8) {
+            self.state.copy_from_slice(&state);
+        }
+        let planned = case.list.clone();
+        vary_list(rng, &case.table, &self.earlier_list, &mut case.list);
+        if !planned.is_empty() {
+            self.earlier_list = planned;
+        }
+    }
+
+    fn lend_buffers(&mut self) {
+        let (rng, case) = (&mut self.rng, &mut self.case);
+        let room = match rng.below(16) {
+            0 => rng.below(PLAN_BYTES),
+            1 => PLAN_BYTES + rng.below(200),
+            _ => PLAN_BYTES,
+        };
+        rng.fill(&mut case.plan, room);
+        let room = match rng.below(16) {
+            0 => rng.below(2 * STATE_BYTES),
+            _ => STATE_BYTES,
+        };
+        rng.fill(&mut case.fresh, room);
+        case.device = match rng.below(8) {
+            0 => rng.next() as usize,
+            _ => rng.below(34),
+        };
+    }
+}
+
+/// Switches resources on that nothing needs.
+fn switch_more_on(rng: &mut Rng, table: &[u8], state: &mut [u8]) {
+    let resources = table[3];
+    let more = rng.next() as u32 & rng.next() as u32;
+    let all = ((1u64 << resources) - 1) as u32;
+    for (byte, more) in state[128..].iter_mut().zip((more & all).to_le_bytes()) {
+        *byte |= more;
+    }
+}

@@ -1,0 +1,170 @@
+//! Small sets of inputs, gone through completely.
+
+use reference::Request;
+
+use crate::station::{Record, Resource, Station, SHAPES};
+
+/// Every length from 0 to `extra` bytes more than `bytes` has. Bytes past the
+/// end are zero.
+pub fn each_length(bytes: &[u8], extra: usize, mut each: impl FnMut(&[u8])) {
+    let mut longer = bytes.to_vec();
+    longer.resize(bytes.len() + extra, 0);
+    for length in 0..=longer.len() {
+        each(&longer[..length]);
+    }
+}
+
+/// Each byte in turn with each of its 255 other values.
+pub fn each_byte(bytes: &[u8], mut each: impl FnMut(&[u8])) {
+    let mut changed = bytes.to_vec();
+    for index in 0..bytes.len() {
+        for change in 1..=255 {
+            changed[index] = bytes[index] ^ change;
+            each(&changed);
+        }
+        changed[index] = bytes[index];
+    }
+}
+
+/// The bench station of the scope paper: a bus with a camera and a lamp.
+pub fn bench_station() -> Station {
+    let resource = |level, order| Resource { level, order };
+    let bus = Record {
+        ps: 9,
+        pr: 9,
+        sets: [1, 0, 0, 1, 0],
+        ..Record::default()
+    };
+    let camera = Record {
+        parent: 0,
+        ps: 0x0d,
+        pr: 0x0d,
+        flags: 3,
+        sets: [7, 0, 5, 1, 4],
+        sxd: [255, 255, 2, 255],
+        sxw: [255, 255, 255, 3, 255],
+        deepest: 3,
+    };
+    let lamp = Record {
+        parent: 0,
+        pr: 9,
+        sets: [2, 0, 0, 0, 0],
+        ..Record::default()
+    };
+    Station {
+        resources: vec![resource(3, 1), resource(0, 2), resource(3, 1)],
+        devices: vec![bus, camera, lamp],
+    }
+}
+
+/// Every move of the middle one of three devices, parent, device and child:
+/// each shape of masks, and each state of the three.
+pub fn each_move(mut each: impl FnMut(&[u8], &[u8], Request)) {
+    for shape in SHAPES {
+        let table = family(shape).table();
+        for states in 0..5 * 5 * 5 {
+            let [parent, device, child] = [states / 25, states / 5 % 5, states % 5];
+            let state = image(
+                &[[parent, 0, 0, 0], [device, 0, 0, 0], [child, 0, 0, 0]],
+                0xff,
+            );
+            for target in 0..5 {
+                each(&table, &state, Request::move_to(1, target));
+            }
+        }
+    }
+}
+
+/// A parent, a device of the given shape and a child, with different needs in
+/// different states.
+fn family((ps, pr): (u8, u8)) -> Station {
+    let related = |parent| Record {
+        parent,
+        ps: 15,
+        pr: 15,
+        sets: [0x01, 0x01, 0x01, 0x01, 0],
+        ..Record::default()
+    };
+    let listed = |x: u8, set| if pr >> x & 1 != 0 { set } else { 0 };
+    let device = Record {
+        parent: 0,
+        ps,
+        pr,
+        sets: [
+            listed(0, 0x03),
+            listed(1, 0x05),
+            listed(2, 0x09),
+            listed(3, 0x11),
+            0,
+        ],
+        ..Record::default()
+    };
+    Station {
+        resources: (0..8)
+            .map(|r| Resource {
+                level: 4,
+                order: r / 2,
+            })
+            .collect(),
+        devices: vec![related(255), device, related(1)],
+    }
+}
+
+/// Every arming of one device: each pair of `_SxD` and `_SxW` for the sleep
+/// state, each deepest sleep state, resource level, shape of masks, present
+/// state, and each wake pair.
+pub fn each_arming(mut each: impl FnMut(&[u8], &[u8], Request)) {
+    let shapes = [(0, 0), (9, 0), (15, 15), (0, 9), (13, 5)];
+    for s in 0..5u8 {
+        for sxd in [0, 1, 2, 3, 255] {
+            for sxw in [0, 1, 2, 3, 4, 255] {
+                for (ps, pr) in shapes {
+                    for level_and_deepest in [(s, s), (s.saturating_sub(1), s), (4, 4), (4, 0)] {
+                        let record = waker(s, (sxd, sxw), (ps, pr), level_and_deepest.1);
+                        let level = level_and_deepest.0;
+                        each_pair(record, level, s, &mut each);
+                    }
+                }
+            }
+        }
+    }
+}
+
+fn waker(s: u8, (sxd, sxw): (u8, u8), (ps, pr): (u8, u8), deepest: u8) -> Record {
+    let mut record = Record {
+        ps,
+        pr,
+        flags: 3,
+        sets: [u32::from(pr & 1), 0, 0, 0, 2],
+        deepest,
+        ..Record::default()
+    };
+    record.sxw[usize::from(s)] = sxw;
+    if s > 0 {
+        record.sxd[usize::from(s) - 1] = sxd;
+    }
+    record
+}
+
+fn each_pair(record: Record, level: u8, s: u8, each: &mut impl FnMut(&[u8], &[u8], Request)) {
+    let resources = [4, level].map(|level| Resource { level, order: 0 });
+    let station = Station {
+        resources: resources.to_vec(),
+        devices: vec![record],
+    };
+    let table = station.table();
+    for present in 0..5 {
+        let state = image(&[[present, 0, 0, 0]], 0b01);
+        for d in 0..5 {
+            each(&table, &state, Request::arm(0, s.into(), d));
+        }
+    }
+}
+
+/// A state image.
+fn image(entries: &[[u8; 4]], on: u32) -> Vec<u8> {
+    let mut bytes = entries.concat();
+    bytes.resize(128, 0);
+    bytes.extend(on.to_le_bytes());
+    bytes
+}

@@ -1,0 +1,200 @@
+//! The cases reach every answer and every rule. The reference alone is run.
+
+use cases::{sweep, Case, Cases};
+use reference::{check, effect, fresh, plan, wake_range, Call, Effect, Table};
+
+const CASES: usize = 200_000;
+
+/// How often each answer was given.
+#[derive(Default)]
+struct Counts([usize; 20]);
+
+impl Counts {
+    fn add(&mut self, number: u8) {
+        self.0[usize::from(number)] += 1;
+    }
+
+    /// Exactly these answers were given, and each often.
+    fn are_given(&self, name: &str, answers: &[u8]) {
+        println!("{name}: {:?}", self.0);
+        for (number, &count) in self.0.iter().enumerate() {
+            if answers.contains(&(number as u8)) {
+                assert!(count >= 100, "{name} gave {number} only {count} times");
+            } else {
+                assert_eq!(count, 0, "{name} gave {number}");
+            }
+        }
+    }
+}
+
+#[test]
+fn every_answer_is_given() {
+    let (mut planner, mut checker, mut fresher) = Default::default();
+    let add = |counts: &mut Counts, number| counts.add(number);
+    let mut cases = Cases::new(1);
+    for _ in 0..CASES {
+        let case = cases.next_case();
+        let mut buffers = case.clone();
+        let Case { table, request, .. } = case;
+        let answer = plan(table, &mut buffers.state, *request, &mut buffers.plan);
+        add(&mut planner, answer.number);
+        let answer = check(table, &case.state, *request, &case.list);
+        add(&mut checker, answer.number);
+        add(&mut fresher, fresh(table, &mut buffers.fresh).number);
+    }
+    let all: Vec<u8> = (0..20).collect();
+    planner.are_given("planner", &all[..19]);
+    checker.are_given("checker", &[&all[..9], &all[10..]].concat());
+    fresher.are_given("fresh", &all[..8]);
+}
+
+/// The rules that an accepted request can meet.
+const RULES: [&str; 24] = [
+    "move to D0",
+    "move deeper",
+    "move to the present state",
+    "arming",
+    "disarming an armed device",
+    "disarming a device that is not armed",
+    "own call before resource calls",
+    "own call after resource calls",
+    "ONs and OFFs in one list",
+    "33 calls",
+    "no calls",
+    "equal orders in one list",
+    "D3hot needs _PR3",
+    "D3hot needs _PR2",
+    "D3hot needs _PR1",
+    "D3hot needs _PR0",
+    "D3cold while armed",
+    "D3hot to D3cold",
+    "wake range from both values",
+    "wake range from _SxD alone",
+    "wake range from _SxW alone",
+    "armed again with another pair",
+    "more was on than needed",
+    "a shared resource stays on",
+];
+
+fn rules_met(table: &Table, effect: &Effect, kind: u32, list: &[[u8; 4]]) -> [bool; 24] {
+    let device = table.device(effect.device);
+    let (before, after) = (effect.entry_before, effect.entry_after);
+    let moved = kind == 1;
+    let own_call = effect.own_call.map(|call| call.word().to_le_bytes());
+    let others = list.len() - usize::from(own_call.is_some());
+    let orders = resource_orders(table, list);
+    let d3hot = |mask: u8, bits: u8| after.state == 3 && device.pr_mask() & mask == bits;
+    let armed_range = |sxd: bool, sxw: bool| {
+        let (d, w) = (device.sxd(after.wake_s), device.sxw(after.wake_s));
+        after.armed && wake_range(d, w).is_some() && d.is_some() == sxd && w.is_some() == sxw
+    };
+    [
+        moved && after.state == 0 && before.state > 0,
+        moved && after.state > before.state,
+        moved && after.state == before.state,
+        kind == 2,
+        kind == 3 && before.armed,
+        kind == 3 && !before.armed,
+        others > 0 && own_call.as_ref() == list.first(),
+        others > 0 && own_call.as_ref() == list.last(),
+        [1, 2]
+            .iter()
+            .all(|kind| list.iter().any(|word| word[0] == *kind)),
+        list.len() == 33,
+        list.is_empty(),
+        orders.windows(2).any(|pair| pair[0] == pair[1]),
+        d3hot(0b1000, 0b1000),
+        d3hot(0b1100, 0b0100),
+        d3hot(0b1110, 0b0010),
+        d3hot(0b1111, 0b0001),
+        after.armed && after.state == 4,
+        before.state == 3 && after.state == 4,
+        armed_range(true, true),
+        armed_range(true, false),
+        armed_range(false, true),
+        before.armed && after.armed && before != after && before.state == after.state,
+        effect.on_before & !effect.needed_before != 0,
+        effect.device_needs_before & !effect.device_needs_after & effect.needed_after != 0,
+    ]
+}
+
+/// Kind and order of each resource call.
+fn resource_orders(table: &Table, list: &[[u8; 4]]) -> Vec<(u8, u16)> {
+    let order = |word: &[u8; 4]| match Call::from_word(u32::from_le_bytes(*word)) {
+        Some(Call::On { resource } | Call::Off { resource }) => {
+            Some((word[0], table.resource_order(resource.into())))
+        }
+        _ => None,
+    };
+    list.iter().filter_map(order).collect()
+}
+
+#[test]
+fn every_rule_is_met() {
+    let mut counts = [0; RULES.len()];
+    let mut cases = Cases::new(2);
+    for _ in 0..CASES {
+        let case = cases.next_case();
+        let Ok(effect) = effect(&case.table, &case.state, case.request) else {
+            continue;
+        };
+        let (mut state, mut buffer) = (case.state.clone(), [0; 132]);
+        let answer = plan(&case.table, &mut state, case.request, &mut buffer);
+        let list = &buffer.as_chunks().0[..answer.count.into()];
+        let table = Table::read(&case.table).expect("accepted");
+        let met = rules_met(&table, &effect, case.request.kind, list);
+        for (count, met) in counts.iter_mut().zip(met) {
+            *count += usize::from(met);
+        }
+    }
+    for (rule, count) in RULES.iter().zip(counts) {
+        println!("{count:6} {rule}");
+        assert!(count >= 10, "{rule}: {count}");
+    }
+}
+
+#[test]
+fn a_seed_gives_the_same_cases_again() {
+    let (mut first, mut second) = (Cases::new(7), Cases::new(7));
+    let mut other = Cases::new(8);
+    let mut different = 0;
+    for _ in 0..1000 {
+        let case = first.next_case();
+        assert_eq!(case, second.next_case());
+        different += usize::from(case != other.next_case());
+    }
+    assert!(different > 990);
+}
+
+#[test]
+fn sweeps_have_their_sizes() {
+    let bench = sweep::bench_station().table();
+    assert_eq!(bench.len(), 140);
+    assert!(fresh(&bench, &mut [0; 132]).is_done());
+    let mut count = 0;
+    sweep::each_length(&bench, 8, |_| count += 1);
+    assert_eq!(count, 149);
+    count = 0;
+    sweep::each_byte(&bench, |changed| {
+        let different = changed.iter().zip(&bench).filter(|(a, b)| a != b);
+        assert_eq!(different.count(), 1);
+        count += 1;
+    });
+    assert_eq!(count, 140 * 255);
+}
+
+#[test]
+fn sweeps_reach_their_answers() {
+    let mut moves = Counts::default();
+    sweep::each_move(|table, state, request| {
+        let mut state = state.to_vec();
+        moves.add(plan(table, &mut state, request, &mut [0; 132]).number);
+    });
+    moves.are_given("moves", &[0, 8, 11, 12, 13, 14]);
+    let mut armings = Counts::default();
+    sweep::each_arming(|table, state, request| {
+        let mut state = state.to_vec();
+        armings.add(plan(table, &mut state, request, &mut [0; 132]).number);
+    });
+    armings.are_given("armings", &[0, 5, 8, 16, 17, 18]);
+}

@@ -1,0 +1,246 @@
+//! What must hold of the reference on every case, checked without its own code
+//! where that is possible.
+
+use cases::{permute_equal_orders, sweep, Case, Cases, Rng};
+use reference::{
+    check, check_table, check_words, demand3, demand3_words, effect, execution, fresh, plan,
+    plan_words, record, Answer, Call, Effect, Table,
+};
+
+const CASES: usize = 100_000;
+
+fn for_each_case(seed: u64, mut each: impl FnMut(&Case)) {
+    let mut cases = Cases::new(seed);
+    for _ in 0..CASES {
+        each(cases.next_case());
+    }
+}
+
+/// The words of a byte list, without a rest that is no word.
+fn words(list: &[u8]) -> Vec<u32> {
+    let words = list.as_chunks().0.iter();
+    words.map(|&word| u32::from_le_bytes(word)).collect()
+}
+
+/// What the planner answered and wrote.
+struct Planned {
+    answer: Answer,
+    state: Vec<u8>,
+    plan: Vec<u8>,
+}
+
+fn planned(case: &Case) -> Planned {
+    let (mut state, mut buffer) = (case.state.clone(), case.plan.clone());
+    let answer = plan(&case.table, &mut state, case.request, &mut buffer);
+    Planned {
+        answer,
+        state,
+        plan: buffer,
+    }
+}
+
+#[test]
+fn a_refusal_writes_nothing_and_has_no_count() {
+    for_each_case(11, |case| {
+        let planned = planned(case);
+        if !planned.answer.is_done() {
+            assert_eq!(planned.state, case.state);
+            assert_eq!(planned.plan, case.plan);
+            assert_eq!(planned.answer.count, 0);
+        }
+        let mut buffer = case.fresh.clone();
+        if !fresh(&case.table, &mut buffer).is_done() {
+            assert_eq!(buffer, case.fresh);
+        }
+    });
+}
+
+#[test]
+fn places_are_zero_but_where_the_paper_names_one() {
+    for_each_case(12, |case| {
+        let checked = check(&case.table, &case.state, case.request, &case.list);
+        for answer in [planned(case).answer, checked] {
+            let limit = match answer.number {
+                4 => u64::from(case.table[3]),
+                5 | 6 | 8 | 14 => u64::from(case.table[6]),
+                13 => u64::from(case.request.device),
+                _ => 1,
+            };
+            assert!(answer.place < limit, "{answer:?} {case:?}");
+            assert_eq!(Answer::unpack(answer.pack()), answer);
+        }
+    });
+}
+
+#[test]
+fn an_accepted_request_leaves_the_new_entry_and_the_needed_set() {
+    for_each_case(13, |case| {
+        let planned = planned(case);
+        if !planned.answer.is_done() {
+            return;
+        }
+        let effect = effect(&case.table, &case.state, case.request).expect("accepted");
+        let entry = 4 * case.request.device as usize;
+        let mut expected = case.state.clone();
+        let after = effect.entry_after;
+        expected[entry..entry + 4].copy_from_slice(&[
+            after.state,
+            after.armed.into(),
+            after.wake_s,
+            after.wake_d,
+        ]);
+        expected[128..].copy_from_slice(&effect.needed_after.to_le_bytes());
+        assert_eq!(planned.state, expected);
+        // The new state is sound: the next request is looked at.
+        let next = check(&case.table, &planned.state, Default::default(), &[]);
+        assert_eq!(next, Answer::refused(10, 0));
+    });
+}
+
+#[test]
+fn the_planners_list_passes_and_its_rest_is_kept() {
+    let mut rng = Rng::new(14);
+    for_each_case(14, |case| {
+        let planned = planned(case);
+        if !planned.answer.is_done() {
+            return;
+        }
+        let length = 4 * usize::from(planned.answer.count);
+        assert_eq!(planned.plan[length..], case.plan[length..]);
+        let mut list = planned.plan[..length].to_vec();
+        let passes = |list: &[u8]| {
+            let answer = check(&case.table, &case.state, case.request, list);
+            assert_eq!(answer, Answer::done(0), "{case:?}");
+            demand3(&case.table, &case.state, case.request, list).expect("demand 3");
+        };
+        passes(&list);
+        permute_equal_orders(&mut rng, &case.table, &mut list);
+        passes(&list);
+    });
+}
+
+#[test]
+fn the_checker_answers_as_the_planner_but_for_9_and_19() {
+    for_each_case(15, |case| {
+        let checked = check(&case.table, &case.state, case.request, &case.list).number;
+        match planned(case).answer.number {
+            0 => assert!(checked == 0 || checked == 19),
+            9 => assert!(checked == 0 || checked >= 10),
+            number => assert_eq!(checked, number),
+        }
+    });
+}
+
+#[test]
+fn bytes_and_words_agree() {
+    for_each_case(16, |case| {
+        let planned = planned(case);
+        let mut state = case.state.clone();
+        let mut buffer = words(&case.plan);
+        let answer = plan_words(&case.table, &mut state, case.request, &mut buffer);
+        assert_eq!(answer, planned.answer);
+        assert_eq!(state, planned.state);
+        assert_eq!(buffer, words(&planned.plan));
+        if case.list.len().is_multiple_of(4) {
+            let list = words(&case.list);
+            let on_words = check_words(&case.table, &case.state, case.request, &list);
+            let on_bytes = check(&case.table, &case.state, case.request, &case.list);
+            assert_eq!(on_words, on_bytes);
+            if on_words.is_done() {
+                demand3_words(&case.table, &case.state, case.request, &list).expect("demand 3");
+            }
+        }
+    });
+}
+
+/// Lawful by the words of the paper: as a set the list has exactly the calls,
+/// each once, and no call comes before one that must precede it.
+fn is_lawful(table: &Table, effect: &Effect, list: &[u8]) -> bool {
+    let list_words = words(list);
+    let mut found = list_words.clone();
+    let mut due: Vec<u32> = effect.own_call.map(Call::word).into_iter().collect();
+    for resource in 0..32u8 {
+        let needed = effect.needed_after >> resource & 1 != 0;
+        let on = effect.on_before >> resource & 1 != 0;
+        match (needed, on) {
+            (true, false) => due.push(Call::On { resource }.word()),
+            (false, true) => due.push(Call::Off { resource }.word()),
+            _ => {}
+        }
+    }
+    found.sort_unstable();
+    due.sort_unstable();
+    let ranks: Vec<(u8, i32)> = list_words.iter().map(|w| rank(table, effect, *w)).collect();
+    list.len().is_multiple_of(4) && found == due && ranks.is_sorted()
+}
+
+/// Where a call that is due belongs: own call before or after, ONs, then OFFs.
+fn rank(table: &Table, effect: &Effect, word: u32) -> (u8, i32) {
+    let order = |r: u8| match usize::from(r) < table.resource_count() {
+        true => i32::from(table.resource_order(r.into())),
+        false => 0,
+    };
+    let (before, after) = (effect.entry_before, effect.entry_after);
+    let armed_now = after.armed && before.state == after.state;
+    let own_call_last = (after.state == 0 && before.state != 0) || armed_now;
+    match Call::from_word(word) {
+        Some(Call::On { resource }) => (1, order(resource)),
+        Some(Call::Off { resource }) => (2, -order(resource)),
+        _ => (if own_call_last { 3 } else { 0 }, 0),
+    }
+}
+
+#[test]
+fn the_checker_passes_exactly_the_lawful_lists() {
+    let mut passed = 0;
+    for_each_case(17, |case| {
+        let Ok(effect) = effect(&case.table, &case.state, case.request) else {
+            return;
+        };
+        let table = Table::read(&case.table).expect("accepted");
+        let answer = check(&case.table, &case.state, case.request, &case.list);
+        let lawful = is_lawful(&table, &effect, &case.list);
+        let expected = if lawful { 0 } else { 19 };
+        assert_eq!(answer.number, expected, "{case:?}");
+        passed += usize::from(lawful);
+    });
+    assert!(passed > CASES / 10);
+}
+
+#[test]
+fn what_passes_keeps_demand_3_and_ends_with_the_needed_set() {
+    for_each_case(18, |case| {
+        let answer = check(&case.table, &case.state, case.request, &case.list);
+        if answer.is_done() {
+            demand3(&case.table, &case.state, case.request, &case.list).expect("demand 3");
+            let effect = effect(&case.table, &case.state, case.request).expect("passed");
+            let end = execution(effect.on_before, words(&case.list)).last();
+            assert_eq!(end.unwrap_or(effect.on_before), effect.needed_after);
+        }
+    });
+}
+
+#[test]
+fn a_record_is_handed_out_exactly_for_a_device_of_a_good_table() {
+    for_each_case(19, |case| {
+        let part = record(&case.table, case.device);
+        let good = check_table(&case.table).is_done();
+        if good && case.device < usize::from(case.table[6]) {
+            let start = 8 + 4 * usize::from(case.table[3]) + 40 * case.device;
+            assert!(std::ptr::eq(part, &case.table[start..start + 40]));
+        } else {
+            assert!(part.is_empty());
+        }
+    });
+}
+
+#[test]
+fn a_damaged_bench_table_never_makes_a_function_fail() {
+    let bench = sweep::bench_station().table();
+    let run = |table: &[u8]| {
+        let answer = fresh(table, &mut [0; 132]);
+        assert_eq!(answer, check_table(table));
+    };
+    sweep::each_byte(&bench, run);
+    sweep::each_length(&bench, 48, run);
+}

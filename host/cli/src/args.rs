@@ -1,0 +1,96 @@
+//! Operands and options of a subcommand.
+
+use std::ffi::{OsStr, OsString};
+use std::path::Path;
+
+/// The words after a subcommand, sorted out.
+#[derive(Default)]
+pub struct Args {
+    /// The words that belong to no option.
+    pub operands: Vec<OsString>,
+    /// Whether help is asked for.
+    pub help: bool,
+    options: Vec<(&'static str, OsString)>,
+}
+
+impl Args {
+    /// Sorts words into operands and the options that are `known`, each of
+    /// which has a value.
+    pub fn parse(words: &[OsString], known: &[&'static str]) -> Result<Self, String> {
+        let mut args = Self::default();
+        let mut words = words.iter();
+        while let Some(word) = words.next() {
+            let text = word.to_string_lossy();
+            if text == "--" {
+                args.operands.extend(words.by_ref().cloned());
+            } else if text == "-h" || text == "--help" {
+                args.help = true;
+            } else if text.len() > 1 && text.starts_with('-') {
+                args.add_option(word, &mut words, known)?;
+            } else {
+                args.operands.push(word.clone());
+            }
+        }
+        Ok(args)
+    }
+
+    fn add_option<'a>(
+        &mut self,
+        word: &OsStr,
+        rest: &mut impl Iterator<Item = &'a OsString>,
+        known: &[&'static str],
+    ) -> Result<(), String> {
+        let found = known.iter().find(|name| word == **name);
+        let &name = found.ok_or_else(|| format!("unknown option {}", word.to_string_lossy()))?;
+        if self.option(name).is_some() {
+            return Err(format!("{name} is given twice"));
+        }
+        let value = rest.next().ok_or_else(|| format!("{name} needs a file"))?;
+        self.options.push((name, value.clone()));
+        Ok(())
+    }
+
+    /// The file an option names.
+    pub fn option(&self, name: &str) -> Option<&Path> {
+        let found = self.options.iter().find(|(option, _)| *option == name);
+        found.map(|(_, value)| Path::new(value))
+    }
+}
+
+#[cfg(test)]
+mod tests {
+    use super::Args;
+    use std::ffi::OsString;
+    use std::path::Path;
+
+    fn parse(words: &[&str]) -> Result<Args, String> {
+        let words: Vec<OsString> = words.iter().map(OsString::from).collect();
+        Args::parse(&words, &["-o", "--list"])
+    }
+
+    #[test]
+    fn options_may_stand_anywhere() {
+        let args = parse(&["a", "-o", "b", "c", "--list", "d", "e"])
+            .ok()
+            .unwrap();
+        assert_eq!(args.operands, ["a", "c", "e"]);
+        assert_eq!(args.option("-o"), Some(Path::new("b")));
+        assert_eq!(args.option("--list"), Some(Path::new("d")));
+        assert!(!args.help);
+    }
+
+    #[test]
+    fn two_hyphens_end_the_options() {
+        let args = parse(&["--", "-o", "--help"]).ok().unwrap();
+        assert_eq!(args.operands, ["-o", "--help"]);
+        assert!(!args.help);
+    }
+
+    #[test]
+    fn wrong_options_are_named() {
+        let message = |words: &[&str]| parse(words).err().unwrap();
+        assert_eq!(message(&["-x"]), "unknown option -x");
+        assert_eq!(message(&["-o"]), "-o needs a file");
+        assert_eq!(message(&["-o", "a", "-o", "b"]), "-o is given twice");
+    }
+}

@@ -1,0 +1,46 @@
+//! The planner behind the command: the proved library, or, without the feature
+//! `library`, the reference.
+
+#[cfg(feature = "library")]
+pub use sailgarnet::{check, fresh, plan};
+
+#[cfg(not(feature = "library"))]
+pub use stand_in::{check, fresh, plan};
+
+/// Which planner this is.
+pub const NAME: &str = if cfg!(feature = "library") {
+    "the proved library"
+} else {
+    "the reference in Rust, which is not proved"
+};
+
+#[cfg(not(feature = "library"))]
+mod stand_in {
+    use sailgarnet::{Answer, Request};
+
+    use super::reference_request;
+
+    pub fn fresh(table: &[u8], state: &mut [u8]) -> Answer {
+        answer(reference::fresh(table, state))
+    }
+
+    pub fn plan(table: &[u8], state: &mut [u8], request: Request, plan: &mut [u8]) -> Answer {
+        let request = reference_request(request);
+        answer(reference::plan(table, state, request, plan))
+    }
+
+    pub fn check(table: &[u8], state: &[u8], request: Request, list: &[u8]) -> Answer {
+        let request = reference_request(request);
+        answer(reference::check(table, state, request, list))
+    }
+
+    fn answer(answer: reference::Answer) -> Answer {
+        Answer::unpack(answer.pack())
+    }
+}
+
+/// A request as the reference takes it, which gives the needed sets.
+pub fn reference_request(request: sailgarnet::Request) -> reference::Request {
+    let sailgarnet::Request { kind, device, a, b } = request;
+    reference::Request { kind, device, a, b }
+}

@@ -1,0 +1,272 @@
+//! The subcommands.
+
+use std::ffi::OsString;
+use std::path::Path;
+
+use reference::Effect;
+use sailgarnet::{Answer, Request, Verdict, PLAN_BYTES, STATE_BYTES};
+
+use crate::args::Args;
+use crate::help::{self, Help};
+use crate::trace::Trace;
+use crate::{backend, demo, files, grid, request, show, svg, words, Failure, Report};
+
+type Outcome = Result<Report, Failure>;
+
+/// Runs the command line.
+pub fn run(line: Vec<OsString>) -> Outcome {
+    let Some((name, rest)) = line.split_first() else {
+        return Err(Failure(format!(
+            "a subcommand is missing\n\n{}",
+            help::overview()
+        )));
+    };
+    match name.to_string_lossy().as_ref() {
+        "show" => with_args(&help::SHOW, rest, &[], show_table),
+        "fresh" => with_args(&help::FRESH, rest, &["-o"], write_fresh),
+        "plan" => with_args(&help::PLAN, rest, &["-o", "--list"], plan_request),
+        "check" => with_args(&help::CHECK, rest, &[], check_list),
+        "trace" => with_args(&help::TRACE, rest, &["--svg"], trace_list),
+        "demo" => with_args(&help::DEMO, rest, &[], run_demo),
+        "-h" | "--help" | "help" => Ok(Report::done(help::overview())),
+        "-V" | "--version" => Ok(Report::done(version())),
+        other => Err(Failure(format!(
+            "there is no subcommand {other:?}; try: sailgarnet --help"
+        ))),
+    }
+}
+
+fn version() -> String {
+    let version = env!("CARGO_PKG_VERSION");
+    format!("sailgarnet {version}\nplanner: {}\n", backend::NAME)
+}
+
+fn with_args(
+    help: &Help,
+    words: &[OsString],
+    options: &[&'static str],
+    run: fn(&Help, &Args) -> Outcome,
+) -> Outcome {
+    let args = Args::parse(words, options).map_err(|message| usage(help, &message))?;
+    if args.help {
+        return Ok(Report::done(help.page()));
+    }
+    run(help, &args)
+}
+
+fn usage(help: &Help, message: &str) -> Failure {
+    Failure(format!(
+        "{message}\nUsage: {}\nMore with: sailgarnet {} --help",
+        help.usage_line(),
+        help.name
+    ))
+}
+
+/// The operands, if there is exactly one for each name.
+fn exactly<'a, const N: usize>(
+    help: &Help,
+    operands: &'a [OsString],
+    names: [&str; N],
+) -> Result<&'a [OsString; N], Failure> {
+    operands.try_into().map_err(|_| {
+        let message = match (names.get(operands.len()), operands.get(N)) {
+            (Some(name), _) => format!("{name} is missing"),
+            (None, Some(operand)) => {
+                format!("unexpected operand {}", operand.to_string_lossy())
+            }
+            (None, None) => "wrong operands".into(),
+        };
+        usage(help, &message)
+    })
+}
+
+/// The planner and the reference differ, which must not happen.
+pub fn disagreement(number: u8) -> Failure {
+    Failure(format!(
+        "the planner accepted what the reference refuses with {number}; please report this"
+    ))
+}
+
+fn refusal(answer: Answer) -> Report {
+    Report {
+        text: words::answer_line(answer),
+        refused: true,
+    }
+}
+
+fn show_table(help: &Help, args: &Args) -> Outcome {
+    let [table] = exactly(help, &args.operands, ["TABLE"])?;
+    let table = files::read(Path::new(table))?;
+    let answer = backend::fresh(&table, &mut [0; STATE_BYTES]);
+    if !answer.is_done() {
+        return Ok(refusal(answer));
+    }
+    show::table(&table).map(Report::done)
+}
+
+fn write_fresh(help: &Help, args: &Args) -> Outcome {
+    let [table_path] = exactly(help, &args.operands, ["TABLE"])?;
+    let output = args
+        .option("-o")
+        .ok_or_else(|| usage(help, "-o STATE is missing"))?;
+    files::must_keep(Some(output), &[Some(Path::new(table_path))])?;
+    let table = files::read(Path::new(table_path))?;
+    let mut state = [0; STATE_BYTES];
+    let answer = backend::fresh(&table, &mut state);
+    if !answer.is_done() {
+        return Ok(refusal(answer));
+    }
+    files::write(output, &state)?;
+    let on = words::resources(words::on_set(&state));
+    let text = words::answer_line(answer);
+    Ok(Report::done(format!(
+        "{text}Every device is in D0 and not armed. On: {on}\n"
+    )))
+}
+
+/// The operands that plan, check and trace begin with.
+struct Subject<'a> {
+    table_path: &'a Path,
+    state_path: &'a Path,
+    table: Vec<u8>,
+    state: Vec<u8>,
+    request: Request,
+}
+
+/// Reads TABLE STATE REQUEST, and gives the operands after them.
+fn subject<'a>(help: &Help, args: &'a Args) -> Result<(Subject<'a>, &'a [OsString]), Failure> {
+    let [table, state, rest @ ..] = args.operands.as_slice() else {
+        return Err(usage(help, "TABLE, STATE and REQUEST are expected"));
+    };
+    let (request, rest) = request::parse(rest).map_err(|message| usage(help, &message))?;
+    let (table_path, state_path) = (Path::new(table), Path::new(state));
+    let subject = Subject {
+        table_path,
+        state_path,
+        table: files::read(table_path)?,
+        state: files::read(state_path)?,
+        request,
+    };
+    Ok((subject, rest))
+}
+
+impl Subject<'_> {
+    /// Plans the request: the answer, the list and the new state.
+    fn plan(&self) -> (Answer, Vec<u8>, Vec<u8>) {
+        let mut state = self.state.clone();
+        let mut list = vec![0; PLAN_BYTES];
+        let answer = backend::plan(&self.table, &mut state, self.request, &mut list);
+        list.truncate(answer.plan_length());
+        (answer, list, state)
+    }
+
+    /// The list of a file with the checker's answer, or the planner's own.
+    fn answered_list(&self, path: Option<&Path>) -> Result<(Answer, Vec<u8>), Failure> {
+        let Some(path) = path else {
+            let (answer, list, _) = self.plan();
+            return Ok((answer, list));
+        };
+        let list = files::read(path)?;
+        let answer = backend::check(&self.table, &self.state, self.request, &list);
+        Ok((answer, list))
+    }
+
+    /// What the request does, or the number of its refusal.
+    fn effect(&self) -> Result<Effect, u8> {
+        let request = backend::reference_request(self.request);
+        reference::effect(&self.table, &self.state, request).map_err(|answer| answer.number)
+    }
+
+    /// The planner's list, if another one was found not lawful.
+    fn planned_instead(&self, answer: Answer) -> String {
+        if answer.verdict() != Some(Verdict::ListNotLawful) {
+            return String::new();
+        }
+        let (_, list, _) = self.plan();
+        format!("The planner's list has {}", words::call_lines(&list))
+    }
+}
+
+fn plan_request(help: &Help, args: &Args) -> Outcome {
+    let (subject, rest) = subject(help, args)?;
+    let [] = exactly(help, rest, [])?;
+    let (state_output, list_output) = (args.option("-o"), args.option("--list"));
+    let (table_path, state_path) = (Some(subject.table_path), Some(subject.state_path));
+    files::must_keep(state_output, &[table_path])?;
+    files::must_keep(list_output, &[table_path, state_path, state_output])?;
+
+    let (answer, list, state) = subject.plan();
+    if !answer.is_done() {
+        return Ok(refusal(answer));
+    }
+    if let Some(path) = list_output {
+        files::write(path, &list)?;
+    }
+    if let Some(path) = state_output {
+        files::write(path, &state)?;
+    }
+    Ok(Report::done(format!(
+        "Request: {}\n{}{}On afterwards: {}\n",
+        subject.request,
+        words::answer_line(answer),
+        words::call_lines(&list),
+        words::resources(words::on_set(&state)),
+    )))
+}
+
+fn check_list(help: &Help, args: &Args) -> Outcome {
+    let (subject, rest) = subject(help, args)?;
+    let [list] = exactly(help, rest, ["LIST"])?;
+    let list = files::read(Path::new(list))?;
+    let answer = backend::check(&subject.table, &subject.state, subject.request, &list);
+    if !answer.is_done() {
+        let Report { text, refused } = refusal(answer);
+        let text = text + &subject.planned_instead(answer);
+        return Ok(Report { text, refused });
+    }
+    let count = words::count(list.len() / 4, "call");
+    Ok(Report::done(format!(
+        "{}The list of {count} is lawful.\n",
+        words::answer_line(answer)
+    )))
+}
+
+fn trace_list(help: &Help, args: &Args) -> Outcome {
+    let (subject, rest) = subject(help, args)?;
+    let list_path = match rest {
+        [] => None,
+        rest => {
+            let [path] = exactly(help, rest, ["LIST"])?;
+            Some(Path::new(path))
+        }
+    };
+    let svg_output = args.option("--svg");
+    let (table_path, state_path) = (Some(subject.table_path), Some(subject.state_path));
+    files::must_keep(svg_output, &[table_path, state_path, list_path])?;
+    let (answer, list) = subject.answered_list(list_path)?;
+    let effect = match subject.effect() {
+        Ok(effect) => effect,
+        // The request itself is refused, so there is nothing to trace.
+        Err(_) if !answer.is_done() => return Ok(refusal(answer)),
+        Err(number) => return Err(disagreement(number)),
+    };
+    let trace = Trace::new(&subject.table, &effect, &list)?;
+    if let Some(path) = svg_output {
+        files::write(path, svg::draw(&trace, subject.request, answer).as_bytes())?;
+    }
+    Ok(Report {
+        text: format!(
+            "Request: {}\n{}{}{}",
+            subject.request,
+            words::answer_line(answer),
+            grid::draw(&trace),
+            subject.planned_instead(answer),
+        ),
+        refused: !answer.is_done(),
+    })
+}
+
+fn run_demo(help: &Help, args: &Args) -> Outcome {
+    let [] = exactly(help, &args.operands, [])?;
+    Ok(Report::done(demo::text()))
+}

@@ -1,0 +1,139 @@
+//! Help texts.
+
+/// How a subcommand is used.
+pub struct Help {
+    /// The name of the subcommand.
+    pub name: &'static str,
+    /// Its operands and options.
+    pub usage: &'static str,
+    /// What it does, in a line.
+    pub purpose: &'static str,
+    /// What there is to know about it.
+    pub text: &'static str,
+}
+
+const REQUESTS: &str = "\
+REQUEST is one of:
+  move DEVICE STATE         STATE is D0, D1, D2, D3hot or D3cold
+  arm DEVICE SLEEP STATE    SLEEP is S0 to S4
+  disarm DEVICE
+for example: move 1 D2
+";
+
+/// All subcommands.
+pub const ALL: [Help; 6] = [SHOW, FRESH, PLAN, CHECK, TRACE, DEMO];
+
+/// `show`.
+pub const SHOW: Help = Help {
+    name: "show",
+    usage: "TABLE",
+    purpose: "show the resources and devices of a table",
+    text: "\
+TABLE is a power table, a file of raw bytes. For each device the parent, the
+states it has, its methods, and the resources it needs in each state are shown.
+",
+};
+
+/// `fresh`.
+pub const FRESH: Help = Help {
+    name: "fresh",
+    usage: "TABLE -o STATE",
+    purpose: "write the fresh state of a table",
+    text: "\
+In the fresh state every device is in D0 and not armed, and all resources are on.
+
+  -o STATE    the file to write, 132 bytes
+",
+};
+
+/// `plan`.
+pub const PLAN: Help = Help {
+    name: "plan",
+    usage: "TABLE STATE REQUEST [-o STATE] [--list FILE]",
+    purpose: "plan a request and show its method calls",
+    text: "\
+The calls are shown in the order in which they must be made. Nothing is written
+without an option, or if the request is refused.
+
+  -o STATE       write the new state; it may be the file that was read
+  --list FILE    write the calls, four bytes each
+",
+};
+
+/// `check`.
+pub const CHECK: Help = Help {
+    name: "check",
+    usage: "TABLE STATE REQUEST LIST",
+    purpose: "check a list of method calls",
+    text: "\
+LIST is a file of calls, four bytes each. It is lawful if it has exactly the
+calls the request needs, in order. STATE is the state before the request.
+",
+};
+
+/// `trace`.
+pub const TRACE: Help = Help {
+    name: "trace",
+    usage: "TABLE STATE REQUEST [LIST] [--svg FILE]",
+    purpose: "show what is on after each call of a list",
+    text: "\
+Without LIST the planner's own list is traced. STATE is the state before the
+request. A list that is not lawful is traced too, and refused.
+
+The grid has a row for each resource and a column for the start and for each
+call. It says when some device needs the resource: before or after the request,
+or both. The mark ! stands where a resource is off though needed before and after.
+
+  --svg FILE    draw the trace as a timing diagram, for a browser
+",
+};
+
+/// `demo`.
+pub const DEMO: Help = Help {
+    name: "demo",
+    usage: "",
+    purpose: "plan requests for a small station; reads and writes no file",
+    text: "\
+The station has a bus, a camera and a lamp, and three resources.
+",
+};
+
+impl Help {
+    /// The line that says how to write the subcommand.
+    pub fn usage_line(&self) -> String {
+        format!("sailgarnet {} {}", self.name, self.usage)
+            .trim_end()
+            .into()
+    }
+
+    /// The whole help text.
+    pub fn page(&self) -> String {
+        let Self { purpose, text, .. } = self;
+        let requests = if self.usage.contains("REQUEST") {
+            format!("\n{REQUESTS}")
+        } else {
+            String::new()
+        };
+        format!(
+            "Usage: {}\n\nPurpose: {purpose}.\n\n{text}{requests}\n{EXIT_STATUS}",
+            self.usage_line()
+        )
+    }
+}
+
+const EXIT_STATUS: &str =
+    "Exit status: 0 done, 1 refused, 2 wrong usage or a file that cannot be read or written.\n";
+
+/// The help text of the command.
+pub fn overview() -> String {
+    let mut text = String::from(
+        "sailgarnet plans the method calls that switch the power resources of a station.\n\n",
+    );
+    for help in ALL {
+        text += &format!("  {}\n      {}\n", help.usage_line(), help.purpose);
+    }
+    format!(
+        "{text}\n{REQUESTS}\nMore with: sailgarnet SUBCOMMAND --help\n\
+         The planner in use: sailgarnet --version\n\n{EXIT_STATUS}"
+    )
+}

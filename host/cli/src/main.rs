@@ -1,0 +1,76 @@
+//! The command `sailgarnet`: shows power tables, plans requests, and checks and
+//! traces lists of method calls.
+
+#![forbid(unsafe_code)]
+
+mod args;
+mod backend;
+mod commands;
+mod demo;
+mod files;
+mod grid;
+mod help;
+mod request;
+mod show;
+mod svg;
+mod trace;
+mod words;
+
+use std::env;
+use std::io::{self, ErrorKind, Write};
+use std::process::ExitCode;
+
+/// The exit status of a refusal.
+const REFUSED: u8 = 1;
+/// The exit status of wrong usage and of files that cannot be read or written.
+const FAILED: u8 = 2;
+
+/// What a command has to say when it could do its work.
+pub struct Report {
+    /// The text for standard output.
+    pub text: String,
+    /// Whether the table, the state, the request or the list was refused.
+    pub refused: bool,
+}
+
+impl Report {
+    /// A report without a refusal.
+    pub fn done(text: String) -> Self {
+        Self {
+            text,
+            refused: false,
+        }
+    }
+}
+
+/// Why a command could not do its work, for standard error.
+pub struct Failure(pub String);
+
+fn main() -> ExitCode {
+    let words = env::args_os().skip(1).collect();
+    let report = match commands::run(words) {
+        Ok(report) => report,
+        Err(failure) => return fail(&failure),
+    };
+    match print(&report.text) {
+        Ok(()) if report.refused => REFUSED.into(),
+        Ok(()) => ExitCode::SUCCESS,
+        Err(error) => fail(&Failure(format!("cannot write the output: {error}"))),
+    }
+}
+
+fn fail(Failure(message): &Failure) -> ExitCode {
+    // Nothing is left to do if standard error is closed too.
+    let _ = writeln!(io::stderr(), "sailgarnet: {message}");
+    FAILED.into()
+}
+
+/// Writes to standard output. A reader that stops early is no error.
+fn print(text: &str) -> io::Result<()> {
+    let mut output = io::stdout().lock();
+    let result = output.write_all(text.as_bytes());
+    match result.and_then(|()| output.flush()) {
+        Err(error) if error.kind() == ErrorKind::BrokenPipe => Ok(()),
+        result => result,
+    }
+}

@@ -1,0 +1,217 @@
+//! A trace as a timing diagram.
+
+use std::fmt::Write;
+
+use sailgarnet::{Answer, Request};
+
+use crate::trace::{Row, Step, Trace};
+use crate::words;
+
+/// Left edge of the drawing of the resources; names stand before it.
+const LEFT: usize = 210;
+/// The width of a point in time: the start, or after a call.
+const COLUMN: usize = 84;
+/// The space after the last point, for the mark of need.
+const RIGHT: usize = 110;
+const ROW: usize = 40;
+/// How far a line for off is below one for on.
+const SWING: usize = 20;
+const LINE: usize = 20;
+const LEAST_WIDTH: usize = 760;
+
+const STYLE: &str = "\
+text { font: 13px system-ui, sans-serif; fill: #222 }
+.title { font-size: 17px; font-weight: 600 }
+.small { font-size: 11px; fill: #555 }
+.middle { text-anchor: middle }
+.call { stroke: #bbb; stroke-dasharray: 3 3 }
+.own { stroke: #b35c00; stroke-width: 2 }
+.own-text { fill: #b35c00; font-weight: 600 }
+.rule { stroke: #e4e4e4 }
+.on { fill: #d5e6f5 }
+.level { fill: none; stroke: #1c5a91; stroke-width: 2 }
+.needed { fill: #2b7a3d }
+.free { fill: none; stroke: #aaa }
+.fault { fill: #f6c9c4; stroke: #b3261e }
+.fault-text { fill: #b3261e }
+";
+
+/// Where the parts of a drawing are.
+struct Layout {
+    width: usize,
+    height: usize,
+    /// The top of the first row.
+    top: usize,
+    /// The lines of text at the top.
+    heading: Vec<String>,
+}
+
+impl Layout {
+    fn of(trace: &Trace, answer: Answer) -> Self {
+        let points = trace.steps.len() + 1;
+        let width = (LEFT + points * COLUMN + RIGHT).max(LEAST_WIDTH);
+        // A letter is about 7 wide.
+        let heading = words::wrap(words::answer_line(answer).trim_end(), (width - 40) / 7);
+        let top = 60 + LINE * heading.len() + 60;
+        let height = top + ROW * trace.rows.len().max(1) + LINE * (trace.faults.len() + 3);
+        Self {
+            width,
+            height,
+            top,
+            heading,
+        }
+    }
+
+    fn row_top(&self, row: usize) -> usize {
+        self.top + ROW * row
+    }
+}
+
+/// The left edge of a point in time.
+fn left(point: usize) -> usize {
+    LEFT + COLUMN * point
+}
+
+/// A trace as a drawing that a browser opens.
+pub fn draw(trace: &Trace, request: Request, answer: Answer) -> String {
+    let layout = Layout::of(trace, answer);
+    let Layout { width, height, .. } = layout;
+    let mut out = format!(
+        "<svg xmlns=\"http://www.w3.org/2000/svg\" width=\"{width}\" height=\"{height}\" \
+         viewBox=\"0 0 {width} {height}\">\n<title>{}</title>\n<style>\n{STYLE}</style>\n\
+         <rect width=\"{width}\" height=\"{height}\" fill=\"#fff\"/>\n",
+        escape(&request.to_string())
+    );
+    draw_heading(&mut out, &layout, request);
+    draw_column_titles(&mut out, &layout);
+    for (r, row) in trace.rows.iter().enumerate() {
+        draw_row(&mut out, layout.row_top(r), layout.width, row);
+    }
+    if trace.rows.is_empty() {
+        let y = layout.top + ROW / 2;
+        text(&mut out, 20, y, "", "The table has no resources.");
+    }
+    for (i, step) in trace.steps.iter().enumerate() {
+        draw_call(&mut out, &layout, trace.rows.len(), i + 1, step);
+    }
+    draw_legend(&mut out, &layout, trace);
+    out + "</svg>\n"
+}
+
+fn draw_heading(out: &mut String, layout: &Layout, request: Request) {
+    let title = format!("Request: {request}");
+    text(out, 20, 32, "title", &title);
+    for (i, line) in layout.heading.iter().enumerate() {
+        text(out, 20, 58 + LINE * i, "", line);
+    }
+}
+
+fn draw_column_titles(out: &mut String, layout: &Layout) {
+    let y = layout.top - 10;
+    text(out, 20, y, "small", "resource");
+    text(out, LEFT - 60, y - 14, "small middle", "needed");
+    text(out, LEFT - 60, y, "small middle", "before");
+    text(out, left(0) + COLUMN / 2 - 10, y, "small middle", "start");
+}
+
+fn draw_call(out: &mut String, layout: &Layout, rows: usize, number: usize, step: &Step) {
+    let x = left(number);
+    let (top, bottom) = (layout.top - 6, layout.row_top(rows.max(1)));
+    let (line, label) = if step.own {
+        ("own", "middle own-text")
+    } else {
+        ("call", "middle")
+    };
+    let _ = writeln!(
+        out,
+        "<line class=\"{line}\" x1=\"{x}\" y1=\"{top}\" x2=\"{x}\" y2=\"{bottom}\"/>"
+    );
+    let (method, target) = words::short_call(step.call);
+    text(out, x, layout.top - 42, "small middle", &number.to_string());
+    text(out, x, layout.top - 27, label, &method);
+    text(out, x, layout.top - 12, "small middle", &target);
+}
+
+fn draw_row(out: &mut String, top: usize, width: usize, row: &Row) {
+    let base = top + ROW - 8;
+    let points = row.on.len();
+    let _ = writeln!(
+        out,
+        "<line class=\"rule\" x1=\"20\" y1=\"{y}\" x2=\"{x2}\" y2=\"{y}\"/>",
+        y = top + ROW,
+        x2 = width - 20
+    );
+    let name = format!("r{}", row.resource);
+    text(out, 20, base - 6, "", &name);
+    let order = format!("order {}", row.order);
+    text(out, 52, base - 6, "small", &order);
+    draw_need(out, LEFT - 60, base - 10, row.needed_before);
+    draw_need(out, left(points) + 50, base - 10, row.needed_after);
+    draw_areas(out, base, row);
+    draw_level(out, base, row);
+}
+
+/// A full circle for needed, an empty one for not needed.
+fn draw_need(out: &mut String, x: usize, y: usize, needed: bool) {
+    let class = if needed { "needed" } else { "free" };
+    let _ = writeln!(
+        out,
+        "<circle class=\"{class}\" cx=\"{x}\" cy=\"{y}\" r=\"5\"/>"
+    );
+}
+
+/// Areas for the points at which the resource is on, or off though needed.
+fn draw_areas(out: &mut String, base: usize, row: &Row) {
+    for (point, &on) in row.on.iter().enumerate() {
+        let class = match (on, row.fails_at(point)) {
+            (true, _) => "on",
+            (false, true) => "fault",
+            (false, false) => continue,
+        };
+        let _ = writeln!(
+            out,
+            "<rect class=\"{class}\" x=\"{}\" y=\"{}\" width=\"{COLUMN}\" height=\"{SWING}\"/>",
+            left(point),
+            base - SWING
+        );
+    }
+}
+
+/// The line that is high for on and low for off.
+fn draw_level(out: &mut String, base: usize, row: &Row) {
+    let level = |on: bool| if on { base - SWING } else { base };
+    let mut path = format!("M{} {}", left(0), level(row.on[0]));
+    for (point, &on) in row.on.iter().enumerate() {
+        let _ = write!(path, "V{}H{}", level(on), left(point + 1));
+    }
+    let _ = writeln!(out, "<path class=\"level\" d=\"{path}\"/>");
+}
+
+fn draw_legend(out: &mut String, layout: &Layout, trace: &Trace) {
+    let after = left(trace.steps.len() + 1) + 50;
+    text(out, after, layout.top - 24, "small middle", "needed");
+    text(out, after, layout.top - 10, "small middle", "after");
+    let mut y = layout.row_top(trace.rows.len().max(1)) + 26;
+    let legend = "High: on. Low: off. Full circle: needed by some device. \
+                  Orange: the device's own call. Red: off, though needed before and after.";
+    text(out, 20, y, "small", legend);
+    for fault in &trace.faults {
+        y += LINE;
+        text(out, 20, y, "fault-text", &format!("Fault: {fault}"));
+    }
+}
+
+fn text(out: &mut String, x: usize, y: usize, class: &str, content: &str) {
+    let content = escape(content);
+    let _ = writeln!(
+        out,
+        "<text x=\"{x}\" y=\"{y}\" class=\"{class}\">{content}</text>"
+    );
+}
+
+fn escape(content: &str) -> String {
+    content
+        .replace('&', "&amp;")
+        .replace('<', "&lt;")
+        .replace('>', "&gt;")
+}

@@ -1,0 +1,135 @@
+//! Names of resources, states, calls and answers in texts.
+
+use std::fmt::Write;
+
+use reference::numbers;
+use sailgarnet::{calls, Answer, Call};
+
+/// The names of the device states, by number.
+pub const DEVICE_STATES: [&str; 5] = ["D0", "D1", "D2", "D3hot", "D3cold"];
+
+/// The name of a device state.
+pub fn device_state(state: u8) -> &'static str {
+    DEVICE_STATES[usize::from(state)]
+}
+
+/// The resources of a set.
+pub fn resources(set: u32) -> String {
+    if set == 0 {
+        return "none".into();
+    }
+    let names: Vec<String> = numbers(set).map(|r| format!("r{r}")).collect();
+    names.join(" ")
+}
+
+/// The set of resources that are on in a state image.
+pub fn on_set(state: &[u8]) -> u32 {
+    let bytes = state.last_chunk().expect("a state has 132 bytes");
+    u32::from_le_bytes(*bytes)
+}
+
+/// A call in words.
+pub fn call(call: Option<Call>) -> String {
+    match call {
+        Some(call) => call.to_string(),
+        None => "no call".into(),
+    }
+}
+
+/// A call in few letters: the method, and what it is called on.
+pub fn short_call(call: Option<Call>) -> (String, String) {
+    match call {
+        Some(Call::On { resource }) => ("_ON".into(), format!("r{resource}")),
+        Some(Call::Off { resource }) => ("_OFF".into(), format!("r{resource}")),
+        Some(Call::SetState { device, method }) => {
+            (format!("_PS{method}"), format!("device {device}"))
+        }
+        Some(Call::SetWake { device, wake }) => {
+            let on = if wake.is_some() { "on" } else { "off" };
+            (format!("_DSW {on}"), format!("device {device}"))
+        }
+        None => ("no call".into(), String::new()),
+    }
+}
+
+/// Four bytes as they stand in a list.
+pub fn hexadecimal(bytes: [u8; 4]) -> String {
+    let [a, b, c, d] = bytes;
+    format!("{a:02x} {b:02x} {c:02x} {d:02x}")
+}
+
+/// The line before a list of calls.
+pub fn calls_title(calls: usize) -> String {
+    match calls {
+        0 => "no calls\n".into(),
+        _ => format!("{}:\n", count(calls, "call")),
+    }
+}
+
+/// A list of calls, a line each, numbered from 1.
+pub fn call_lines(list: &[u8]) -> String {
+    let mut text = calls_title(list.len() / 4);
+    for (i, (bytes, found)) in list.as_chunks().0.iter().zip(calls(list)).enumerate() {
+        let bytes = hexadecimal(*bytes);
+        let _ = writeln!(text, "{:4}  {bytes}  {}", i + 1, call(found));
+    }
+    text
+}
+
+/// An answer as a line, with a capital letter.
+pub fn answer_line(answer: Answer) -> String {
+    let text = answer.to_string();
+    format!("A{}\n", &text[1..])
+}
+
+/// A number with its noun.
+pub fn count(number: usize, noun: &str) -> String {
+    match number {
+        1 => format!("1 {noun}"),
+        _ => format!("{number} {noun}s"),
+    }
+}
+
+/// A text in lines of at most `width` letters, broken between words.
+pub fn wrap(text: &str, width: usize) -> Vec<String> {
+    let mut lines = vec![String::new()];
+    for word in text.split_whitespace() {
+        let line = lines.last_mut().expect("there is always a line");
+        if !line.is_empty() && line.len() + 1 + word.len() > width {
+            lines.push(word.into());
+        } else {
+            if !line.is_empty() {
+                line.push(' ');
+            }
+            line.push_str(word);
+        }
+    }
+    lines
+}
+
+#[cfg(test)]
+mod tests {
+    use super::{answer_line, resources, wrap};
+    use sailgarnet::Answer;
+
+    #[test]
+    fn sets_are_named() {
+        assert_eq!(resources(0), "none");
+        assert_eq!(resources(0x8000_0005), "r0 r2 r31");
+    }
+
+    #[test]
+    fn an_answer_is_a_line() {
+        let answer = Answer::unpack(14 | 1 << 24);
+        let line = answer_line(answer);
+        assert!(line.starts_with("Answer 14, device 1: this device is a child"));
+        assert!(line.ends_with(".\n"));
+    }
+
+    #[test]
+    fn texts_break_between_words() {
+        assert_eq!(wrap("one two three", 7), ["one two", "three"]);
+        assert_eq!(wrap("one two three", 3), ["one", "two", "three"]);
+        assert_eq!(wrap("", 3), [""]);
+    }
+}

@@ -1,0 +1,99 @@
+//! Each answer the command can give, with its place. The command always lends
+//! enough room for a plan, so 9 cannot be given.
+
+use crate::desk::Desk;
+
+/// The refusal of a table with one byte changed, or cut.
+fn refuses_table(desk: &Desk, change: impl Fn(&mut Vec<u8>), number: u8, place: &str) {
+    let table = desk.read("table");
+    let mut damaged = table.clone();
+    change(&mut damaged);
+    desk.write("table", &damaged);
+    for line in [
+        "show table",
+        "fresh table -o new",
+        "plan table state move 1 D2",
+        "check table state move 1 D2 state",
+        "trace table state move 1 D2",
+    ] {
+        let text = desk.run(line).refused(number);
+        assert!(text.contains(place), "{text}");
+    }
+    desk.write("table", &table);
+}
+
+#[test]
+fn answers_1_to_6_are_for_tables() {
+    let desk = Desk::new("answers_tables");
+    refuses_table(&desk, |table| table.truncate(7), 1, "place 0: the table is");
+    refuses_table(&desk, |table| table[3] = 33, 2, "place 0: the table has");
+    refuses_table(&desk, |table| table.push(0), 3, "place 0: the table is");
+    refuses_table(&desk, |table| table[8 + 4] = 5, 4, "resource 1: ");
+    refuses_table(&desk, |table| table[20 + 40 + 39] = 1, 5, "device 1: ");
+    refuses_table(&desk, |table| table[20 + 80 + 3] = 2, 6, "device 2: ");
+}
+
+#[test]
+fn answers_7_and_8_are_for_states() {
+    let desk = Desk::new("answers_states");
+    let lines = [
+        "plan table state move 1 D2",
+        "check table state move 1 D2 table",
+        "trace table state move 1 D2 table",
+    ];
+    desk.write("state", &[0; 131]);
+    for line in lines {
+        let text = desk.run(line).refused(7);
+        assert!(text.contains("place 0: the state is"));
+    }
+    desk.write("state", &[0; 132]);
+    for line in lines {
+        let text = desk.run(line).refused(8);
+        assert!(text.contains("device 0: the state is not sound"));
+    }
+}
+
+#[test]
+fn answers_10_to_18_are_for_requests() {
+    let desk = Desk::new("answers_requests");
+    let refuses = |request: &str, number, place| {
+        let text = desk
+            .run(&format!("plan table state {request}"))
+            .refused(number);
+        assert!(text.starts_with(&format!("Answer {number}, {place}: ")));
+        desk.run(&format!("check table state {request} table"))
+            .refused(number);
+    };
+    let set_state = |entries: [[u8; 4]; 3]| {
+        let mut state = entries.concat();
+        state.resize(128, 0);
+        state.extend([7, 0, 0, 0]);
+        desk.write("state", &state);
+    };
+    refuses("move 3 D0", 10, "place 0");
+    refuses("move 1 D1", 11, "place 0");
+    refuses("move 0 D3hot", 14, "device 1");
+    refuses("arm 1 S4 D2", 16, "place 0");
+    refuses("arm 1 S2 D2", 18, "place 0");
+    set_state([[3, 0, 0, 0], [3, 0, 0, 0], [3, 0, 0, 0]]);
+    refuses("move 1 D2", 12, "place 0");
+    refuses("move 1 D0", 13, "device 0");
+    set_state([[0; 4], [0, 1, 3, 2], [0; 4]]);
+    refuses("move 1 D3hot", 15, "place 0");
+    set_state([[0; 4]; 3]);
+    let mut table = desk.read("table");
+    table[8 + 4 * 2] = 2;
+    desk.write("table", &table);
+    refuses("arm 1 S3 D2", 17, "place 0");
+}
+
+#[test]
+fn answer_19_is_for_lists() {
+    let desk = Desk::new("answers_lists");
+    desk.write("calls", &[3, 1, 2]);
+    for name in ["check", "trace"] {
+        let line = format!("{name} table state move 1 D2 calls");
+        let text = desk.run(&line).refused(19);
+        assert!(text.contains("place 0: the list is not lawful"));
+    }
+}

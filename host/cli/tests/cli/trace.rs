@@ -1,0 +1,188 @@
+use crate::desk::Desk;
+
+/// The rows of the first grid in a text.
+fn grid(text: &str) -> Vec<Vec<&str>> {
+    text.lines()
+        .skip_while(|line| !line.starts_with("resource"))
+        .take_while(|line| line.starts_with('r'))
+        .map(|line| line.split_whitespace().collect())
+        .collect()
+}
+
+#[test]
+fn the_planners_list_is_traced() {
+    let desk = Desk::with_dark_lamp("trace_planned");
+    let text = desk.run("trace table state move 1 D3hot").done();
+    assert_eq!(
+        grid(&text),
+        [
+            ["resource", "order", "needed", "start", "1", "2", "3"],
+            ["r0", "1", "before+after", "on", "on", "on", "on"],
+            ["r1", "2", "before", "on", "on", "off", "off"],
+            ["r2", "1", "before", "on", "on", "on", "off"],
+        ]
+    );
+    assert!(text.contains("1  03 01 03 00  set device 1 to D3 (_PS3), own call\n"));
+    assert!(!text.contains("Fault"));
+    assert_eq!(desk.files(), ["state", "table"]);
+}
+
+#[test]
+fn a_list_from_a_file_is_traced() {
+    let desk = Desk::with_dark_lamp("trace_list");
+    desk.write("calls", &[3, 1, 3, 0, 2, 1, 0, 0, 2, 2, 0, 0]);
+    let from_file = desk.run("trace table state move 1 D3hot calls").done();
+    let planned = desk.run("trace table state move 1 D3hot").done();
+    assert_eq!(from_file, planned);
+}
+
+#[test]
+fn a_list_that_is_not_lawful_is_traced_and_refused() {
+    let desk = Desk::with_dark_lamp("trace_unlawful");
+    desk.write(
+        "calls",
+        &[2, 0, 0, 0, 2, 2, 0, 0, 3, 1, 3, 0, 7, 7, 7, 7, 1],
+    );
+    let text = desk.run("trace table state move 1 D3hot calls").refused(19);
+    assert_eq!(
+        grid(&text)[1..],
+        [
+            [
+                "r0",
+                "1",
+                "before+after",
+                "on",
+                "!off",
+                "!off",
+                "!off",
+                "!off"
+            ],
+            ["r1", "2", "before", "on", "on", "on", "on", "on"],
+            ["r2", "1", "before", "on", "on", "off", "off", "off"],
+        ]
+    );
+    for line in [
+        "   4  07 07 07 07  no call",
+        "Fault: r0 is off after call 1, though it is needed before and after.",
+        "Fault: Call 3 is the device's own and finds off what it needs: r0 r2.",
+        "Fault: At the end off, though needed: r0.",
+        "Fault: At the end on, though not needed: r1.",
+        "Fault: The list ends with 1 odd byte; a call has four.",
+        "The planner's list has 3 calls:",
+    ] {
+        assert!(text.lines().any(|found| found == line), "{line}\n{text}");
+    }
+}
+
+#[test]
+fn a_refused_request_is_not_traced() {
+    let desk = Desk::new("trace_refused");
+    let text = desk
+        .run("trace table state move 1 D1 --svg drawing")
+        .refused(11);
+    assert_eq!(text.lines().count(), 1);
+    assert!(!desk.has("drawing"));
+}
+
+#[test]
+fn a_long_list_is_traced_in_parts() {
+    let desk = Desk::new("trace_long");
+    desk.write("calls", &[3, 1, 2, 0].repeat(30));
+    let text = desk.run("trace table state move 1 D2 calls").refused(19);
+    let titles = text.lines().filter(|line| line.starts_with("resource"));
+    assert_eq!(titles.count(), 3);
+    assert!(text.lines().all(|line| line.len() <= 120));
+}
+
+/// Checks that every element of a drawing is closed.
+fn is_well_formed(drawing: &str) {
+    let mut open = Vec::new();
+    for part in drawing.split('<').skip(1) {
+        let (tag, _) = part.split_once('>').expect("a tag ends");
+        let name = tag.split_whitespace().next().expect("a tag has a name");
+        match name.strip_prefix('/') {
+            Some(name) => assert_eq!(open.pop(), Some(name)),
+            None if tag.ends_with('/') => {}
+            None => open.push(name),
+        }
+    }
+    assert_eq!(open, [""; 0]);
+}
+
+#[test]
+fn a_trace_is_drawn() {
+    let desk = Desk::with_dark_lamp("trace_drawn");
+    desk.run("trace table state move 1 D3hot --svg drawing")
+        .done();
+    let drawing = String::from_utf8(desk.read("drawing")).expect("text");
+    is_well_formed(&drawing);
+    assert!(drawing.starts_with("<svg xmlns=\"http://www.w3.org/2000/svg\""));
+    for label in [
+        "Request: move device 1 to D3hot",
+        ">r0<",
+        ">r2<",
+        ">order 2<",
+        ">_PS3<",
+        ">_OFF<",
+        ">device 1<",
+        ">start<",
+        ">needed<",
+    ] {
+        assert!(drawing.contains(label), "{label}");
+    }
+    let count = |part| drawing.matches(part).count();
+    assert_eq!(count("<path class=\"level\""), 3);
+    assert_eq!(count("<circle class=\"needed\""), 4);
+    assert_eq!(count("<circle class=\"free\""), 2);
+    assert_eq!(count("<line class=\"own\""), 1);
+    assert_eq!(count("<line class=\"call\""), 2);
+    assert_eq!(count("class=\"fault"), 0);
+}
+
+#[test]
+fn a_faulty_trace_is_drawn_with_its_faults() {
+    let desk = Desk::with_dark_lamp("trace_faulty");
+    desk.write("calls", &[2, 0, 0, 0]);
+    let line = "trace table state move 1 D3hot calls --svg drawing";
+    desk.run(line).refused(19);
+    let drawing = String::from_utf8(desk.read("drawing")).expect("text");
+    is_well_formed(&drawing);
+    assert_eq!(drawing.matches("<rect class=\"fault\"").count(), 1);
+    assert!(drawing.contains("Fault: r0 is off after call 1"));
+}
+
+#[test]
+fn a_table_without_resources_is_traced_and_drawn() {
+    let desk = Desk::new("trace_no_resources");
+    let mut table = b"PWT\0\x01\0\x01\0".to_vec();
+    table.extend([255, 0, 0, 0]);
+    table.extend([0; 20]);
+    table.extend([255; 9]);
+    table.extend([0; 7]);
+    desk.write("table", &table);
+    desk.write("state", &[0; 132]);
+    let text = desk
+        .run("trace table state move 0 D3hot --svg drawing")
+        .done();
+    assert!(text.contains("no calls") && text.contains("no resources"));
+    let drawing = String::from_utf8(desk.read("drawing")).expect("text");
+    is_well_formed(&drawing);
+    assert!(drawing.contains("The table has no resources."));
+}
+
+#[test]
+fn wrong_usage_and_files_are_explained() {
+    let desk = Desk::new("trace_usage");
+    desk.run("trace table state")
+        .failed("the request is missing");
+    let run = desk.run("trace table state disarm 1 calls");
+    run.failed("cannot read calls: ");
+    let run = desk.run("trace table state disarm 1 table more");
+    run.failed("unexpected operand more");
+    let run = desk.run("trace table state disarm 1 --svg table");
+    run.failed("two purposes");
+    let run = desk.run("trace table state disarm 1 --svg missing/drawing");
+    run.failed("cannot write missing/drawing: ");
+    let run = desk.run("trace table state disarm 1 --svg");
+    run.failed("--svg needs a file");
+}

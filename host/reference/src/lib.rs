@@ -1,0 +1,32 @@
+//! A planner for ACPI power resources, written from the scope paper as ordinary
+//! Rust.
+//!
+//! It shares no code with the proved planner. The two are compared input by
+//! input, and the time of this one is the measure for the time of the other.
+//!
+//! [`check_table`], [`fresh`], [`plan`] and [`check`] take byte buffers as the
+//! C functions do. [`plan_words`] and [`check_words`] take 32-bit words.
+//! [`effect`] gives what a permitted request does, and [`demand3`] carries out
+//! a list that the checker passed.
+
+#![forbid(unsafe_code)]
+
+mod answer;
+mod call;
+mod panel;
+mod planner;
+mod request;
+mod state;
+mod table;
+
+pub use answer::Answer;
+pub use call::Call;
+pub use panel::{demand3, demand3_words, execution, Panel};
+pub use planner::{
+    check, check_words, effect, fresh, plan, plan_words, Effect, PLAN_BYTES, PLAN_WORDS,
+};
+pub use request::Request;
+pub use state::{Entry, State, STATE_BYTES};
+pub use table::{
+    check_table, numbers, record, wake_range, Device, Table, MAX_DEVICES, MAX_RESOURCES,
+};

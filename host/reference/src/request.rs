@@ -1,0 +1,190 @@
+//! Requests and the verdict on them (answers 10 to 18).
+
+use crate::answer::Answer;
+use crate::call::Call;
+use crate::state::{Entry, State, D0, D3COLD, D3HOT};
+use crate::table::{Device, Table};
+
+/// A request: four unsigned numbers, as the board passes them.
+#[derive(Clone, Copy, Debug, Default, PartialEq, Eq)]
+pub struct Request {
+    /// 1 moves, 2 arms, 3 disarms.
+    pub kind: u32,
+    /// The device number.
+    pub device: u32,
+    /// The target state of a move, or the sleep state S of arming.
+    pub a: u32,
+    /// The device state D of arming.
+    pub b: u32,
+}
+
+/// The kind of a move.
+const MOVE: u32 = 1;
+/// The kind of arming.
+const ARM: u32 = 2;
+/// The kind of disarming.
+const DISARM: u32 = 3;
+
+impl Request {
+    /// Moves `device` to `state`.
+    pub const fn move_to(device: u32, state: u32) -> Self {
+        Self {
+            kind: MOVE,
+            device,
+            a: state,
+            b: 0,
+        }
+    }
+
+    /// Arms `device` to wake the system from sleep state `s` out of device state `d`.
+    pub const fn arm(device: u32, s: u32, d: u32) -> Self {
+        Self {
+            kind: ARM,
+            device,
+            a: s,
+            b: d,
+        }
+    }
+
+    /// Disarms `device`.
+    pub const fn disarm(device: u32) -> Self {
+        Self {
+            kind: DISARM,
+            device,
+            a: 0,
+            b: 0,
+        }
+    }
+}
+
+/// What a permitted request does to its device.
+pub(crate) struct Change {
+    /// The device number.
+    pub device: usize,
+    /// The entry of the device after the request.
+    pub entry: Entry,
+    /// The word of the device's own call.
+    pub own_call: Option<u32>,
+    /// Whether the own call comes before the resource calls.
+    pub own_call_first: bool,
+}
+
+/// The change a request makes, or its refusal.
+pub(crate) fn verdict(table: &Table, state: &State, request: Request) -> Result<Change, Answer> {
+    let Request { kind, device, a, b } = request;
+    let in_range = match kind {
+        MOVE => a <= 4 && b == 0,
+        ARM => a <= 4 && b <= 4,
+        DISARM => a == 0 && b == 0,
+        _ => false,
+    };
+    if !in_range || device >= table.device_count() as u32 {
+        return Err(Answer::refused(10, 0));
+    }
+    let d = device as usize;
+    match kind {
+        MOVE => verdict_on_move(table, state, d, a as u8),
+        ARM => verdict_on_arming(table, state, d, a as u8, b as u8),
+        _ => Ok(disarming(table.device(d), state.entry(d), d)),
+    }
+}
+
+fn verdict_on_move(table: &Table, state: &State, d: usize, target: u8) -> Result<Change, Answer> {
+    let device = table.device(d);
+    let entry = state.entry(d);
+    if !device.supports(target) {
+        return Err(Answer::refused(11, 0));
+    }
+    if target < entry.state && target != D0 {
+        return Err(Answer::refused(12, 0));
+    }
+    if let Some(parent) = device.parent() {
+        if state.entry(parent).state > target {
+            return Err(Answer::refused(13, parent as u64));
+        }
+    }
+    if let Some(child) = shallower_child(table, state, d, target) {
+        return Err(Answer::refused(14, child as u64));
+    }
+    if entry.armed && target > entry.wake_d {
+        return Err(Answer::refused(15, 0));
+    }
+    Ok(Change {
+        device: d,
+        entry: Entry {
+            state: target,
+            ..entry
+        },
+        own_call: own_call_of_move(device, d, entry.state, target),
+        own_call_first: target > entry.state,
+    })
+}
+
+/// The lowest direct child of `d` in a state shallower than `target`.
+fn shallower_child(table: &Table, state: &State, d: usize, target: u8) -> Option<usize> {
+    // A parent's number is lower than its own, so children come after `d`.
+    (d + 1..table.device_count())
+        .find(|&c| table.device(c).parent() == Some(d) && state.entry(c).state < target)
+}
+
+fn own_call_of_move(device: Device, d: usize, present: u8, target: u8) -> Option<u32> {
+    let method = target.min(D3HOT);
+    let due = target != present
+        && !(present == D3HOT && target == D3COLD)
+        && device.has_set_state_method(method);
+    due.then(|| {
+        Call::SetState {
+            device: d as u8,
+            method,
+        }
+        .word()
+    })
+}
+
+fn verdict_on_arming(
+    table: &Table,
+    state: &State,
+    d: usize,
+    wake_s: u8,
+    wake_d: u8,
+) -> Result<Change, Answer> {
+    let device = table.device(d);
+    let entry = state.entry(d);
+    table.wake_pair(device, wake_s, wake_d)?;
+    if wake_d < entry.state {
+        return Err(Answer::refused(18, 0));
+    }
+    let call = Call::SetWake {
+        device: d as u8,
+        wake: Some((wake_s, wake_d)),
+    };
+    Ok(Change {
+        device: d,
+        entry: Entry {
+            state: entry.state,
+            armed: true,
+            wake_s,
+            wake_d,
+        },
+        own_call: device.has_dsw().then(|| call.word()),
+        own_call_first: false,
+    })
+}
+
+fn disarming(device: Device, entry: Entry, d: usize) -> Change {
+    let call = Call::SetWake {
+        device: d as u8,
+        wake: None,
+    };
+    Change {
+        device: d,
+        entry: Entry {
+            state: entry.state,
+            armed: false,
+            wake_s: 0,
+            wake_d: 0,
+        },
+        own_call: (device.has_dsw() && entry.armed).then(|| call.word()),
+        own_call_first: true,
+    }
+}

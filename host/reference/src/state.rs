@@ -1,0 +1,132 @@
+//! The state image, read in place (answers 7 and 8).
+
+use crate::answer::Answer;
+use crate::table::Table;
+
+/// The length of a state image.
+pub const STATE_BYTES: usize = 132;
+/// Where the set of resources that are on begins.
+const ON_SET: usize = 128;
+
+/// Fully on.
+pub(crate) const D0: u8 = 0;
+/// Off, with power.
+pub(crate) const D3HOT: u8 = 3;
+/// Off, without power.
+pub(crate) const D3COLD: u8 = 4;
+
+/// The entry of a device.
+#[derive(Clone, Copy, Debug, PartialEq, Eq)]
+pub struct Entry {
+    /// The device state, 0 to 4.
+    pub state: u8,
+    /// Whether the device is armed for wake.
+    pub armed: bool,
+    /// The sleep state S it is armed for.
+    pub wake_s: u8,
+    /// The device state D it is armed for.
+    pub wake_d: u8,
+}
+
+impl Entry {
+    fn from_bytes([state, armed, wake_s, wake_d]: [u8; 4]) -> Self {
+        Self {
+            state,
+            armed: armed != 0,
+            wake_s,
+            wake_d,
+        }
+    }
+
+    fn to_bytes(self) -> [u8; 4] {
+        [self.state, self.armed.into(), self.wake_s, self.wake_d]
+    }
+}
+
+/// A state that was found sound for its table.
+#[derive(Clone, Copy)]
+pub struct State<'a> {
+    /// One entry for each device of the table.
+    entries: &'a [[u8; 4]],
+    on: u32,
+}
+
+impl<'a> State<'a> {
+    /// Reads a state, or refuses it with 7 or 8.
+    pub fn read(table: &Table, bytes: &'a [u8]) -> Result<Self, Answer> {
+        let state = Self::read_values(table, bytes).ok_or(Answer::refused(7, 0))?;
+        match (0..table.device_count()).find(|&d| !state.is_sound(table, d)) {
+            Some(d) => Err(Answer::refused(8, d as u64)),
+            None => Ok(state),
+        }
+    }
+
+    fn read_values(table: &Table, bytes: &'a [u8]) -> Option<Self> {
+        let bytes: &[u8; STATE_BYTES] = bytes.try_into().ok()?;
+        let (entries, on) = bytes.as_chunks::<4>().0.split_at(ON_SET / 4);
+        let on = u32::from_le_bytes(on[0]);
+        let (entries, unused) = entries.split_at(table.device_count());
+        let good = entries.iter().all(|&entry| values_are_good(entry))
+            && unused.iter().all(|&entry| entry == [0; 4])
+            && on & !table.all_resources() == 0;
+        good.then_some(Self { entries, on })
+    }
+
+    fn is_sound(&self, table: &Table, d: usize) -> bool {
+        let device = table.device(d);
+        let entry = self.entry(d);
+        device.supports(entry.state)
+            && device
+                .parent()
+                .is_none_or(|p| entry.state >= self.entry(p).state)
+            && (!entry.armed
+                || entry.state <= entry.wake_d
+                    && table.wake_pair(device, entry.wake_s, entry.wake_d).is_ok())
+            && device.needs(entry) & !self.on == 0
+    }
+
+    /// The entry of device `d`.
+    pub fn entry(&self, d: usize) -> Entry {
+        Entry::from_bytes(self.entries[d])
+    }
+
+    /// The resources that are on.
+    pub fn on(&self) -> u32 {
+        self.on
+    }
+
+    /// The resources that some device needs.
+    pub fn needed(&self, table: &Table) -> u32 {
+        (0..table.device_count()).fold(0, |set, d| set | table.device(d).needs(self.entry(d)))
+    }
+
+    /// The resources that some device needs once device `changed` has `entry`.
+    pub(crate) fn needed_with(&self, table: &Table, changed: usize, entry: Entry) -> u32 {
+        (0..table.device_count())
+            .filter(|&d| d != changed)
+            .fold(table.device(changed).needs(entry), |set, d| {
+                set | table.device(d).needs(self.entry(d))
+            })
+    }
+}
+
+fn values_are_good([state, armed, wake_s, wake_d]: [u8; 4]) -> bool {
+    state <= 4
+        && match armed {
+            0 => wake_s == 0 && wake_d == 0,
+            1 => wake_s <= 4 && wake_d <= 4,
+            _ => false,
+        }
+}
+
+/// Writes the fresh state: every device in D0 and not armed, all resources on.
+pub(crate) fn write_fresh(table: &Table, state: &mut [u8; STATE_BYTES]) {
+    state[..ON_SET].fill(0);
+    state[ON_SET..].copy_from_slice(&table.all_resources().to_le_bytes());
+}
+
+/// Writes the new entry of device `d` and the set of resources that are on.
+pub(crate) fn write_change(state: &mut [u8], d: usize, entry: Entry, on: u32) {
+    state[4 * d..4 * d + 4].copy_from_slice(&entry.to_bytes());
+    state[ON_SET..STATE_BYTES].copy_from_slice(&on.to_le_bytes());
+}

@@ -1,0 +1,312 @@
+//! Answers, and a sentence for each number.
+
+use std::fmt;
+
+/// The answer of a function. Number 0 is done; every other number is a refusal.
+#[derive(Clone, Copy, Debug, PartialEq, Eq, Hash)]
+pub struct Answer {
+    /// The answer number.
+    pub number: u8,
+    /// The number of the resource or device the answer is about, 0 where there
+    /// is none.
+    pub place: u64,
+    /// The number of calls planned, 0 for a refusal and for the checker.
+    pub count: u16,
+}
+
+impl Answer {
+    /// The answer read from the number a C function gave: number in bits 0 to
+    /// 7, count in bits 8 to 23, place in bits 24 to 63.
+    pub const fn unpack(packed: u64) -> Self {
+        Self {
+            number: packed as u8,
+            count: (packed >> 8) as u16,
+            place: packed >> 24,
+        }
+    }
+
+    /// The answer as a C function gives it. A place has at most 40 bits.
+    pub const fn pack(self) -> u64 {
+        self.number as u64 | (self.count as u64) << 8 | self.place << 24
+    }
+
+    /// Whether the request was carried out.
+    pub const fn is_done(self) -> bool {
+        self.number == 0
+    }
+
+    /// The length of the plan in bytes.
+    pub const fn plan_length(self) -> usize {
+        4 * self.count as usize
+    }
+
+    /// What the number means, `None` for a number that has no meaning.
+    pub const fn verdict(self) -> Option<Verdict> {
+        Verdict::from_number(self.number)
+    }
+}
+
+impl fmt::Display for Answer {
+    /// One sentence with the number and the place.
+    fn fmt(&self, f: &mut fmt::Formatter) -> fmt::Result {
+        let Self { number, place, .. } = self;
+        let Some(verdict) = self.verdict() else {
+            return write!(f, "answer {number}, place {place}: an unknown answer.");
+        };
+        let sentence = verdict.sentence();
+        match verdict.place() {
+            Place::Nothing => write!(f, "answer {number}, place {place}: {sentence}"),
+            Place::Resource => write!(f, "answer {number}, resource {place}: {sentence}"),
+            Place::Device => write!(f, "answer {number}, device {place}: {sentence}"),
+        }
+    }
+}
+
+/// What the place of an answer counts.
+#[derive(Clone, Copy, Debug, PartialEq, Eq, Hash)]
+pub enum Place {
+    /// The place is 0 and has no meaning.
+    Nothing,
+    /// The place is a resource number.
+    Resource,
+    /// The place is a device number.
+    Device,
+}
+
+/// The meaning of an answer number.
+#[derive(Clone, Copy, Debug, PartialEq, Eq, Hash)]
+#[repr(u8)]
+pub enum Verdict {
+    /// The request was carried out.
+    Done = 0,
+    /// The table is too short for a header, or the header is wrong.
+    BadHeader = 1,
+    /// The table has too many resources or devices.
+    TooMany = 2,
+    /// The table has the wrong length.
+    BadLength = 3,
+    /// A resource record is wrong.
+    BadResource = 4,
+    /// A field of a device record is wrong.
+    BadDevice = 5,
+    /// A device breaks an object rule.
+    ObjectRuleBroken = 6,
+    /// The state has the wrong length or a value out of its rules.
+    BadState = 7,
+    /// The state is not sound.
+    StateNotSound = 8,
+    /// There is too little room for the plan.
+    NoRoom = 9,
+    /// A number of the request is out of range.
+    BadRequest = 10,
+    /// The device does not have the target state.
+    StateNotSupported = 11,
+    /// The target is shallower than the present state and not D0.
+    ShallowerNotD0 = 12,
+    /// The parent is deeper than the target.
+    ParentDeeper = 13,
+    /// A child is shallower than the target.
+    ChildShallower = 14,
+    /// The device is armed, and the target is deeper than its wake state.
+    DeeperThanWake = 15,
+    /// The device cannot wake the system from that sleep state.
+    CannotWake = 16,
+    /// A resource for wake is off in that sleep state.
+    WakeResourceOff = 17,
+    /// The device state is not allowed for wake.
+    WakeStateNotAllowed = 18,
+    /// The list is not lawful.
+    ListNotLawful = 19,
+}
+
+impl Verdict {
+    /// Every verdict, by number.
+    pub const ALL: [Verdict; 20] = [
+        Verdict::Done,
+        Verdict::BadHeader,
+        Verdict::TooMany,
+        Verdict::BadLength,
+        Verdict::BadResource,
+        Verdict::BadDevice,
+        Verdict::ObjectRuleBroken,
+        Verdict::BadState,
+        Verdict::StateNotSound,
+        Verdict::NoRoom,
+        Verdict::BadRequest,
+        Verdict::StateNotSupported,
+        Verdict::ShallowerNotD0,
+        Verdict::ParentDeeper,
+        Verdict::ChildShallower,
+        Verdict::DeeperThanWake,
+        Verdict::CannotWake,
+        Verdict::WakeResourceOff,
+        Verdict::WakeStateNotAllowed,
+        Verdict::ListNotLawful,
+    ];
+
+    /// The verdict with this number.
+    pub const fn from_number(number: u8) -> Option<Self> {
+        if (number as usize) < Self::ALL.len() {
+            Some(Self::ALL[number as usize])
+        } else {
+            None
+        }
+    }
+
+    /// The answer number.
+    pub const fn number(self) -> u8 {
+        self as u8
+    }
+
+    /// What the place of this answer counts.
+    pub const fn place(self) -> Place {
+        match self {
+            Verdict::BadResource => Place::Resource,
+            Verdict::BadDevice
+            | Verdict::ObjectRuleBroken
+            | Verdict::StateNotSound
+            | Verdict::ParentDeeper
+            | Verdict::ChildShallower => Place::Device,
+            _ => Place::Nothing,
+        }
+    }
+
+    /// The meaning in one sentence. "This resource" and "this device" are the
+    /// ones at the place of the answer.
+    pub const fn sentence(self) -> &'static str {
+        match self {
+            Verdict::Done => "done.",
+            Verdict::BadHeader => {
+                "the table is shorter than 8 bytes, or its mark, its version or its byte 7 is wrong."
+            }
+            Verdict::TooMany => "the table has more than 32 resources or more than 32 devices.",
+            Verdict::BadLength => {
+                "the table is not 8 bytes, 4 a resource and 40 a device long."
+            }
+            Verdict::BadResource => {
+                "the record of this resource has a system level above 4, or its byte 1 is not zero."
+            }
+            Verdict::BadDevice => {
+                "the record of this device has a field with a value that is not allowed."
+            }
+            Verdict::ObjectRuleBroken => {
+                "the objects of this device break a rule: any _PS needs _PS0 and _PS3, any _PR \
+                 needs _PR0, with both kinds their masks agree on 0 to 2, and _DSW needs _PRW."
+            }
+            Verdict::BadState => {
+                "the state is not 132 bytes long, or a value in it is not allowed."
+            }
+            Verdict::StateNotSound => {
+                "the state is not sound: this device is in a state it does not have, is shallower \
+                 than its parent, is armed for a wake pair that is not legal or shallower than its \
+                 own state, or needs a resource that is off."
+            }
+            Verdict::NoRoom => "the buffer for the plan has room for fewer than 33 calls.",
+            Verdict::BadRequest => {
+                "the kind, the device or a number of the request is out of range, or an unused \
+                 number is not zero."
+            }
+            Verdict::StateNotSupported => "the device does not have the state asked for.",
+            Verdict::ShallowerNotD0 => {
+                "the state asked for is shallower than the present one and is not D0; a device \
+                 first goes to D0."
+            }
+            Verdict::ParentDeeper => {
+                "this device is the parent and is in a deeper state than the one asked for."
+            }
+            Verdict::ChildShallower => {
+                "this device is a child and is in a shallower state than the one asked for."
+            }
+            Verdict::DeeperThanWake => {
+                "the device is armed, and the state asked for is deeper than its wake state."
+            }
+            Verdict::CannotWake => {
+                "the device has no _PRW, or the sleep state is deeper than its _PRW allows."
+            }
+            Verdict::WakeResourceOff => {
+                "a resource of _PRW has a system level below the sleep state, so it is off there."
+            }
+            Verdict::WakeStateNotAllowed => {
+                "the device cannot wake the system from that device state: it does not have it, \
+                 the state is outside the range for the sleep state, or it is shallower than the \
+                 present state."
+            }
+            Verdict::ListNotLawful => {
+                "the list is not lawful: it does not have exactly the calls that are due, each \
+                 once and in order."
+            }
+        }
+    }
+}
+
+#[cfg(test)]
+mod tests {
+    use super::{Answer, Place, Verdict};
+
+    #[test]
+    fn numbers_and_verdicts_go_both_ways() {
+        for (number, verdict) in Verdict::ALL.into_iter().enumerate() {
+            assert_eq!(usize::from(verdict.number()), number);
+            assert_eq!(Verdict::from_number(number as u8), Some(verdict));
+        }
+        for number in 20..=255 {
+            assert_eq!(Verdict::from_number(number), None);
+        }
+    }
+
+    #[test]
+    fn each_number_has_one_sentence_of_its_own() {
+        let mut sentences: Vec<&str> = Verdict::ALL.map(Verdict::sentence).to_vec();
+        for sentence in &sentences {
+            assert_eq!(sentence.find('.'), Some(sentence.len() - 1), "{sentence}");
+        }
+        sentences.sort_unstable();
+        sentences.dedup();
+        assert_eq!(sentences.len(), 20);
+    }
+
+    #[test]
+    fn places_are_named() {
+        let text = |number| {
+            let place = if Verdict::ALL[usize::from(number)].place() == Place::Nothing {
+                0
+            } else {
+                7
+            };
+            let answer = Answer {
+                number,
+                place,
+                count: 0,
+            };
+            answer.to_string()
+        };
+        assert!(text(4).starts_with("answer 4, resource 7: the record"));
+        for number in [5, 6, 8, 13, 14] {
+            assert!(text(number).contains(", device 7: "));
+        }
+        for number in [0, 1, 2, 3, 7, 9, 10, 11, 12, 15, 16, 17, 18, 19] {
+            assert!(text(number).contains(", place 0: "));
+        }
+        let unknown = Answer {
+            number: 20,
+            place: 3,
+            count: 0,
+        };
+        assert_eq!(
+            unknown.to_string(),
+            "answer 20, place 3: an unknown answer."
+        );
+    }
+
+    #[test]
+    fn an_answer_has_its_bits() {
+        let answer = Answer {
+            number: 0x0e,
+            place: 0x12_3456_789a,
+            count: 0xbcde,
+        };
+        assert_eq!(answer.pack(), 0x1234_5678_9abc_de0e);
+        assert_eq!(Answer::unpack(answer.pack()), answer);
+        assert_eq!(answer.plan_length(), 4 * 0xbcde);
+    }
+}

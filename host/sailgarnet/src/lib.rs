@@ -1,0 +1,36 @@
+//! The proved planner for ACPI power resources, called from Rust.
+//!
+//! The planner is a static library with three C functions. This crate declares
+//! them and offers each as a safe function: `fresh`, `plan` and `check`.
+//! They take the same byte buffers as the C functions and refuse a buffer of
+//! the wrong length by their answer, so no call can go wrong in another way.
+//!
+//! A table says which resources and devices there are. A state, 132 bytes, says
+//! what is on and in which state each device is. A [`Request`] moves, arms or
+//! disarms one device. The planner gives the method calls that carry it out, a
+//! [`Call`] for each four bytes, and the new state; or it refuses. The [`Answer`]
+//! says which, and its [`Verdict`] has a sentence for each number.
+//!
+//! The feature `link`, on by default, links the library. Without it only the
+//! types are there.
+
+mod answer;
+mod call;
+#[cfg(feature = "link")]
+mod library;
+mod request;
+
+pub use answer::{Answer, Place, Verdict};
+pub use call::{calls, Call};
+#[cfg(feature = "link")]
+pub use library::{check, fresh, plan};
+pub use request::Request;
+
+/// The length of a state.
+pub const STATE_BYTES: usize = 132;
+
+/// The most calls a plan can have.
+pub const PLAN_CALLS: usize = 33;
+
+/// The room the planner asks for in bytes, four a call.
+pub const PLAN_BYTES: usize = 4 * PLAN_CALLS;
