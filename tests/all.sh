@@ -36,12 +36,12 @@ bench_output() {
   python3 tests/bench_expected.py | diff - crates/bench/stdout
 }
 
-# the host side without the static library: the independent reference, the generators of cases, the command over the reference
+# the host side over the proved library: the wrapper, the comparison with the independent reference, the command
 host() {
   local log status sums
   log=$(mktemp)
   echo "== cargo test (host)"
-  cargo test --offline --manifest-path host/Cargo.toml --workspace --no-default-features > "$log" 2>&1
+  cargo test --offline --manifest-path host/Cargo.toml --workspace > "$log" 2>&1
   status=$?
   sums=$(awk '/^test result:/ { p += $4; f += $6 } END { print p + 0, f + 0 }' "$log")
   grep -E '^test result:|FAILED|panicked' "$log"
@@ -55,9 +55,26 @@ host() {
   rm -f "$log"
 }
 
+# the header is valid in each language
+header() {
+  local strict="-Wall -Wextra -Wpedantic -Werror -fsyntax-only -Iinclude"
+  echo '#include "sailgarnet.h"' > target/header.c
+  cp target/header.c target/header.cpp
+  gcc -std=c99 $strict target/header.c && gcc -std=c11 $strict target/header.c && g++ -std=c++17 $strict target/header.cpp
+}
+
+# the board's program against the proved library, with other flags in $@
+board() {
+  gcc -std=c99 -Wall -Wextra -Wpedantic -Werror -Iinclude "$@" examples/board.c target/staticlib/libsailgarnet.a -o target/board && target/board | diff - examples/board.out
+}
+
 step rt fmt --check
 step bench_output
-host
 proofs
+step rt staticlib sailgarnet
+step header
+step board -O2
+step board -g -fsanitize=address,undefined
+host
 echo "$passed passed, $failed failed"
 [ "$failed" -eq 0 ]

@@ -58,7 +58,7 @@ test-is t b q g before e ne after own ws last on off r h i j k f f′ o l w =
     w ∙ rw (o ∙ ap (map wordOf) (own-of s (st .entries) q e (entry-is t b q g before e ne after h i j k)), l, f, f′, a, c) (walked-is s st q ws)
 
 -- ---- the answer. v is the answer of the checks before, p whether it passes, c what the test said
-permitted-is : (t b : List ℕ) (q : Request) → stagesVerdict true t b q ≡ permittedVerdict 4 t b q
+pub permitted-is : (t b : List ℕ) (q : Request) → stagesVerdict true t b q ≡ permittedVerdict 4 t b q
 unfolding stagesVerdict stagesOf permittedVerdict firstOf unless passes
 permitted-is t b q = refl
 

@@ -23,7 +23,7 @@ pub fn next_state(table: &[u8], before: State, d: usize, e: Entry) -> State
 }
 
 // The calls and the state of a request that has passed every check.
-fn carry(table: &[u8], state: &mut [u8], q: Request, plan: &mut [u32]) -> usize
+pub fn carry(table: &[u8], state: &mut [u8], q: Request, plan: &mut [u32]) -> usize
     requires { ⌜ Asked (now table) (now state) q × (33 ≤ length (now plan)) ⌝ }
     ensures { λ r. ⌜ Carried (now (table .entry)) (now (state .entry)) q (now (plan .entry)) r (now (state .exit)) (now (plan .exit)) ⌝ }
 {

@@ -1,0 +1,4 @@
+pub mod Long
+pub mod Copy
+pub mod Outer
+pub mod Numbers

@@ -1,0 +1,57 @@
+// The board's functions: numbers and byte slices in, one number out.
+pub mod bytes;
+
+use rules::Request;
+use rules::Verdict;
+ghost use mathlib.Core.Path.{_≡_};
+ghost use Rattle.rules.specs.Outcomes.{fresh, planBytes, checkBytes};
+ghost use Rattle.laws.specs.Demand3.{Demand3Bytes};
+ghost use Rattle.sailgarnet.specs.Packed.{packed, asked};
+
+// An answer as one number: its number in bits 0 to 7, its count in bits 8 to 23, its place in bits 24 to 63.
+pub fn pack(v: Verdict) -> u64
+    ensures { λ r. ⌜ r ≡ packed v ⌝ }
+{
+    let number = rules::number(v) as u64;
+    let count = rules::count(v) as u64;
+    let place = rules::place(v) as u64;
+    number + 0x100 * (count % 0x1_0000) + 0x100_0000 * (place % 0x100_0000_0000)
+}
+
+#[no_mangle]
+pub extern "C" fn sailgarnet_fresh(table: &[u8], state: &mut [u8]) -> u64
+    ensures { λ r. ⌜ (r ≡ packed (fresh 4 (now (table .entry)) (now (state .entry)) .verdict)) × (now (state .exit) ≡ fresh 4 (now (table .entry)) (now (state .entry)) .state) ⌝ }
+{
+    pack(status::answers::fresh(table, state))
+}
+
+#[no_mangle]
+pub extern "C" fn sailgarnet_plan(
+    table: &[u8],
+    state: &mut [u8],
+    kind: u32,
+    device: u32,
+    a: u32,
+    b: u32,
+    plan: &mut [u8],
+) -> u64
+    ensures { λ r. ⌜ (r ≡ packed (planBytes 4 (now (table .entry)) (now (state .entry)) (asked kind device a b) (now (plan .entry)) .verdict)) × (now (state .exit) ≡ planBytes 4 (now (table .entry)) (now (state .entry)) (asked kind device a b) (now (plan .entry)) .state) × (now (plan .exit) ≡ planBytes 4 (now (table .entry)) (now (state .entry)) (asked kind device a b) (now (plan .entry)) .plan) ⌝ }
+{
+    pack(bytes::plan_bytes(table, state, Request { kind, device, a, b }, plan))
+}
+
+#[no_mangle]
+pub extern "C" fn sailgarnet_check(
+    table: &[u8],
+    state: &[u8],
+    kind: u32,
+    device: u32,
+    a: u32,
+    b: u32,
+    list: &[u8],
+) -> u64
+    ensures answer { λ r. ⌜ r ≡ packed (checkBytes 4 (now (table .entry)) (now (state .entry)) (asked kind device a b) (now (list .entry))) ⌝ }
+    ensures demand { λ _. ⌜ Demand3Bytes 4 (now (table .entry)) (now (state .entry)) (asked kind device a b) (now (list .entry)) ⌝ }
+{
+    pack(bytes::check_bytes(table, state, Request { kind, device, a, b }, list))
+}
