@@ -6,6 +6,9 @@ ghost use Prim.Native.Nat.{_*_, _<_, _≤_};
 ghost use lib.ListN.{length, set};
 ghost use Rattle.rules.specs.Answers.{numberOf};
 
+// A table or an image, with room for a byte more than a table.
+pub type Bytes = [u8; 141];
+
 // Prints a text and a number, and answers the number.
 pub fn count(text: &[u8], n: usize) -> usize
     ensures { λ r. ⌜ r ≡ n ⌝ }
@@ -42,7 +45,7 @@ pub fn end() -> usize
 }
 
 // Some bytes with one of them set.
-pub fn with(bytes: [u8; 141], at: usize, x: u8) -> [u8; 141]
+pub fn with(bytes: Bytes, at: usize, x: u8) -> Bytes
     requires { ⌜ (length bytes ≡ 141) × (at < 141) ⌝ }
     ensures { λ r. ⌜ (length r ≡ 141) × (r ≡ set bytes at x) ⌝ }
 {
@@ -52,7 +55,7 @@ pub fn with(bytes: [u8; 141], at: usize, x: u8) -> [u8; 141]
 }
 
 // The same, and prints so.
-pub fn change(bytes: [u8; 141], at: usize, x: u8) -> [u8; 141]
+pub fn change(bytes: Bytes, at: usize, x: u8) -> Bytes
     requires { ⌜ (length bytes ≡ 141) × (at < 141) ⌝ }
     ensures { λ r. ⌜ (length r ≡ 141) × (r ≡ set bytes at x) ⌝ }
 {

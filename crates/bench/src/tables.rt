@@ -7,6 +7,9 @@ ghost use lib.ListN.{length};
 ghost use Rattle.rules.specs.Answers.{numberOf};
 ghost use Rattle.rules.specs.Table.{tableVerdict};
 
+// Room for a table of 33 bare devices.
+type Large = [u8; 1328];
+
 // Prints the answer for a table, and gives its number.
 fn judged(table: &[u8]) -> u8
     ensures { λ r. ⌜ r ≡ numberOf (tableVerdict 4 (now (table .entry))) ⌝ }
@@ -339,7 +342,7 @@ pub fn cases() -> usize
 }
 
 // Bytes with device records from the header up to an end, each bare.
-fn fill(bytes: [u8; 1328], end: usize) -> [u8; 1328]
+fn fill(bytes: Large, end: usize) -> Large
     requires { ⌜ (length bytes ≡ 1328) × (8 ≤ end) × (end ≤ 1328) ⌝ }
     ensures { λ r. ⌜ length r ≡ 1328 ⌝ }
 {

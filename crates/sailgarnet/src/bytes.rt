@@ -26,8 +26,11 @@ pub fn write_words(from: &[u32], n: usize, out: &mut [u8])
     }
 }
 
+// Room for the longest lawful call list.
+pub type Calls = [u32; 33];
+
 // The first n words of the bytes; what follows them is not looked at.
-pub fn read_words(from: &[u8], n: usize) -> [u32; 33]
+pub fn read_words(from: &[u8], n: usize) -> Calls
     requires { ⌜ (n ≤ 33) × (4 * n ≤ length (now from)) ⌝ }
     ensures { λ r. ⌜ take n r ≡ byteWords n (now (from .entry)) ⌝ }
 {
