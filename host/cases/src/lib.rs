@@ -18,6 +18,7 @@ mod rng;
 mod states;
 mod station;
 pub mod sweep;
+mod workload;
 
 use std::fmt;
 
@@ -30,6 +31,7 @@ pub use requests::{any_request, likely_request};
 pub use rng::Rng;
 pub use states::draw_state;
 pub use station::{Record, Resource, Station, SHAPES};
+pub use workload::{workloads, Workload};
 
 /// One input for every function.
 #[derive(Clone, Default, PartialEq, Eq)]

@@ -1,6 +1,6 @@
 //! The cases reach every answer and every rule. The reference alone is run.
 
-use cases::{sweep, Case, Cases};
+use cases::{sweep, workloads, Case, Cases};
 use reference::{check, effect, fresh, plan, wake_range, Call, Effect, Table};
 
 const CASES: usize = 200_000;
@@ -197,4 +197,36 @@ fn sweeps_reach_their_answers() {
         armings.add(plan(table, &mut state, request, &mut [0; 132]).number);
     });
     armings.are_given("armings", &[0, 5, 8, 16, 17, 18]);
+}
+
+#[test]
+fn workloads_get_their_answers() {
+    let (mut planner, mut checker) = (Vec::new(), Vec::new());
+    for workload in workloads() {
+        let Case {
+            table,
+            mut state,
+            request,
+            mut plan,
+            list,
+            ..
+        } = workload.case;
+        let checked = check(&table, &state, request, &list).number;
+        let planned = reference::plan(&table, &mut state, request, &mut plan).number;
+        assert!(
+            workload.planner.is_none_or(|number| number == planned),
+            "{}",
+            workload.name
+        );
+        assert!(
+            workload.checker.is_none_or(|number| number == checked),
+            "{}",
+            workload.name
+        );
+        planner.extend(workload.planner);
+        checker.extend(workload.checker);
+    }
+    // Accepted, and refused at each stage: table, state, soundness, room, request, list.
+    assert!([0, 1, 5, 7, 8, 9, 10].iter().all(|n| planner.contains(n)));
+    assert!([0, 1, 5, 7, 8, 10, 19].iter().all(|n| checker.contains(n)));
 }

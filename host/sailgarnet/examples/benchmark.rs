@@ -1,119 +1,171 @@
-//! Times the library against the reference on the same inputs.
-//! Run with `cargo run --release -p sailgarnet --example benchmark`.
+//! Measures the library against the reference on the inputs of `cases::workloads`.
+//!
+//! Without operands it times both and prints a table (`make bench`). With
+//! `instructions` it makes each call twice and prints what it called, for a
+//! program that counts instructions (`make instructions`).
 
 use std::hint::black_box;
 use std::time::Instant;
 
-use cases::{Case, Cases};
-use sailgarnet::PLAN_BYTES;
+use cases::{workloads, Case, Workload};
 
-/// Few enough that the inputs stay in the cache.
-const CASES: usize = 100;
-const ROUNDS: usize = 50;
-/// The fastest of many runs counts, since other programs only add time.
-const RUNS: usize = 200;
+/// So many calls are timed at once, each with buffers of its own. All of them
+/// stay in the cache, and they are reset between two rounds, outside the time.
+const BUFFERS: usize = 64;
+const ROUNDS: usize = 400;
 
-/// Runs one function on a case, with buffers it may write to.
-type Run = fn(&Case, &mut Case) -> u64;
+/// What a function writes to.
+#[derive(Clone)]
+struct Buffers {
+    state: Vec<u8>,
+    plan: Vec<u8>,
+}
+
+/// Calls one function of one planner.
+type Run = fn(&Case, &mut Buffers) -> u64;
+
+/// One line of the table.
+struct Row<'a> {
+    function: &'static str,
+    workload: &'a Workload,
+    number: u8,
+    /// The library's function and the reference's.
+    runs: [Run; 2],
+}
 
 fn main() {
-    let mut stream = Cases::new(1);
-    let drawn: Vec<Case> = (0..CASES).map(|_| stream.next_case().clone()).collect();
-    let accepted = accepted_cases(&mut stream);
-    println!("nanoseconds a call    library  reference  ratio");
-    for (name, cases) in [("all", &drawn), ("accepted", &accepted)] {
-        compare(
-            &format!("plan, {name}"),
-            cases,
-            library_plan,
-            reference_plan,
-        );
-        compare(
-            &format!("check, {name}"),
-            cases,
-            library_check,
-            reference_check,
-        );
-        compare(
-            &format!("fresh, {name}"),
-            cases,
-            library_fresh,
-            reference_fresh,
-        );
+    let workloads = workloads();
+    let rows = rows(&workloads);
+    rows.iter().for_each(must_agree);
+    match std::env::args().nth(1).as_deref() {
+        None => print_times(&rows),
+        Some("instructions") => call_each_twice(&rows),
+        Some(other) => panic!("unknown operand {other}"),
     }
 }
 
-/// Cases that are accepted and have calls.
-fn accepted_cases(stream: &mut Cases) -> Vec<Case> {
-    let mut accepted = Vec::new();
-    while accepted.len() < CASES {
-        let case = stream.next_case();
-        let answer = reference::check(&case.table, &case.state, case.request, &case.list);
-        if answer.is_done() && case.plan.len() >= PLAN_BYTES && !case.list.is_empty() {
-            accepted.push(case.clone());
+fn rows(workloads: &[Workload]) -> Vec<Row<'_>> {
+    let mut rows = Vec::new();
+    for workload in workloads {
+        let functions: [(_, _, [Run; 2]); 2] = [
+            ("plan", workload.planner, [library_plan, reference_plan]),
+            ("check", workload.checker, [library_check, reference_check]),
+        ];
+        for (function, number, runs) in functions {
+            rows.extend(number.map(|number| Row {
+                function,
+                workload,
+                number,
+                runs,
+            }));
         }
     }
-    accepted
+    rows.sort_by_key(|row| row.function == "check");
+    rows
 }
 
-/// Times both in turn, so that both meet the same conditions.
-fn compare(name: &str, cases: &[Case], library: Run, reference: Run) {
-    let mut buffers = cases.to_vec();
+impl Row<'_> {
+    fn buffers(&self) -> Buffers {
+        Buffers {
+            state: self.workload.case.state.clone(),
+            plan: self.workload.case.plan.clone(),
+        }
+    }
+
+    fn run(&self, run: Run, buffers: &mut Buffers) -> u64 {
+        black_box(run(black_box(&self.workload.case), buffers))
+    }
+}
+
+/// A row is worth measuring only if both do what its name says.
+fn must_agree(row: &Row) {
+    let [library, reference] = row.runs.map(|run| {
+        let mut buffers = row.buffers();
+        (row.run(run, &mut buffers), buffers.state, buffers.plan)
+    });
+    assert!(library == reference, "{} differs", row.workload.name);
+    assert_eq!(library.0 as u8, row.number, "{}", row.workload.name);
+}
+
+fn print_times(rows: &[Row]) {
+    println!(
+        "Nanoseconds a call, of the fastest of {ROUNDS} rounds of {BUFFERS} calls. Both take turns in one \
+         run.\nAll buffers are in the cache; state and plan are reset before each round, outside the time.\n"
+    );
+    println!("| function | input | answer | Sailgarnet ns | reference ns | ratio |");
+    println!("|---|---|---|---|---|---|");
+    for row in rows {
+        let [library, reference] = times(row);
+        println!(
+            "| {} | {} | {} | {library:.0} | {reference:.0} | {:.2} |",
+            row.function,
+            row.workload.name,
+            row.number,
+            library / reference
+        );
+    }
+}
+
+/// Nanoseconds a call, of the fastest round: other programs only add time. The
+/// two take turns, so that both meet the same conditions.
+fn times(row: &Row) -> [f64; 2] {
+    let mut buffers = vec![row.buffers(); BUFFERS];
     let mut best = [f64::INFINITY; 2];
-    for _ in 0..RUNS {
-        for (best, run) in best.iter_mut().zip([library, reference]) {
-            *best = best.min(time(cases, &mut buffers, run));
-        }
-    }
-    let [library, reference] = best;
-    let ratio = library / reference;
-    println!("{name:20} {library:8.0} {reference:10.0} {ratio:6.2}");
-}
-
-/// Nanoseconds a call.
-fn time(cases: &[Case], buffers: &mut [Case], run: Run) -> f64 {
-    let start = Instant::now();
     for _ in 0..ROUNDS {
-        for (case, buffers) in cases.iter().zip(&mut *buffers) {
-            black_box(run(black_box(case), buffers));
+        for (best, &run) in best.iter_mut().zip(&row.runs) {
+            *best = best.min(round(row, run, &mut buffers));
         }
     }
-    start.elapsed().as_nanos() as f64 / (ROUNDS * cases.len()) as f64
+    best
 }
 
-/// Every round begins with the state of the case.
-fn lend_state(case: &Case, buffers: &mut Case) {
-    buffers.state.copy_from_slice(&case.state);
+fn round(row: &Row, run: Run, buffers: &mut [Buffers]) -> f64 {
+    for buffers in &mut *buffers {
+        buffers.clone_from(&row.buffers());
+    }
+    let start = Instant::now();
+    for buffers in &mut *buffers {
+        row.run(run, buffers);
+    }
+    start.elapsed().as_nanos() as f64 / BUFFERS as f64
 }
 
-fn library_plan(case: &Case, buffers: &mut Case) -> u64 {
-    lend_state(case, buffers);
+/// The second call of each counts: nothing is done for the first time in it.
+fn call_each_twice(rows: &[Row]) {
+    for row in rows {
+        println!("{}|{}|{}", row.function, row.workload.name, row.number);
+        for run in row.runs {
+            for _ in 0..2 {
+                counted(row, run, &mut row.buffers());
+            }
+        }
+    }
+}
+
+/// Counting begins and ends with this function, so it must not be inlined.
+#[inline(never)]
+fn counted(row: &Row, run: Run, buffers: &mut Buffers) -> u64 {
+    row.run(run, buffers)
+}
+
+fn library_plan(case: &Case, buffers: &mut Buffers) -> u64 {
     let request = library_request(case);
-    let (state, plan) = (&mut buffers.state, &mut buffers.plan);
+    let Buffers { state, plan } = buffers;
     sailgarnet::plan(&case.table, state, request, plan).pack()
 }
 
-fn reference_plan(case: &Case, buffers: &mut Case) -> u64 {
-    lend_state(case, buffers);
-    let (state, plan) = (&mut buffers.state, &mut buffers.plan);
+fn reference_plan(case: &Case, buffers: &mut Buffers) -> u64 {
+    let Buffers { state, plan } = buffers;
     reference::plan(&case.table, state, case.request, plan).pack()
 }
 
-fn library_fresh(case: &Case, buffers: &mut Case) -> u64 {
-    sailgarnet::fresh(&case.table, &mut buffers.fresh).pack()
-}
-
-fn reference_fresh(case: &Case, buffers: &mut Case) -> u64 {
-    reference::fresh(&case.table, &mut buffers.fresh).pack()
-}
-
-fn library_check(case: &Case, _: &mut Case) -> u64 {
+fn library_check(case: &Case, buffers: &mut Buffers) -> u64 {
     let request = library_request(case);
-    sailgarnet::check(&case.table, &case.state, request, &case.list).pack()
+    sailgarnet::check(&case.table, &buffers.state, request, &case.list).pack()
 }
 
-fn reference_check(case: &Case, _: &mut Case) -> u64 {
-    reference::check(&case.table, &case.state, case.request, &case.list).pack()
+fn reference_check(case: &Case, buffers: &mut Buffers) -> u64 {
+    reference::check(&case.table, &buffers.state, case.request, &case.list).pack()
 }
 
 fn library_request(case: &Case) -> sailgarnet::Request {

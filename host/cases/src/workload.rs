@@ -1,0 +1,216 @@
+//! The inputs on which planner and checker are measured: the bench station, a
+//! table of full size, and a refusal at each stage of the checks.
+
+use reference::{fresh, plan, Request, PLAN_BYTES, STATE_BYTES};
+
+use crate::station::{Record, Resource, Station};
+use crate::sweep::bench_station;
+use crate::Case;
+
+/// An input to measure, with the answers it must get.
+pub struct Workload {
+    /// What the input is.
+    pub name: &'static str,
+    /// The input.
+    pub case: Case,
+    /// The planner's answer number, or `None` if the planner is not measured.
+    pub planner: Option<u8>,
+    /// The checker's answer number, or `None` if the checker is not measured.
+    pub checker: Option<u8>,
+}
+
+impl Workload {
+    fn both(name: &'static str, number: u8, case: Case) -> Self {
+        Self {
+            name,
+            case,
+            planner: Some(number),
+            checker: Some(number),
+        }
+    }
+
+    fn planner(name: &'static str, number: u8, case: Case) -> Self {
+        Self {
+            checker: None,
+            ..Self::both(name, number, case)
+        }
+    }
+
+    fn checker(name: &'static str, number: u8, case: Case) -> Self {
+        Self {
+            planner: None,
+            ..Self::both(name, number, case)
+        }
+    }
+}
+
+/// Every input to measure.
+pub fn workloads() -> Vec<Workload> {
+    let mut all = accepted();
+    all.extend(refused_bytes());
+    all.extend(refused_requests());
+    all
+}
+
+fn accepted() -> Vec<Workload> {
+    let bench = bench_station().table();
+    let lamp_off = Request::move_to(2, 4);
+    let camera_off = Request::move_to(1, 3);
+    let before_w4 = walk(&bench, &[lamp_off]);
+    let before_w5 = walk(&bench, &[lamp_off, camera_off]);
+    let camera_on = Request::move_to(1, 0);
+    vec![
+        Workload::both("bench W4, 3 calls", 0, case(&bench, before_w4, camera_off)),
+        Workload::both("bench W5, 3 calls", 0, case(&bench, before_w5, camera_on)),
+        Workload::both("full, 25 calls to D3cold", 0, full_case(down())),
+        Workload::both("full, 25 calls to D0", 0, {
+            let table = full_station().table();
+            let below = walk(&table, &[&armings()[..], &[down()]].concat());
+            case(&table, below, Request::move_to(LAST, 0))
+        }),
+        Workload::both("full, arming again", 0, full_case(Request::arm(3, 4, 4))),
+    ]
+}
+
+/// Table, state values and soundness. On the full table the last record is the
+/// bad one, so that all others are looked at.
+fn refused_bytes() -> Vec<Workload> {
+    let changed = |change: fn(&mut Case)| {
+        let mut case = full_case(down());
+        change(&mut case);
+        case
+    };
+    vec![
+        Workload::both("table, mark", 1, changed(|case| case.table[0] ^= 1)),
+        Workload::both("table, last field", 5, {
+            changed(|case| *case.table.last_mut().expect("not empty") = 1)
+        }),
+        Workload::both("state value, last device", 7, {
+            changed(|case| case.state[4 * LAST as usize + 1] = 2)
+        }),
+        Workload::both("soundness, last device", 8, {
+            changed(|case| case.state[STATE_BYTES - 1] ^= 128)
+        }),
+        Workload::planner(
+            "room",
+            9,
+            changed(|case| case.plan.truncate(PLAN_BYTES - 1)),
+        ),
+    ]
+}
+
+fn refused_requests() -> Vec<Workload> {
+    let with_list = |change: fn(&mut Vec<u8>)| {
+        let mut case = full_case(down());
+        change(&mut case.list);
+        case
+    };
+    let kind_4 = Request {
+        kind: 4,
+        ..Request::default()
+    };
+    vec![
+        Workload::both("request, kind", 10, full_case(kind_4)),
+        Workload::both(
+            "request, child",
+            14,
+            full_case(Request::move_to(LAST - 1, 4)),
+        ),
+        Workload::both(
+            "request, wake state",
+            18,
+            full_case(Request::arm(LAST, 1, 0)),
+        ),
+        Workload::checker("list, last word", 19, {
+            with_list(|list| *list.last_mut().expect("not empty") ^= 1)
+        }),
+        Workload::checker(
+            "list, 2000 words",
+            19,
+            with_list(|list| list.resize(8000, 0)),
+        ),
+    ]
+}
+
+/// The last device of the full station.
+const LAST: u32 = 31;
+/// The resources of all but the last device.
+const SHARED: u32 = 0xff;
+
+/// 32 resources and 32 devices, each device below the one before. Every device
+/// has every object and a set for each; 24 resources are for the last one alone.
+fn full_station() -> Station {
+    let resource = |r: u16| Resource {
+        level: 4,
+        order: 7 * r % 16,
+    };
+    Station {
+        resources: (0..32).map(resource).collect(),
+        devices: (0..=LAST).map(full_device).collect(),
+    }
+}
+
+fn full_device(d: u32) -> Record {
+    let own = if d == LAST { !SHARED } else { SHARED };
+    Record {
+        parent: if d == 0 { 255 } else { d as u8 - 1 },
+        ps: 15,
+        pr: 15,
+        flags: 3,
+        sets: [
+            own,
+            own & 0x7777_7777,
+            own & 0x3333_3333,
+            own & 0x1111_1111,
+            1 << (d % 8),
+        ],
+        sxd: if d == LAST { [1; 4] } else { [0; 4] },
+        sxw: [4; 5],
+        deepest: 4,
+    }
+}
+
+/// Every fourth device may wake the system from S3 in D3hot.
+fn armings() -> Vec<Request> {
+    (3..LAST)
+        .step_by(4)
+        .map(|d| Request::arm(d, 3, 3))
+        .collect()
+}
+
+fn down() -> Request {
+    Request::move_to(LAST, 4)
+}
+
+/// The full station with every device in D0 and seven of them armed.
+fn full_case(request: Request) -> Case {
+    let table = full_station().table();
+    let state = walk(&table, &armings());
+    case(&table, state, request)
+}
+
+/// The state after some requests from the fresh state.
+fn walk(table: &[u8], requests: &[Request]) -> Vec<u8> {
+    let mut state = vec![0; STATE_BYTES];
+    assert!(fresh(table, &mut state).is_done());
+    for &request in requests {
+        let answer = plan(table, &mut state, request, &mut [0; PLAN_BYTES]);
+        assert!(answer.is_done(), "{request:?}");
+    }
+    state
+}
+
+/// A case with the planner's own list, if the request is accepted.
+fn case(table: &[u8], state: Vec<u8>, request: Request) -> Case {
+    let mut buffer = vec![0; PLAN_BYTES];
+    let answer = plan(table, &mut state.clone(), request, &mut buffer);
+    Case {
+        table: table.to_vec(),
+        list: buffer[..4 * usize::from(answer.count)].to_vec(),
+        state,
+        request,
+        plan: vec![0; PLAN_BYTES],
+        fresh: vec![0; STATE_BYTES],
+        device: 0,
+    }
+}
