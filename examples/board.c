@@ -7,21 +7,7 @@
 #include <string.h>
 
 #include "sailgarnet.h"
-
-/* header; resources r0 (level 3, order 1), r1 (0, 2), r2 (3, 1); devices bus, camera, lamp */
-static const uint8_t table[140] = {
-    0x50, 0x57, 0x54, 3, 1, 0, 3, 0,
-    3, 0, 1, 0, 0, 0, 2, 0, 3, 0, 1, 0,
-    /* 0 bus */
-    0xff, 9, 9, 0, 1, 0, 0, 0, 0, 0, 0, 0, 0, 0, 0, 0, 1, 0, 0, 0, 0, 0, 0, 0,
-    0xff, 0xff, 0xff, 0xff, 0xff, 0xff, 0xff, 0xff, 0xff, 0, 0, 0, 0, 0, 0, 0,
-    /* 1 camera */
-    0, 0x0d, 0x0d, 3, 7, 0, 0, 0, 0, 0, 0, 0, 5, 0, 0, 0, 1, 0, 0, 0, 4, 0, 0, 0,
-    0xff, 0xff, 2, 0xff, 0xff, 0xff, 0xff, 3, 0xff, 3, 0, 0, 0, 0, 0, 0,
-    /* 2 lamp */
-    0, 0, 9, 0, 2, 0, 0, 0, 0, 0, 0, 0, 0, 0, 0, 0, 0, 0, 0, 0, 0, 0, 0, 0,
-    0xff, 0xff, 0xff, 0xff, 0xff, 0xff, 0xff, 0xff, 0xff, 0, 0, 0, 0, 0, 0, 0,
-};
+#include "station.h"
 
 static const char *const devices[3] = {"bus", "camera", "lamp"};
 static const char *const states[5] = {"D0", "D1", "D2", "D3hot", "D3cold"};
@@ -73,13 +59,13 @@ static int ask(uint8_t *state, const struct request *q)
     uint64_t answer, checked;
 
     memcpy(before, state, sizeof before);
-    answer = sailgarnet_plan(table, sizeof table, state, SAILGARNET_STATE_SIZE, q->kind, q->device, q->a, q->b, plan, sizeof plan);
+    answer = sailgarnet_plan(station, sizeof station, state, SAILGARNET_STATE_SIZE, q->kind, q->device, q->a, q->b, plan, sizeof plan);
     printf("%s\n", q->title);
     if (sailgarnet_number_of(answer) != SAILGARNET_DONE) {
         printf("    refused: answer %u, place %" PRIu64 "\n", sailgarnet_number_of(answer), sailgarnet_place_of(answer));
         return 0;
     }
-    checked = sailgarnet_check(table, sizeof table, before, sizeof before, q->kind, q->device, q->a, q->b, plan, 4 * (size_t)sailgarnet_count_of(answer));
+    checked = sailgarnet_check(station, sizeof station, before, sizeof before, q->kind, q->device, q->a, q->b, plan, 4 * (size_t)sailgarnet_count_of(answer));
     if (checked != SAILGARNET_DONE) {
         printf("    the checker refuses the plan: answer %u\n", sailgarnet_number_of(checked));
         return 1;
@@ -106,7 +92,7 @@ int main(void)
     };
     uint8_t state[SAILGARNET_STATE_SIZE];
 
-    if (sailgarnet_fresh(table, sizeof table, state, sizeof state) != SAILGARNET_DONE) {
+    if (sailgarnet_fresh(station, sizeof station, state, sizeof state) != SAILGARNET_DONE) {
         fprintf(stderr, "the table is refused\n");
         return 1;
     }

@@ -68,6 +68,11 @@ board() {
   gcc -std=c99 -Wall -Wextra -Wpedantic -Werror -Iinclude "$@" examples/board.c target/staticlib/libsailgarnet.a -o target/board && target/board | diff - examples/board.out
 }
 
+# the stack of each exported function; bound at the start, so that the loader's own work is not measured
+stack() {
+  gcc -std=c11 -O2 -Wall -Wextra -Werror -Iinclude tests/stack.c target/staticlib/libsailgarnet.a -Wl,-z,now -o target/stack && target/stack
+}
+
 step rt fmt --check
 step bench_output
 proofs
@@ -75,6 +80,7 @@ step rt staticlib sailgarnet
 step header
 step board -O2
 step board -g -fsanitize=address,undefined
+step stack
 host
 echo "$passed passed, $failed failed"
 [ "$failed" -eq 0 ]

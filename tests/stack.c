@@ -1,0 +1,284 @@
+/*
+ * The stack that the exported functions use, on the bench station, on a table of full size, on refusals at each stage and on long lists.
+ * Each call runs on a stack of its own, filled with one byte value before. What was overwritten, less what an empty function of as many
+ * arguments overwrites, is the call's. Two values are tried, since a function may write the one that was there.
+ */
+#define _XOPEN_SOURCE 700
+#include <stdio.h>
+#include <string.h>
+#include <ucontext.h>
+
+#include "../examples/station.h"
+#include "sailgarnet.h"
+
+enum { STACK = 64 * 1024, LIMIT = 8192, FULL = 32, FULL_TABLE = 8 + 4 * FULL + 40 * FULL, LONG_LIST = 40000 };
+
+/* The arguments of a call. */
+struct input {
+    const uint8_t *table;
+    size_t table_len;
+    uint8_t state[SAILGARNET_STATE_SIZE];
+    size_t state_len;
+    uint32_t kind, device, a, b;
+    uint8_t plan[SAILGARNET_PLAN_SIZE];
+    size_t plan_len;
+    const uint8_t *list;
+    size_t list_len;
+};
+
+static struct input in;
+static uint64_t answer;
+static unsigned char stack[STACK] __attribute__((aligned(64)));
+static ucontext_t outside, inside;
+static int failures;
+
+static uint64_t __attribute__((noinline)) empty(const uint8_t *table, size_t table_len, uint8_t *state, size_t state_len, uint32_t kind,
+                                                uint32_t device, uint32_t a, uint32_t b, uint8_t *plan, size_t plan_len)
+{
+    __asm__ volatile("" : : "r"(table), "r"(state), "r"(plan) : "memory");
+    return table_len + state_len + kind + device + a + b + plan_len;
+}
+
+/* A function that is known to use much. */
+static uint64_t __attribute__((noinline)) large(size_t size)
+{
+    volatile unsigned char buffer[3000];
+
+    for (size_t i = 0; i < sizeof buffer; i++)
+        buffer[i] = (unsigned char)(i + size);
+    return buffer[size % sizeof buffer];
+}
+
+static void run_empty(void) { answer = empty(in.table, in.table_len, in.state, in.state_len, in.kind, in.device, in.a, in.b, in.plan, in.plan_len); }
+static void run_large(void) { answer = large(in.table_len); }
+static void run_fresh(void) { answer = sailgarnet_fresh(in.table, in.table_len, in.state, in.state_len); }
+static void run_plan(void)
+{
+    answer = sailgarnet_plan(in.table, in.table_len, in.state, in.state_len, in.kind, in.device, in.a, in.b, in.plan, in.plan_len);
+}
+static void run_check(void)
+{
+    answer = sailgarnet_check(in.table, in.table_len, in.state, in.state_len, in.kind, in.device, in.a, in.b, in.list, in.list_len);
+}
+
+/* How many bytes of the stack a run overwrites, with this value in them before. The input is as before afterwards. */
+static size_t overwritten(void (*run)(void), unsigned char value)
+{
+    struct input before = in;
+    size_t untouched = 0;
+
+    memset(stack, value, sizeof stack);
+    getcontext(&inside);
+    inside.uc_stack.ss_sp = stack;
+    inside.uc_stack.ss_size = sizeof stack;
+    inside.uc_link = &outside;
+    makecontext(&inside, run, 0);
+    swapcontext(&outside, &inside);
+    in = before;
+    while (untouched < sizeof stack && stack[untouched] == value)
+        untouched++;
+    return sizeof stack - untouched;
+}
+
+static size_t deepest(void (*run)(void))
+{
+    size_t first = overwritten(run, 0xa5), second = overwritten(run, 0x3c);
+
+    return first > second ? first : second;
+}
+
+/* The bytes of a run alone, whose answer is kept. */
+static size_t used(void (*run)(void))
+{
+    size_t harness = deepest(run_empty), whole = deepest(run);
+
+    return whole > harness ? whole - harness : 0;
+}
+
+/* Measures one call, which must give the answer number that its title says. */
+static void measure(const char *function, void (*run)(void), const char *title, unsigned number)
+{
+    size_t bytes = used(run);
+
+    printf("| %s | %s | %u | %zu |\n", function, title, sailgarnet_number_of(answer), bytes);
+    if (sailgarnet_number_of(answer) != number || bytes >= LIMIT) {
+        printf("FAILED: answer %u was expected, and less than %d bytes\n", number, LIMIT);
+        failures++;
+    }
+}
+
+static void both(const char *title, unsigned number)
+{
+    measure("plan", run_plan, title, number);
+    measure("check", run_check, title, number);
+}
+
+static void put32(uint8_t *to, uint32_t value)
+{
+    for (int i = 0; i < 4; i++)
+        to[i] = (uint8_t)(value >> 8 * i);
+}
+
+/* 32 resources, 32 devices in one line of descent, each with every object; 24 resources are for the last device alone. */
+static void fill_table(uint8_t *table)
+{
+    static const uint8_t header[8] = {'P', 'W', 'T', FULL, 1, 0, FULL, 0};
+
+    memset(table, 0, FULL_TABLE);
+    memcpy(table, header, sizeof header);
+    for (unsigned r = 0; r < FULL; r++) {
+        table[8 + 4 * r] = 4;
+        table[8 + 4 * r + 2] = (uint8_t)(7 * r % 16);
+    }
+    for (unsigned d = 0; d < FULL; d++) {
+        uint8_t *record = table + 8 + 4 * FULL + 40 * d;
+        record[0] = d == 0 ? SAILGARNET_NONE : (uint8_t)(d - 1);
+        record[1] = record[2] = 15;
+        record[3] = 3;
+        for (unsigned k = 0; k < 4; k++)
+            put32(record + 4 + 4 * k, d == FULL - 1 ? 0xffffff00u : 0xffu);
+        put32(record + 20, 1u << d % 8);
+        memset(record + 28, 4, 6);
+    }
+}
+
+static void request(uint32_t kind, uint32_t device, uint32_t a, uint32_t b)
+{
+    in.kind = kind;
+    in.device = device;
+    in.a = a;
+    in.b = b;
+}
+
+/* Lends a table and its fresh state, and no list. */
+static void lend(const uint8_t *table, size_t table_len)
+{
+    memset(&in, 0, sizeof in);
+    in.table = table;
+    in.table_len = table_len;
+    in.state_len = sizeof in.state;
+    in.plan_len = sizeof in.plan;
+    if (sailgarnet_fresh(table, table_len, in.state, in.state_len) != SAILGARNET_DONE)
+        failures++;
+}
+
+/* Carries out a request, so that the next one starts from there. */
+static void walk(uint32_t kind, uint32_t device, uint32_t a, uint32_t b)
+{
+    request(kind, device, a, b);
+    run_plan();
+    if (sailgarnet_number_of(answer) != SAILGARNET_DONE)
+        failures++;
+}
+
+/* Lends the planner's own list for a request. */
+static void own_list(uint32_t kind, uint32_t device, uint32_t a, uint32_t b)
+{
+    static uint8_t list[SAILGARNET_PLAN_SIZE];
+    struct input before = in;
+
+    walk(kind, device, a, b);
+    memcpy(list, in.plan, sizeof list);
+    in = before;
+    request(kind, device, a, b);
+    in.list = list;
+    in.list_len = 4 * (size_t)sailgarnet_count_of(answer);
+}
+
+static void bench_station(void)
+{
+    lend(station, sizeof station);
+    measure("fresh", run_fresh, "bench", 0);
+    walk(SAILGARNET_MOVE, 2, SAILGARNET_D3COLD, 0);
+    own_list(SAILGARNET_MOVE, 1, SAILGARNET_D3HOT, 0);
+    both("bench W4", 0);
+    walk(SAILGARNET_MOVE, 1, SAILGARNET_D3HOT, 0);
+    own_list(SAILGARNET_MOVE, 1, SAILGARNET_D0, 0);
+    both("bench W5", 0);
+}
+
+/* All but the last device in D0, every fourth one armed. */
+static void lend_full(const uint8_t *table)
+{
+    lend(table, FULL_TABLE);
+    for (unsigned d = 3; d < FULL - 1; d += 4)
+        walk(SAILGARNET_ARM, d, 3, SAILGARNET_D3HOT);
+}
+
+static void full_table(const uint8_t *table)
+{
+    lend_full(table);
+    measure("fresh", run_fresh, "full", 0);
+    own_list(SAILGARNET_MOVE, FULL - 1, SAILGARNET_D3COLD, 0);
+    both("full, 25 calls to D3cold", 0);
+    walk(SAILGARNET_MOVE, FULL - 1, SAILGARNET_D3COLD, 0);
+    own_list(SAILGARNET_MOVE, FULL - 1, SAILGARNET_D0, 0);
+    both("full, 25 calls to D0", 0);
+    own_list(SAILGARNET_ARM, 3, 4, SAILGARNET_D3COLD);
+    both("full, arming again", 0);
+    own_list(SAILGARNET_DISARM, 3, 0, 0);
+    both("full, disarming", 0);
+}
+
+static void refused_tables_and_states(uint8_t *table)
+{
+    lend_full(table);
+    in.table_len = 0;
+    measure("fresh", run_fresh, "empty table", 1);
+    both("empty table", 1);
+    in.table_len = FULL_TABLE;
+    table[FULL_TABLE - 1] = 1;
+    measure("fresh", run_fresh, "table, last field", 5);
+    both("table, last field", 5);
+    table[FULL_TABLE - 1] = 0;
+    in.state_len--;
+    measure("fresh", run_fresh, "state of 131 bytes", 7);
+    both("state of 131 bytes", 7);
+    in.state_len++;
+    in.state[131] = 0x7f;
+    both("soundness, last device", 8);
+}
+
+static void refused_requests_and_lists(const uint8_t *table)
+{
+    static uint8_t list[LONG_LIST];
+
+    lend_full(table);
+    request(0, 0, 0, 0);
+    both("request, kind", 10);
+    request(SAILGARNET_MOVE, 0, SAILGARNET_D3COLD, 0);
+    both("request, child", 14);
+    request(SAILGARNET_ARM, 31, 4, SAILGARNET_D3COLD);
+    in.plan_len--;
+    measure("plan", run_plan, "room", 9);
+    in.list = list;
+    in.list_len = sizeof list;
+    measure("check", run_check, "list of 10000 words", 19);
+    in.list_len--;
+    measure("check", run_check, "list of 39999 bytes", 19);
+}
+
+/* The measurement itself: a buffer of 3000 bytes must be seen, and not much more. */
+static void control(void)
+{
+    size_t bytes = used(run_large);
+
+    if (bytes < 3000 || bytes > 3000 + 256) {
+        printf("FAILED: a function with a buffer of 3000 bytes was measured as %zu\n", bytes);
+        failures++;
+    }
+}
+
+int main(void)
+{
+    static uint8_t table[FULL_TABLE];
+
+    fill_table(table);
+    printf("| function | input | answer | stack bytes |\n|---|---|---|---|\n");
+    bench_station();
+    full_table(table);
+    refused_tables_and_states(table);
+    refused_requests_and_lists(table);
+    control();
+    return failures != 0;
+}
