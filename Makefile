@@ -1,8 +1,11 @@
 # make run: the bench station's plans in words, and what is on after each call. make test: everything that must hold before a change lands.
 # make bench, make instructions: time and instructions a call, Sailgarnet beside the reference.
-.PHONY: test run library bench instructions
+# make soak SECONDS=600 SEED=7: the library against the reference on random cases for so long; without SEED with a new one, which is printed.
+.PHONY: test run library bench instructions soak
 
 HOST = --quiet --offline --manifest-path host/Cargo.toml
+SECONDS = 60
+SEED = $(shell date +%s)
 
 test:
 	@bash tests/all.sh
@@ -19,3 +22,6 @@ bench:
 instructions:
 	@cargo build $(HOST) --release -p sailgarnet --example benchmark
 	@python3 tests/instructions.py host/target/release/examples/benchmark
+
+soak:
+	@SAILGARNET_SECONDS=$(SECONDS) SAILGARNET_SEED=$(SEED) cargo test $(HOST) --release -p sailgarnet --test differential -- --nocapture --exact random_cases_agree

@@ -82,5 +82,6 @@ step board -O2
 step board -g -fsanitize=address,undefined
 step stack
 host
+step make --no-print-directory soak SECONDS=120 SEED=1
 echo "$passed passed, $failed failed"
 [ "$failed" -eq 0 ]

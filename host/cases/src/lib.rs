@@ -2,14 +2,16 @@
 //!
 //! [`Cases`] gives one case after the other without end. A station is drawn, a
 //! walk of requests leads it from its fresh state or a drawn one through others,
-//! and each step of the walk is a case. Some cases are damaged on purpose: the table, the state, the request,
-//! the room for the plan or the list. The same seed gives the same cases.
+//! and each step of the walk is a case. Some cases are damaged on purpose: the
+//! table, the state, the request, the room for the plan or the list. The same
+//! seed gives the same cases. [`Coverage`] counts the answers they get.
 //!
-//! [`sweep`] has small sets of inputs that are gone through completely, and
+//! [`workloads`] are the inputs to measure, [`sweep`] has small sets of inputs that are gone through completely, and
 //! [`Guarded`] lends a buffer between two runs of bytes that must stay as they are.
 
 #![forbid(unsafe_code)]
 
+mod coverage;
 mod damage;
 mod guard;
 mod lists;
@@ -24,6 +26,7 @@ use std::fmt;
 
 use reference::{fresh, plan, Request, PLAN_BYTES, STATE_BYTES};
 
+pub use coverage::{Counts, Coverage};
 pub use damage::{damage_state, damage_table};
 pub use guard::Guarded;
 pub use lists::{permute_equal_orders, vary_list};
@@ -59,6 +62,8 @@ impl fmt::Debug for Case {
             ("table", &self.table),
             ("state", &self.state),
             ("list", &self.list),
+            ("plan", &self.plan),
+            ("fresh", &self.fresh),
         ] {
             write!(f, "{name}, {} bytes:", bytes.len())?;
             for byte in bytes {
@@ -66,8 +71,6 @@ impl fmt::Debug for Case {
             }
             writeln!(f)?;
         }
-        writeln!(f, "plan: {} bytes", self.plan.len())?;
-        writeln!(f, "fresh: {} bytes", self.fresh.len())?;
         write!(f, "record of device {}", self.device)
     }
 }

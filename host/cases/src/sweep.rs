@@ -26,6 +26,16 @@ pub fn each_byte(bytes: &[u8], mut each: impl FnMut(&[u8])) {
     }
 }
 
+/// Each bit in turn the other way.
+pub fn each_bit(bytes: &[u8], mut each: impl FnMut(&[u8])) {
+    let mut changed = bytes.to_vec();
+    for bit in 0..8 * bytes.len() {
+        changed[bit / 8] ^= 1 << (bit % 8);
+        each(&changed);
+        changed[bit / 8] ^= 1 << (bit % 8);
+    }
+}
+
 /// The bench station of the scope paper: a bus with a camera and a lamp.
 pub fn bench_station() -> Station {
     let resource = |level, order| Resource { level, order };

@@ -1,51 +1,44 @@
 //! The cases reach every answer and every rule. The reference alone is run.
 
-use cases::{sweep, workloads, Case, Cases};
+use cases::{sweep, workloads, Case, Cases, Counts, Coverage, Rng, Station, SHAPES};
 use reference::{check, effect, fresh, plan, wake_range, Call, Effect, Table};
 
 const CASES: usize = 200_000;
 
-/// How often each answer was given.
-#[derive(Default)]
-struct Counts([usize; 20]);
-
-impl Counts {
-    fn add(&mut self, number: u8) {
-        self.0[usize::from(number)] += 1;
-    }
-
-    /// Exactly these answers were given, and each often.
-    fn are_given(&self, name: &str, answers: &[u8]) {
-        println!("{name}: {:?}", self.0);
-        for (number, &count) in self.0.iter().enumerate() {
-            if answers.contains(&(number as u8)) {
-                assert!(count >= 100, "{name} gave {number} only {count} times");
-            } else {
-                assert_eq!(count, 0, "{name} gave {number}");
-            }
-        }
-    }
-}
-
 #[test]
 fn every_answer_is_given() {
-    let (mut planner, mut checker, mut fresher) = Default::default();
-    let add = |counts: &mut Counts, number| counts.add(number);
+    let mut coverage = Coverage::default();
     let mut cases = Cases::new(1);
     for _ in 0..CASES {
         let case = cases.next_case();
         let mut buffers = case.clone();
         let Case { table, request, .. } = case;
         let answer = plan(table, &mut buffers.state, *request, &mut buffers.plan);
-        add(&mut planner, answer.number);
+        coverage.planner.add(answer.number);
         let answer = check(table, &case.state, *request, &case.list);
-        add(&mut checker, answer.number);
-        add(&mut fresher, fresh(table, &mut buffers.fresh).number);
+        coverage.checker.add(answer.number);
+        coverage.fresh.add(fresh(table, &mut buffers.fresh).number);
     }
-    let all: Vec<u8> = (0..20).collect();
-    planner.are_given("planner", &all[..19]);
-    checker.are_given("checker", &[&all[..9], &all[10..]].concat());
-    fresher.are_given("fresh", &all[..8]);
+    println!("{coverage}");
+    coverage.must_be_whole(100);
+}
+
+#[test]
+fn every_size_and_every_shape_is_drawn() {
+    let mut rng = Rng::new(3);
+    let (mut resources, mut devices) = ([0; 33], [0; 33]);
+    let mut shapes = [0; SHAPES.len()];
+    for _ in 0..20_000 {
+        let station = Station::random(&mut rng);
+        resources[station.resources.len()] += 1;
+        devices[station.devices.len()] += 1;
+        for device in &station.devices {
+            let shape = SHAPES.iter().position(|&s| s == (device.ps, device.pr));
+            shapes[shape.expect("a lawful shape")] += 1;
+        }
+    }
+    let all = resources.iter().chain(&devices).chain(&shapes);
+    assert!(all.into_iter().all(|&count| count >= 20));
 }
 
 /// The rules that an accepted request can meet.
@@ -190,13 +183,13 @@ fn sweeps_reach_their_answers() {
         let mut state = state.to_vec();
         moves.add(plan(table, &mut state, request, &mut [0; 132]).number);
     });
-    moves.are_given("moves", &[0, 8, 11, 12, 13, 14]);
+    moves.must_be("moves", &[0, 8, 11, 12, 13, 14], 100);
     let mut armings = Counts::default();
     sweep::each_arming(|table, state, request| {
         let mut state = state.to_vec();
         armings.add(plan(table, &mut state, request, &mut [0; 132]).number);
     });
-    armings.are_given("armings", &[0, 5, 8, 16, 17, 18]);
+    armings.must_be("armings", &[0, 5, 8, 16, 17, 18], 100);
 }
 
 #[test]

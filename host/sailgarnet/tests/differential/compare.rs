@@ -1,0 +1,130 @@
+//! One case on the library and on the reference.
+
+use cases::{Case, Coverage, Guarded};
+use reference::{demand3, Answer};
+use sailgarnet::Request;
+
+/// The buffers of one case, between guard bytes.
+pub struct Lent {
+    table: Guarded,
+    state: Guarded,
+    plan: Guarded,
+    list: Guarded,
+    fresh: Guarded,
+}
+
+impl Lent {
+    pub fn new() -> Self {
+        let empty = || Guarded::new(&[]);
+        Self {
+            table: empty(),
+            state: empty(),
+            plan: empty(),
+            list: empty(),
+            fresh: empty(),
+        }
+    }
+
+    fn set(&mut self, case: &Case) {
+        self.table.set(&case.table);
+        self.state.set(&case.state);
+        self.plan.set(&case.plan);
+        self.list.set(&case.list);
+        self.fresh.set(&case.fresh);
+    }
+
+    /// Runs both on a case, counts the answers, and says what differs or what
+    /// does not hold.
+    pub fn compare(&mut self, case: &Case, coverage: &mut Coverage) -> Result<(), String> {
+        self.set(case);
+        let fresh = self.compare_fresh(case)?;
+        let check = self.compare_check(case)?;
+        let plan = self.compare_plan(case)?;
+        coverage.fresh.add(fresh.number);
+        coverage.checker.add(check.number);
+        coverage.planner.add(plan.number);
+        if plan.is_done() {
+            self.check_own_list(case, 4 * usize::from(plan.count))?;
+        }
+        self.unwritten(case)
+    }
+
+    fn compare_fresh(&mut self, case: &Case) -> Result<Answer, String> {
+        let answer = sailgarnet::fresh(self.table.lent(), self.fresh.lent_mut());
+        let mut fresh = case.fresh.clone();
+        let expected = reference::fresh(&case.table, &mut fresh);
+        equal_answers("fresh", answer, expected)?;
+        equal_bytes("the fresh state", self.fresh.lent(), &fresh)?;
+        Ok(expected)
+    }
+
+    /// A list that passes is carried out as well.
+    fn compare_check(&mut self, case: &Case) -> Result<Answer, String> {
+        let (table, state, list) = (self.table.lent(), self.state.lent(), self.list.lent());
+        let answer = sailgarnet::check(table, state, library_request(case), list);
+        let expected = reference::check(&case.table, &case.state, case.request, &case.list);
+        equal_answers("check", answer, expected)?;
+        equal_bytes("the state after check", state, &case.state)?;
+        if expected.is_done() {
+            demand3(&case.table, &case.state, case.request, &case.list)?;
+        }
+        Ok(expected)
+    }
+
+    fn compare_plan(&mut self, case: &Case) -> Result<Answer, String> {
+        let (state, plan) = (self.state.lent_mut(), self.plan.lent_mut());
+        let answer = sailgarnet::plan(self.table.lent(), state, library_request(case), plan);
+        let (mut state, mut plan) = (case.state.clone(), case.plan.clone());
+        let expected = reference::plan(&case.table, &mut state, case.request, &mut plan);
+        equal_answers("plan", answer, expected)?;
+        equal_bytes("the state after plan", self.state.lent(), &state)?;
+        equal_bytes("the plan", self.plan.lent(), &plan)?;
+        Ok(expected)
+    }
+
+    /// The planner's own list passes from the state that was lent to the planner.
+    fn check_own_list(&self, case: &Case, length: usize) -> Result<(), String> {
+        let list = &self.plan.lent()[..length];
+        let answer = sailgarnet::check(&case.table, &case.state, library_request(case), list);
+        equal_answers("check of the own list", answer, Answer::done(0))?;
+        demand3(&case.table, &case.state, case.request, list)
+    }
+
+    /// What no function may write is as it was.
+    fn unwritten(&self, case: &Case) -> Result<(), String> {
+        equal_bytes("the table", self.table.lent(), &case.table)?;
+        equal_bytes("the list", self.list.lent(), &case.list)?;
+        for (name, guarded) in [
+            ("the table", &self.table),
+            ("the state", &self.state),
+            ("the plan", &self.plan),
+            ("the list", &self.list),
+            ("the fresh state", &self.fresh),
+        ] {
+            if !guarded.is_intact() {
+                return Err(format!("a byte beside {name} was written"));
+            }
+        }
+        Ok(())
+    }
+}
+
+/// Number, place and count are equal.
+fn equal_answers(what: &str, answer: sailgarnet::Answer, expected: Answer) -> Result<(), String> {
+    match answer.pack() == expected.pack() {
+        true => Ok(()),
+        false => Err(format!("{what} answers {answer:?}, not {expected:?}")),
+    }
+}
+
+fn equal_bytes(what: &str, bytes: &[u8], expected: &[u8]) -> Result<(), String> {
+    match bytes == expected {
+        true => Ok(()),
+        false => Err(format!("{what} is\n{bytes:02x?}, not\n{expected:02x?}")),
+    }
+}
+
+fn library_request(case: &Case) -> Request {
+    let reference::Request { kind, device, a, b } = case.request;
+    Request { kind, device, a, b }
+}

@@ -1,0 +1,168 @@
+//! The library against the reference: the same answer and the same bytes on
+//! every input, no byte changed outside the lent buffers, and every list that
+//! passes carried out.
+//!
+//! `SAILGARNET_SECONDS` sets how long the random cases run, else
+//! `SAILGARNET_CASES` how many there are. `SAILGARNET_SEED` sets their seed.
+
+mod compare;
+
+use std::env;
+use std::time::{Duration, Instant};
+
+use cases::{sweep, workloads, Case, Cases, Coverage};
+use compare::Lent;
+use reference::Request;
+
+const CASES: u64 = 300_000;
+const SEED: u64 = 1;
+/// From so many cases on, every answer must have been given.
+const ENOUGH: u64 = 100_000;
+
+fn number_from(variable: &str) -> Option<u64> {
+    let text = env::var(variable).ok()?;
+    Some(text.parse().expect("a number"))
+}
+
+/// Compares cases and counts them.
+struct Comparison {
+    lent: Lent,
+    coverage: Coverage,
+    cases: u64,
+}
+
+impl Comparison {
+    fn new() -> Self {
+        Self {
+            lent: Lent::new(),
+            coverage: Coverage::default(),
+            cases: 0,
+        }
+    }
+
+    fn run(&mut self, case: &Case, input: impl FnOnce(u64) -> String) {
+        if let Err(what) = self.lent.compare(case, &mut self.coverage) {
+            panic!("{}: {what}\n{case:?}", input(self.cases));
+        }
+        self.cases += 1;
+    }
+}
+
+/// Whether to go on, by time if one is set. The clock is read once in a while.
+fn goes_on() -> impl FnMut(u64) -> bool {
+    let seconds = number_from("SAILGARNET_SECONDS");
+    let end = seconds.map(|seconds| Instant::now() + Duration::from_secs(seconds));
+    let limit = number_from("SAILGARNET_CASES").unwrap_or(CASES);
+    move |cases| match end {
+        Some(end) => !cases.is_multiple_of(1024) || Instant::now() < end,
+        None => cases < limit,
+    }
+}
+
+#[test]
+fn random_cases_agree() {
+    let seed = number_from("SAILGARNET_SEED").unwrap_or(SEED);
+    println!("seed {seed}");
+    let mut cases = Cases::new(seed);
+    let mut comparison = Comparison::new();
+    let mut goes_on = goes_on();
+    while goes_on(comparison.cases) {
+        let input = |index| format!("case {index} of seed {seed}");
+        comparison.run(cases.next_case(), input);
+    }
+    let Comparison {
+        cases, coverage, ..
+    } = comparison;
+    println!("{cases} cases, each compared for planner, checker and fresh state; answers given ('-': cannot occur)");
+    println!("{coverage}");
+    if cases >= ENOUGH {
+        coverage.must_be_whole(1);
+    }
+}
+
+/// The bench station with the camera in D3hot and armed, about to go to D0.
+fn bench_case() -> Case {
+    let mut state = vec![0; 132];
+    state[4..8].copy_from_slice(&[3, 1, 3, 3]);
+    state[8] = 4;
+    state[128] = 0b101;
+    Case {
+        table: sweep::bench_station().table(),
+        state,
+        request: Request::move_to(1, 0),
+        plan: vec![0x5a; 132],
+        list: vec![1, 1, 0, 0, 3, 1, 0, 0],
+        fresh: vec![0x5a; 132],
+        device: 0,
+    }
+}
+
+#[test]
+fn the_bench_case_is_accepted() {
+    let case = bench_case();
+    let answer = reference::check(&case.table, &case.state, case.request, &case.list);
+    assert!(answer.is_done());
+}
+
+/// A buffer of a case.
+type Part = fn(&mut Case) -> &mut Vec<u8>;
+
+const PARTS: [Part; 5] = [
+    |case| &mut case.table,
+    |case| &mut case.state,
+    |case| &mut case.list,
+    |case| &mut case.plan,
+    |case| &mut case.fresh,
+];
+
+/// Each byte of each buffer with each value in it, and each length of each buffer.
+#[test]
+fn each_byte_and_each_length_agree() {
+    let mut comparison = Comparison::new();
+    for part in PARTS {
+        let mut case = bench_case();
+        let good = part(&mut case).clone();
+        let mut run = |bytes: &[u8]| {
+            *part(&mut case) = bytes.to_vec();
+            comparison.run(&case, |_| "damaged bench case".into());
+        };
+        sweep::each_byte(&good, &mut run);
+        sweep::each_length(&good, 48, &mut run);
+    }
+}
+
+/// The inputs that are measured, as they are, each bit of their buffers turned
+/// over, and each length.
+#[test]
+fn each_bit_and_each_length_of_a_workload_agree() {
+    let mut comparison = Comparison::new();
+    for workload in workloads() {
+        let mut case = workload.case;
+        case.list.truncate(33 * 4);
+        for part in PARTS {
+            let good = part(&mut case).clone();
+            let mut run = |bytes: &[u8]| {
+                part(&mut case).clone_from(&bytes.to_vec());
+                comparison.run(&case, |_| format!("damaged {}", workload.name));
+            };
+            sweep::each_bit(&good, &mut run);
+            sweep::each_length(&good, 8, &mut run);
+            run(&good);
+        }
+    }
+}
+
+#[test]
+fn each_move_and_each_arming_agree() {
+    let mut comparison = Comparison::new();
+    let mut case = bench_case();
+    case.list.clear();
+    let mut run = |table: &[u8], state: &[u8], request: Request| {
+        case.table = table.to_vec();
+        case.state = state.to_vec();
+        case.request = request;
+        comparison.run(&case, |_| "sweep".into());
+    };
+    sweep::each_move(&mut run);
+    sweep::each_arming(&mut run);
+}
