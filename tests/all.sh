@@ -73,6 +73,11 @@ stack() {
   gcc -std=c11 -O2 -Wall -Wextra -Werror -Iinclude tests/stack.c target/staticlib/libsailgarnet.a -Wl,-z,now -o target/stack && target/stack
 }
 
+# the pictures in docs are what the command draws today
+pictures() {
+  bash tests/pictures.sh target > /dev/null && diff docs/trace-w4.svg target/trace-w4.svg && diff docs/trace-w5.svg target/trace-w5.svg
+}
+
 step rt fmt --check
 step bench_output
 proofs
@@ -82,6 +87,7 @@ step board -O2
 step board -g -fsanitize=address,undefined
 step stack
 host
+step pictures
 step make --no-print-directory soak SECONDS=120 SEED=1
 echo "$passed passed, $failed failed"
 [ "$failed" -eq 0 ]

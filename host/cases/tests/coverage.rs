@@ -162,7 +162,7 @@ fn a_seed_gives_the_same_cases_again() {
 #[test]
 fn sweeps_have_their_sizes() {
     let bench = sweep::bench_station().table();
-    assert_eq!(bench.len(), 140);
+    assert_eq!(bench, include_bytes!("../../../examples/station.pwt"));
     assert!(fresh(&bench, &mut [0; 132]).is_done());
     let mut count = 0;
     sweep::each_length(&bench, 8, |_| count += 1);

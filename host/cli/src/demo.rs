@@ -8,27 +8,7 @@ use sailgarnet::{Request, PLAN_BYTES, STATE_BYTES};
 use crate::{backend, words};
 
 /// A bus with a camera and a lamp, and three resources.
-#[rustfmt::skip]
-const TABLE: [u8; 140] = [
-    // Header: mark, 3 resources, version 1, 3 devices.
-    0x50, 0x57, 0x54, 0x03, 0x01, 0x00, 0x03, 0x00,
-    // Resources: level and order.
-    3, 0, 1, 0,
-    0, 0, 2, 0,
-    3, 0, 1, 0,
-    // Bus.
-    0xff, 0x09, 0x09, 0x00,
-    1, 0, 0, 0,  0, 0, 0, 0,  0, 0, 0, 0,  1, 0, 0, 0,  0, 0, 0, 0,
-    0xff, 0xff, 0xff, 0xff,  0xff, 0xff, 0xff, 0xff, 0xff,  0, 0, 0, 0, 0, 0, 0,
-    // Camera.
-    0x00, 0x0d, 0x0d, 0x03,
-    7, 0, 0, 0,  0, 0, 0, 0,  5, 0, 0, 0,  1, 0, 0, 0,  4, 0, 0, 0,
-    0xff, 0xff, 0x02, 0xff,  0xff, 0xff, 0xff, 0x03, 0xff,  3, 0, 0, 0, 0, 0, 0,
-    // Lamp.
-    0x00, 0x00, 0x09, 0x00,
-    2, 0, 0, 0,  0, 0, 0, 0,  0, 0, 0, 0,  0, 0, 0, 0,  0, 0, 0, 0,
-    0xff, 0xff, 0xff, 0xff,  0xff, 0xff, 0xff, 0xff, 0xff,  0, 0, 0, 0, 0, 0, 0,
-];
+const TABLE: &[u8; 140] = include_bytes!("../../../examples/station.pwt");
 
 const BUS: u32 = 0;
 const CAMERA: u32 = 1;
@@ -86,7 +66,7 @@ const REQUESTS: [(Request, &str); 12] = [
 /// The plan of each request, and what is on after each call.
 pub fn text() -> String {
     let mut state = [0; STATE_BYTES];
-    let answer = backend::fresh(&TABLE, &mut state);
+    let answer = backend::fresh(TABLE, &mut state);
     let mut text = format!(
         "Device 0 is a bus, device 1 a camera, device 2 a lamp.\n\
          Fresh state: {}\
@@ -104,7 +84,7 @@ pub fn text() -> String {
 fn plan(request: Request, state: &mut [u8]) -> String {
     let before = words::on_set(state);
     let mut list = [0; PLAN_BYTES];
-    let answer = backend::plan(&TABLE, state, request, &mut list);
+    let answer = backend::plan(TABLE, state, request, &mut list);
     let mut text = format!("  {}", words::answer_line(answer));
     if !answer.is_done() {
         return text;

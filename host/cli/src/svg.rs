@@ -17,24 +17,30 @@ const ROW: usize = 40;
 /// How far a line for off is below one for on.
 const SWING: usize = 20;
 const LINE: usize = 20;
-const LEAST_WIDTH: usize = 760;
+const LEAST_WIDTH: usize = 640;
 
 const STYLE: &str = "\
 text { font: 13px system-ui, sans-serif; fill: #222 }
 .title { font-size: 17px; font-weight: 600 }
 .small { font-size: 11px; fill: #555 }
 .middle { text-anchor: middle }
-.call { stroke: #bbb; stroke-dasharray: 3 3 }
-.own { stroke: #b35c00; stroke-width: 2 }
+.call { stroke: #777; stroke-dasharray: 3 3 }
+.own { stroke: #b35c00; stroke-width: 3 }
 .own-text { fill: #b35c00; font-weight: 600 }
 .rule { stroke: #e4e4e4 }
 .on { fill: #d5e6f5 }
 .level { fill: none; stroke: #1c5a91; stroke-width: 2 }
 .needed { fill: #2b7a3d }
-.free { fill: none; stroke: #aaa }
+.free { fill: none; stroke: #555 }
 .fault { fill: #f6c9c4; stroke: #b3261e }
 .fault-text { fill: #b3261e }
 ";
+
+/// What the signs mean. No sign is told from another by its colour alone.
+const LEGEND: [&str; 2] = [
+    "High line: on. Low line: off. Full circle: needed by some device. Empty circle: not needed.",
+    "Thick line: the device's own call. The mark !: off, though needed before and after.",
+];
 
 /// Where the parts of a drawing are.
 struct Layout {
@@ -44,6 +50,8 @@ struct Layout {
     top: usize,
     /// The lines of text at the top.
     heading: Vec<String>,
+    /// The lines of text about faults, at the bottom.
+    faults: Vec<String>,
 }
 
 impl Layout {
@@ -51,14 +59,20 @@ impl Layout {
         let points = trace.steps.len() + 1;
         let width = (LEFT + points * COLUMN + RIGHT).max(LEAST_WIDTH);
         // A letter is about 7 wide.
-        let heading = words::wrap(words::answer_line(answer).trim_end(), (width - 40) / 7);
+        let lines = |text: &str| words::wrap(text, (width - 40) / 7);
+        let heading = lines(words::answer_line(answer).trim_end());
+        let faults = trace.faults.iter();
+        let faults: Vec<String> = faults
+            .flat_map(|fault| lines(&format!("Fault: {fault}")))
+            .collect();
         let top = 60 + LINE * heading.len() + 60;
-        let height = top + ROW * trace.rows.len().max(1) + LINE * (trace.faults.len() + 3);
+        let height = top + ROW * trace.rows.len().max(1) + LINE * (faults.len() + LEGEND.len() + 1);
         Self {
             width,
             height,
             top,
             heading,
+            faults,
         }
     }
 
@@ -70,6 +84,11 @@ impl Layout {
 /// The left edge of a point in time.
 fn left(point: usize) -> usize {
     LEFT + COLUMN * point
+}
+
+/// Where the line of a resource that is off runs, in a row with this top.
+fn base(top: usize) -> usize {
+    top + ROW - 8
 }
 
 /// A trace as a drawing that a browser opens.
@@ -93,6 +112,10 @@ pub fn draw(trace: &Trace, request: Request, answer: Answer) -> String {
     }
     for (i, step) in trace.steps.iter().enumerate() {
         draw_call(&mut out, &layout, trace.rows.len(), i + 1, step);
+    }
+    // After the calls, so that no call's line hides a change.
+    for (r, row) in trace.rows.iter().enumerate() {
+        draw_level(&mut out, base(layout.row_top(r)), row);
     }
     draw_legend(&mut out, &layout, trace);
     out + "</svg>\n"
@@ -133,7 +156,7 @@ fn draw_call(out: &mut String, layout: &Layout, rows: usize, number: usize, step
 }
 
 fn draw_row(out: &mut String, top: usize, width: usize, row: &Row) {
-    let base = top + ROW - 8;
+    let base = base(top);
     let points = row.on.len();
     let _ = writeln!(
         out,
@@ -148,7 +171,6 @@ fn draw_row(out: &mut String, top: usize, width: usize, row: &Row) {
     draw_need(out, LEFT - 60, base - 10, row.needed_before);
     draw_need(out, left(points) + 50, base - 10, row.needed_after);
     draw_areas(out, base, row);
-    draw_level(out, base, row);
 }
 
 /// A full circle for needed, an empty one for not needed.
@@ -177,7 +199,8 @@ fn draw_areas(out: &mut String, base: usize, row: &Row) {
     }
 }
 
-/// The line that is high for on and low for off.
+/// The line that is high for on and low for off, with a word at the start and
+/// after each change.
 fn draw_level(out: &mut String, base: usize, row: &Row) {
     let level = |on: bool| if on { base - SWING } else { base };
     let mut path = format!("M{} {}", left(0), level(row.on[0]));
@@ -185,6 +208,15 @@ fn draw_level(out: &mut String, base: usize, row: &Row) {
         let _ = write!(path, "V{}H{}", level(on), left(point + 1));
     }
     let _ = writeln!(out, "<path class=\"level\" d=\"{path}\"/>");
+    for (point, &on) in row.on.iter().enumerate() {
+        let word = match (on, row.fails_at(point)) {
+            (_, true) => "! off",
+            _ if point > 0 && row.on[point - 1] == on => continue,
+            (true, _) => "on",
+            (false, _) => "off",
+        };
+        text(out, left(point) + 7, base - 6, "small", word);
+    }
 }
 
 fn draw_legend(out: &mut String, layout: &Layout, trace: &Trace) {
@@ -192,12 +224,13 @@ fn draw_legend(out: &mut String, layout: &Layout, trace: &Trace) {
     text(out, after, layout.top - 24, "small middle", "needed");
     text(out, after, layout.top - 10, "small middle", "after");
     let mut y = layout.row_top(trace.rows.len().max(1)) + 26;
-    let legend = "High: on. Low: off. Full circle: needed by some device. \
-                  Orange: the device's own call. Red: off, though needed before and after.";
-    text(out, 20, y, "small", legend);
-    for fault in &trace.faults {
+    for line in LEGEND {
+        text(out, 20, y, "small", line);
         y += LINE;
-        text(out, 20, y, "fault-text", &format!("Fault: {fault}"));
+    }
+    for line in &layout.faults {
+        text(out, 20, y, "fault-text", line);
+        y += LINE;
     }
 }
 

@@ -149,6 +149,8 @@ fn a_faulty_trace_is_drawn_with_its_faults() {
     is_well_formed(&drawing);
     assert_eq!(drawing.matches("<rect class=\"fault\"").count(), 1);
     assert!(drawing.contains("Fault: r0 is off after call 1"));
+    // The fault is marked with a sign, not by colour alone.
+    assert_eq!(drawing.matches(">! off<").count(), 1);
 }
 
 #[test]

@@ -1,0 +1,13 @@
+#!/usr/bin/env bash
+# The traces of W4 and W5 as pictures, written to the directory $1 as trace-w4.svg and trace-w5.svg.
+set -eu
+cd "$(dirname "$0")/.."
+state=$(mktemp)
+trap 'rm -f "$state"' EXIT
+sailgarnet() { cargo run --quiet --offline --manifest-path host/Cargo.toml -p sailgarnet-cli -- "$@"; }
+
+sailgarnet fresh examples/station.pwt -o "$state"
+sailgarnet plan examples/station.pwt "$state" move 2 D3cold -o "$state"
+sailgarnet trace examples/station.pwt "$state" move 1 D3hot --svg "$1/trace-w4.svg"
+sailgarnet plan examples/station.pwt "$state" move 1 D3hot -o "$state"
+sailgarnet trace examples/station.pwt "$state" move 1 D0 --svg "$1/trace-w5.svg"
