@@ -171,8 +171,8 @@ fn each_pair(record: Record, level: u8, s: u8, each: &mut impl FnMut(&[u8], &[u8
     }
 }
 
-/// A state image.
-fn image(entries: &[[u8; 4]], on: u32) -> Vec<u8> {
+/// A state image from its entries and the set of resources that are on.
+pub fn image(entries: &[[u8; 4]], on: u32) -> Vec<u8> {
     let mut bytes = entries.concat();
     bytes.resize(128, 0);
     bytes.extend(on.to_le_bytes());

@@ -44,12 +44,19 @@ fn a_refused_request_is_refused_before_its_list() {
 #[test]
 fn wrong_usage_and_unreadable_files_are_explained() {
     let desk = Desk::new("check_usage");
-    let run = desk.run("check table state move 1 D3hot");
-    run.failed("LIST is missing");
-    let run = desk.run("check table state move 1 D3hot calls");
-    run.failed("cannot read calls: ");
-    let run = desk.run("check table state move 1 D3hot state more");
-    run.failed("unexpected operand more");
-    let run = desk.run("check table state move 1 D3hot state -o x");
-    run.failed("unknown option -o");
+    desk.each_fails([
+        ("check table state move 1 D3hot", "LIST is missing"),
+        (
+            "check table state move 1 D3hot calls",
+            "cannot read calls: ",
+        ),
+        (
+            "check table state move 1 D3hot state more",
+            "unexpected operand more",
+        ),
+        (
+            "check table state move 1 D3hot state -o x",
+            "unknown option -o",
+        ),
+    ]);
 }

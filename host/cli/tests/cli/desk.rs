@@ -69,6 +69,13 @@ impl Desk {
         self.run_words(line.split_whitespace())
     }
 
+    /// Each line fails with its message.
+    pub fn each_fails<const N: usize>(&self, lines: [(&str, &str); N]) {
+        for (line, message) in lines {
+            self.run(line).failed(message);
+        }
+    }
+
     pub fn run_words<S: AsRef<OsStr>>(&self, words: impl IntoIterator<Item = S>) -> Run {
         let output = Command::new(env!("CARGO_BIN_EXE_sailgarnet"))
             .args(words)

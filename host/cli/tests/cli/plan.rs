@@ -81,7 +81,7 @@ fn a_refusal_writes_no_file() {
 #[test]
 fn wrong_usage_is_explained() {
     let desk = Desk::new("plan_usage");
-    for (line, message) in [
+    desk.each_fails([
         ("plan", "TABLE, STATE and REQUEST are expected"),
         ("plan table", "TABLE, STATE and REQUEST are expected"),
         ("plan table state", "the request is missing"),
@@ -99,22 +99,21 @@ fn wrong_usage_is_explained() {
         ("plan table state move 1 D2 -o table", "two purposes"),
         ("plan table state move 1 D2 --list state", "two purposes"),
         ("plan table state move 1 D2 --list table", "two purposes"),
-    ] {
-        desk.run(line).failed(message);
-    }
+    ]);
     assert_eq!(desk.files(), ["state", "table"]);
 }
 
 #[test]
 fn unreadable_files_are_named() {
     let desk = Desk::new("plan_unreadable");
-    let run = desk.run("plan nothing state move 1 D2");
-    run.failed("cannot read nothing: ");
-    let run = desk.run("plan table nothing move 1 D2");
-    run.failed("cannot read nothing: ");
-    desk.run("plan . state move 1 D2").failed("cannot read .: ");
-    let run = desk.run("plan table state move 1 D2 --list missing/calls");
-    run.failed("cannot write missing/calls: ");
-    let run = desk.run("plan table state move 1 D2 -o .");
-    run.failed("cannot write .: ");
+    desk.each_fails([
+        ("plan nothing state move 1 D2", "cannot read nothing: "),
+        ("plan table nothing move 1 D2", "cannot read nothing: "),
+        ("plan . state move 1 D2", "cannot read .: "),
+        (
+            "plan table state move 1 D2 --list missing/calls",
+            "cannot write missing/calls: ",
+        ),
+        ("plan table state move 1 D2 -o .", "cannot write .: "),
+    ]);
 }

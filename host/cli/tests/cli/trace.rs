@@ -175,16 +175,18 @@ fn a_table_without_resources_is_traced_and_drawn() {
 #[test]
 fn wrong_usage_and_files_are_explained() {
     let desk = Desk::new("trace_usage");
-    desk.run("trace table state")
-        .failed("the request is missing");
-    let run = desk.run("trace table state disarm 1 calls");
-    run.failed("cannot read calls: ");
-    let run = desk.run("trace table state disarm 1 table more");
-    run.failed("unexpected operand more");
-    let run = desk.run("trace table state disarm 1 --svg table");
-    run.failed("two purposes");
-    let run = desk.run("trace table state disarm 1 --svg missing/drawing");
-    run.failed("cannot write missing/drawing: ");
-    let run = desk.run("trace table state disarm 1 --svg");
-    run.failed("--svg needs a file");
+    desk.each_fails([
+        ("trace table state", "the request is missing"),
+        ("trace table state disarm 1 calls", "cannot read calls: "),
+        (
+            "trace table state disarm 1 table more",
+            "unexpected operand more",
+        ),
+        ("trace table state disarm 1 --svg table", "two purposes"),
+        (
+            "trace table state disarm 1 --svg missing/drawing",
+            "cannot write missing/drawing: ",
+        ),
+        ("trace table state disarm 1 --svg", "--svg needs a file"),
+    ]);
 }

@@ -2,10 +2,13 @@
 
 #![allow(dead_code)] // Each test file uses a part.
 
+use cases::{Resource, Station};
 use reference::{
     check, check_words, demand3, effect, fresh, plan, plan_words, Answer, Request, PLAN_BYTES,
     PLAN_WORDS, STATE_BYTES,
 };
+
+pub use cases::{sweep::image as state, Record};
 
 pub const D0: u32 = 0;
 pub const D1: u32 = 1;
@@ -13,91 +16,19 @@ pub const D2: u32 = 2;
 pub const D3HOT: u32 = 3;
 pub const D3COLD: u32 = 4;
 
-/// A device record field by field.
-#[derive(Clone, Copy)]
-pub struct Record {
-    pub parent: u8,
-    pub ps: u8,
-    pub pr: u8,
-    pub flags: u8,
-    pub sets: [u32; 5],
-    pub sxd: [u8; 4],
-    pub sxw: [u8; 5],
-    pub deepest: u8,
-}
-
-impl Default for Record {
-    /// A device without any object.
-    fn default() -> Self {
-        Self {
-            parent: 255,
-            ps: 0,
-            pr: 0,
-            flags: 0,
-            sets: [0; 5],
-            sxd: [255; 4],
-            sxw: [255; 5],
-            deepest: 0,
-        }
-    }
-}
-
-impl Record {
-    pub fn bytes(&self) -> Vec<u8> {
-        let mut bytes = vec![self.parent, self.ps, self.pr, self.flags];
-        bytes.extend(self.sets.iter().flat_map(|set| set.to_le_bytes()));
-        bytes.extend(self.sxd);
-        bytes.extend(self.sxw);
-        bytes.push(self.deepest);
-        bytes.extend([0; 6]);
-        bytes
-    }
-}
-
 /// A table of resources (level, order) and devices.
 pub fn table(resources: &[(u8, u16)], devices: &[Record]) -> Vec<u8> {
-    let (r, d) = (resources.len() as u8, devices.len() as u8);
-    let mut bytes = vec![b'P', b'W', b'T', r, 1, 0, d, 0];
-    for (level, order) in resources {
-        bytes.extend([*level, 0]);
-        bytes.extend(order.to_le_bytes());
-    }
-    bytes.extend(devices.iter().flat_map(Record::bytes));
-    bytes
+    let resource = |&(level, order)| Resource { level, order };
+    let station = Station {
+        resources: resources.iter().map(resource).collect(),
+        devices: devices.to_vec(),
+    };
+    station.table()
 }
 
-/// The bench station, byte by byte from the paper.
+/// The table of the bench station.
 pub fn bench() -> Vec<u8> {
-    let mut bytes = vec![0x50, 0x57, 0x54, 0x03, 0x01, 0x00, 0x03, 0x00];
-    bytes.extend([3, 0, 1, 0, 0, 0, 2, 0, 3, 0, 1, 0]);
-    let bus = Record {
-        ps: 9,
-        pr: 9,
-        sets: [1, 0, 0, 1, 0],
-        ..Record::default()
-    };
-    bytes.extend(bus.bytes());
-    bytes.extend([0x00, 0x0d, 0x0d, 0x03]);
-    bytes.extend([7, 0, 0, 0, 0, 0, 0, 0, 5, 0, 0, 0, 1, 0, 0, 0, 4, 0, 0, 0]);
-    bytes.extend([0xff, 0xff, 0x02, 0xff]);
-    bytes.extend([0xff, 0xff, 0xff, 0x03, 0xff]);
-    bytes.extend([0x03, 0, 0, 0, 0, 0, 0]);
-    let lamp = Record {
-        parent: 0,
-        pr: 9,
-        sets: [2, 0, 0, 0, 0],
-        ..Record::default()
-    };
-    bytes.extend(lamp.bytes());
-    bytes
-}
-
-/// A state image from its entries and the set of resources that are on.
-pub fn state(entries: &[[u8; 4]], on: u32) -> Vec<u8> {
-    let mut bytes = entries.concat();
-    bytes.resize(128, 0);
-    bytes.extend(on.to_le_bytes());
-    bytes
+    include_bytes!("../../../../examples/station.pwt").to_vec()
 }
 
 /// A table with its present state.
