@@ -87,6 +87,7 @@ step board -O2
 step board -g -fsanitize=address,undefined
 step stack
 host
+step python3 tests/readme.py
 step pictures
 step make --no-print-directory soak SECONDS=120 SEED=1
 echo "$passed passed, $failed failed"
