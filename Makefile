@@ -1,8 +1,8 @@
 # make run: the bench station's plans in words, and what is on after each call. make test: everything that must hold before a change lands.
-# make bench, make instructions: time and instructions a call, Sailgarnet beside the reference.
+# make bench, make instructions: time and instructions a call, Sailgarnet beside the reference. make benchmarks: docs/BENCHMARKS.md anew.
 # make pictures: the traces of W4 and W5 in docs.
 # make soak SECONDS=600 SEED=7: the library against the reference on random cases for so long; without SEED with a new one, which is printed.
-.PHONY: test run library bench instructions soak pictures
+.PHONY: test run library bench instructions soak pictures benchmarks
 
 HOST = --quiet --offline --manifest-path host/Cargo.toml
 SECONDS = 60
@@ -29,3 +29,6 @@ soak:
 
 pictures:
 	@bash tests/pictures.sh docs
+
+benchmarks:
+	@bash tests/benchmarks.sh

@@ -68,11 +68,6 @@ board() {
   gcc -std=c99 -Wall -Wextra -Wpedantic -Werror -Iinclude "$@" examples/board.c target/staticlib/libsailgarnet.a -o target/board && target/board | diff - examples/board.out
 }
 
-# the stack of each exported function; bound at the start, so that the loader's own work is not measured
-stack() {
-  gcc -std=c11 -O2 -Wall -Wextra -Werror -Iinclude tests/stack.c target/staticlib/libsailgarnet.a -Wl,-z,now -o target/stack && target/stack
-}
-
 # the pictures in docs are what the command draws today
 pictures() {
   bash tests/pictures.sh target > /dev/null && diff docs/trace-w4.svg target/trace-w4.svg && diff docs/trace-w5.svg target/trace-w5.svg
@@ -85,7 +80,7 @@ step rt staticlib sailgarnet
 step header
 step board -O2
 step board -g -fsanitize=address,undefined
-step stack
+step bash tests/stack.sh
 host
 step python3 tests/readme.py
 step pictures

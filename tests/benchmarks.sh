@@ -1,0 +1,50 @@
+#!/usr/bin/env bash
+# Writes docs/BENCHMARKS.md: the machine, and what the measuring commands print here and now.
+set -eu
+cd "$(dirname "$0")/.."
+library=target/staticlib/libsailgarnet.a
+bash tests/stack.sh > target/stack.md
+make --no-print-directory instructions > target/instructions.md
+load=$(cut -d' ' -f1 /proc/loadavg)
+make --no-print-directory bench > target/bench.md
+
+cat > docs/BENCHMARKS.md <<PAGE
+# Benchmarks
+
+Planner and checker of the library, beside the independent reference in \`host/reference\` on the same inputs. This page is written by \`make benchmarks\`; each table is what the command
+above it prints.
+
+| | |
+|---|---|
+| processor | $(sed -n 's/^model name[^:]*: //p' /proc/cpuinfo | head -n 1), $(grep -c '^processor' /proc/cpuinfo) cores |
+| load average before the times were taken | $load |
+| library | \`$(rt --version | head -n 1)\`, $(stat -c %s "$library") bytes, SHA-256 $(sha256sum "$library" | cut -c 1-16).. |
+| reference | \`$(rustc --version)\`, release profile of \`host/Cargo.toml\` |
+| C compiler | \`$(gcc --version | head -n 1)\` |
+| counting | \`$(valgrind --version)\`, tool callgrind |
+
+## Inputs
+
+*bench* is the bench station, W4 and W5 from the states before them. *full* is a table of 32 resources and 32 devices, each device below the one before, each with every object and five sets that are
+not empty; seven devices are armed; the last device moves between D0 and D3cold, its own call and 24 resources to switch; *arming again* gives an armed device another wake pair. The other rows are refusals of the full table, each at the last place that can be bad
+where there is one: the answer number says at which stage. The inputs are in \`host/cases/src/workload.rs\`.
+
+## Time
+
+\`make bench\`:
+
+$(cat target/bench.md)
+
+## Instructions
+
+\`make instructions\`: instructions of one call, counted, so other programs on the machine do not change them. In each count are those of the benchmark's own call and of the Rust wrapper: 62 for the
+library, 33 for the reference.
+
+$(cat target/instructions.md)
+
+## Stack
+
+\`bash tests/stack.sh\`: bytes of the stack that a call overwrites, measured on a painted stack. The gate fails at 8192.
+
+$(cat target/stack.md)
+PAGE
