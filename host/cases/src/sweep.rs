@@ -36,6 +36,61 @@ pub fn each_bit(bytes: &[u8], mut each: impl FnMut(&[u8])) {
     }
 }
 
+/// Each request whose four numbers are at an edge of some range, or equal to a
+/// small number in their lowest bytes only.
+pub fn each_request(mut each: impl FnMut(Request)) {
+    let numbers = [
+        0,
+        1,
+        2,
+        3,
+        4,
+        5,
+        31,
+        32,
+        255,
+        256,
+        257,
+        0x1_0001,
+        0x8000_0000,
+        u32::MAX,
+    ];
+    for kind in numbers {
+        for device in numbers {
+            for a in numbers {
+                for b in numbers {
+                    each(Request { kind, device, a, b });
+                }
+            }
+        }
+    }
+}
+
+/// Each way to exchange two calls of a list, to leave one out, to make one
+/// twice, beside itself or at the end, or to put `_ON` or `_OFF` of any
+/// resource at the start or the end.
+pub fn each_list(list: &[u8], mut each: impl FnMut(&[u8])) {
+    let words = list.as_chunks::<4>().0;
+    for first in 0..words.len() {
+        for second in first + 1..words.len() {
+            let mut changed = words.to_vec();
+            changed.swap(first, second);
+            each(changed.as_flattened());
+        }
+        let (before, word, after) = (&words[..first], words[first], &words[first + 1..]);
+        each([before, after].concat().as_flattened());
+        each([before, &[word, word], after].concat().as_flattened());
+        each([words, &[word]].concat().as_flattened());
+    }
+    for resource in 0..=32 {
+        for kind in [1, 2] {
+            let word = [[kind, resource, 0, 0]];
+            each([&word[..], words].concat().as_flattened());
+            each([words, &word[..]].concat().as_flattened());
+        }
+    }
+}
+
 /// The bench station of the scope paper: a bus with a camera and a lamp.
 pub fn bench_station() -> Station {
     let resource = |level, order| Resource { level, order };

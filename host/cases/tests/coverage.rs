@@ -174,6 +174,12 @@ fn sweeps_have_their_sizes() {
         count += 1;
     });
     assert_eq!(count, 140 * 255);
+    count = 0;
+    sweep::each_bit(&bench, |_| count += 1);
+    assert_eq!(count, 140 * 8);
+    count = 0;
+    sweep::each_request(|_| count += 1);
+    assert_eq!(count, 14 * 14 * 14 * 14);
 }
 
 #[test]
@@ -190,6 +196,23 @@ fn sweeps_reach_their_answers() {
         armings.add(plan(table, &mut state, request, &mut [0; 132]).number);
     });
     armings.must_be("armings", &[0, 5, 8, 16, 17, 18], 100);
+}
+
+#[test]
+fn changed_lists_are_lawful_only_within_equal_orders() {
+    let full = workloads().into_iter().nth(2).expect("the full table").case;
+    let (mut passed, mut refused) = (0, 0);
+    sweep::each_list(&full.list, |list| {
+        match check(&full.table, &full.state, full.request, list).number {
+            0 => passed += 1,
+            number => {
+                assert_eq!(number, 19);
+                refused += 1;
+            }
+        }
+    });
+    // Of 24 resources to switch off, eight pairs have equal orders.
+    assert_eq!((passed, refused), (8, 300 - 8 + 3 * 25 + 4 * 33));
 }
 
 #[test]

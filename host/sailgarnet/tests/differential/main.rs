@@ -152,6 +152,28 @@ fn each_bit_and_each_length_of_a_workload_agree() {
     }
 }
 
+/// Requests with wild numbers, and the planner's list changed in each simple way.
+#[test]
+fn each_request_and_each_list_agree() {
+    let mut comparison = Comparison::new();
+    for workload in workloads() {
+        if workload.planner != Some(0) {
+            continue;
+        }
+        let mut case = workload.case;
+        let list = case.list.clone();
+        sweep::each_list(&list, |list| {
+            case.list = list.to_vec();
+            comparison.run(&case, |_| format!("list of {} changed", workload.name));
+        });
+        case.list = list;
+        sweep::each_request(|request| {
+            case.request = request;
+            comparison.run(&case, |_| format!("{} with another request", workload.name));
+        });
+    }
+}
+
 #[test]
 fn each_move_and_each_arming_agree() {
     let mut comparison = Comparison::new();
