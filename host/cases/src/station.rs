@@ -184,6 +184,14 @@ enum Parents {
     Any,
 }
 
+const PARENTS: [Parents; 5] = [
+    Parents::None,
+    Parents::Chain,
+    Parents::Flat,
+    Parents::Near,
+    Parents::Any,
+];
+
 #[derive(Clone, Copy)]
 enum Sets {
     Empty,
@@ -211,13 +219,7 @@ impl Style {
                 1 => Some(rng.byte_below(5)),
                 _ => None,
             },
-            parents: rng.pick(&[
-                Parents::None,
-                Parents::Chain,
-                Parents::Flat,
-                Parents::Near,
-                Parents::Any,
-            ]),
+            parents: rng.pick(&PARENTS),
             shape: match rng.below(4) {
                 0 => Some(rng.pick(&SHAPES)),
                 1 => Some((15, 15)),

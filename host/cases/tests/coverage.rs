@@ -76,6 +76,7 @@ fn rules_met(table: &Table, effect: &Effect, kind: u32, list: &[[u8; 4]]) -> [bo
     let own_call = effect.own_call.map(|call| call.word().to_le_bytes());
     let others = list.len() - usize::from(own_call.is_some());
     let orders = resource_orders(table, list);
+    let has_kind = |kind| list.iter().any(|word| word[0] == kind);
     let d3hot = |mask: u8, bits: u8| after.state == 3 && device.pr_mask() & mask == bits;
     let armed_range = |sxd: bool, sxw: bool| {
         let (d, w) = (device.sxd(after.wake_s), device.sxw(after.wake_s));
@@ -90,9 +91,7 @@ fn rules_met(table: &Table, effect: &Effect, kind: u32, list: &[[u8; 4]]) -> [bo
         kind == 3 && !before.armed,
         others > 0 && own_call.as_ref() == list.first(),
         others > 0 && own_call.as_ref() == list.last(),
-        [1, 2]
-            .iter()
-            .all(|kind| list.iter().any(|word| word[0] == *kind)),
+        has_kind(1) && has_kind(2),
         list.len() == 33,
         list.is_empty(),
         orders.windows(2).any(|pair| pair[0] == pair[1]),

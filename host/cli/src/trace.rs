@@ -104,6 +104,25 @@ fn faults(
     sets: &[u32],
     odd_bytes: usize,
 ) -> Vec<String> {
+    let mut faults = faults_on_the_way(effect, steps, rows, sets);
+    let end = sets[sets.len() - 1];
+    for (set, what) in [
+        (effect.needed_after & !end, "off, though needed"),
+        (end & !effect.needed_after, "on, though not needed"),
+    ] {
+        if set != 0 {
+            faults.push(format!("At the end {what}: {}.", words::resources(set)));
+        }
+    }
+    if odd_bytes > 0 {
+        let bytes = words::count(odd_bytes, "odd byte");
+        faults.push(format!("The list ends with {bytes}; a call has four."));
+    }
+    faults
+}
+
+/// Resources that go off too early, and an own call that finds its needs off.
+fn faults_on_the_way(effect: &Effect, steps: &[Step], rows: &[Row], sets: &[u32]) -> Vec<String> {
     let mut faults = Vec::new();
     for row in rows {
         if let Some(point) = (0..sets.len()).find(|&point| row.fails_at(point)) {
@@ -122,19 +141,6 @@ fn faults(
                 words::resources(missing)
             ));
         }
-    }
-    let end = sets[sets.len() - 1];
-    for (set, what) in [
-        (effect.needed_after & !end, "off, though needed"),
-        (end & !effect.needed_after, "on, though not needed"),
-    ] {
-        if set != 0 {
-            faults.push(format!("At the end {what}: {}.", words::resources(set)));
-        }
-    }
-    if odd_bytes > 0 {
-        let bytes = words::count(odd_bytes, "odd byte");
-        faults.push(format!("The list ends with {bytes}; a call has four."));
     }
     faults
 }
