@@ -1,7 +1,7 @@
 # make run: the bench station's plans in words, and what is on after each call. make test: everything that must hold before a change lands.
 # make bench, make instructions: time and instructions a call, Sailgarnet beside the reference. make benchmarks: docs/BENCHMARKS.md anew.
 # make pictures: the traces of W4 and W5 in docs.
-# make soak SECONDS=600 SEED=7: the library against the reference on random cases for so long; without SEED with a new one, which is printed.
+# make soak SECONDS=600 SEED=7: the library against the reference, sweeps and then random cases for so long; without SEED with a new one, which is printed.
 .PHONY: test run library bench instructions soak pictures benchmarks
 
 HOST = --quiet --offline --manifest-path host/Cargo.toml
@@ -25,7 +25,7 @@ instructions:
 	@python3 tests/instructions.py host/target/release/examples/benchmark
 
 soak:
-	@SAILGARNET_SECONDS=$(SECONDS) SAILGARNET_SEED=$(SEED) cargo test $(HOST) --release -p sailgarnet --test differential -- --nocapture --exact random_cases_agree
+	@SAILGARNET_SECONDS=$(SECONDS) SAILGARNET_SEED=$(SEED) cargo test $(HOST) --release -p sailgarnet --test differential -- --nocapture --test-threads 1
 
 pictures:
 	@bash tests/pictures.sh docs

@@ -7,6 +7,7 @@ benchmark makes every call twice, and the second one counts.
 
 import glob
 import re
+import shutil
 import subprocess
 import sys
 import tempfile
@@ -31,6 +32,8 @@ def total(name):
 
 
 def main():
+    if not shutil.which("valgrind"):
+        sys.exit("valgrind is needed to count instructions")
     rows, calls = rows_and_calls(sys.argv[1])
     # each row has four: the library twice, the reference twice
     if not rows or len(calls) != 4 * len(rows) or 0 in calls:

@@ -46,6 +46,12 @@ impl Comparison {
         }
         self.cases += 1;
     }
+
+    /// Says how much was compared. A comparison of nothing is a fault.
+    fn report(&self, what: &str) {
+        assert!(self.cases > 0);
+        println!("{} cases: {what}", self.cases);
+    }
 }
 
 /// Whether to go on, by time if one is set. The clock is read once in a while.
@@ -70,13 +76,10 @@ fn random_cases_agree() {
         let input = |index| format!("case {index} of seed {seed}");
         comparison.run(cases.next_case(), input);
     }
-    let Comparison {
-        cases, coverage, ..
-    } = comparison;
-    println!("{cases} cases, each compared for planner, checker and fresh state; answers given ('-': cannot occur)");
-    println!("{coverage}");
-    if cases >= ENOUGH {
-        coverage.must_be_whole(1);
+    comparison.report("random, of this seed; answers given ('-': cannot occur)");
+    println!("{}", comparison.coverage);
+    if comparison.cases >= ENOUGH {
+        comparison.coverage.must_be_whole(1);
     }
 }
 
@@ -129,6 +132,7 @@ fn each_byte_and_each_length_agree() {
         sweep::each_byte(&good, &mut run);
         sweep::each_length(&good, 48, &mut run);
     }
+    comparison.report("each byte and each length of each buffer, bench station");
 }
 
 /// The inputs that are measured, as they are, each bit of their buffers turned
@@ -150,6 +154,7 @@ fn each_bit_and_each_length_of_a_workload_agree() {
             run(&good);
         }
     }
+    comparison.report("each bit and each length of each buffer, inputs of the benchmark");
 }
 
 /// Requests with wild numbers, and the planner's list changed in each simple way.
@@ -172,6 +177,7 @@ fn each_request_and_each_list_agree() {
             comparison.run(&case, |_| format!("{} with another request", workload.name));
         });
     }
+    comparison.report("wild requests, and the planner's list changed");
 }
 
 #[test]
@@ -187,4 +193,5 @@ fn each_move_and_each_arming_agree() {
     };
     sweep::each_move(&mut run);
     sweep::each_arming(&mut run);
+    comparison.report("each move in a family of three, each arming");
 }
