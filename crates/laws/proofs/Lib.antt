@@ -18,3 +18,4 @@ pub mod Arrange
 pub mod Place
 pub mod Demand3
 pub mod Bytes
+pub mod Bounds

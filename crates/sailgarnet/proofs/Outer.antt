@@ -21,6 +21,8 @@ use Rattle.rules.specs.Calls.{toTurnOn, toTurnOff}
 use Rattle.rules.specs.Check.{conforming}
 use Rattle.rules.specs.Outcomes.{outcome, planned, planVerdict, planBytes, permittedVerdict, checkBytes}
 use Rattle.rules.proofs.Answers.{first-pass, first-stop, first-none, first-through, first-same, unless-of, unless-stop}
+use Rattle.laws.proofs.Accepted.{accepted}
+use Rattle.laws.proofs.Runs.{Stages}
 use Rattle.laws.proofs.Conform.{conforming-at, planner-conforms}
 use Rattle.laws.proofs.Demand3.{end-lt, on-lt}
 use Rattle.request.specs.Stages.{stagesOf, stagesVerdict}
@@ -108,14 +110,18 @@ module _ (t b : List ℕ) (q : Request) (plan : List ℕ) (room : Bool) (v : Ver
       (rw (done-verdict n, c .count) refl, rw (done-verdict n) (c .state), rw (done-verdict n) (w ∙ ap (λ (l : List ℕ). put plan 0 (wordBytes l)) front))
 
 -- an accepted plan has at most 33 words, so they fit the buffer that they were written into
-pub carried-fits : (t b : List ℕ) (q : Request) → Asked t b q → (n : ℕ) (b′ words words′ : List ℕ) → Carried t b q words n b′ words′ → length words ≡ 33 → (n ≤ 33) × (length words′ ≡ 33)
+pub planned-short : (t b : List ℕ) (q : Request) → Stages 4 t b q → length (planned 4 t b q) ≤ 33
 unfolding toTurnOn toTurnOff planned
-carried-fits t b q g n b′ words words′ c l =
+planned-short t b q g =
     let s = stationOf 4 t in
     let st = statusOf 4 b in
-    let stages = stages-passed true t b q (g .stages) in
-    let on = minus-lt (s .resources) _ _ (end-lt 4 (omega arith) t b q stages) in
-    let off = minus-lt _ _ _ (on-lt 4 (omega arith) t b q stages) in
-    let few : s .resources ≤ 32 = unfold stationOf in g .laid .resources in
+    let on = minus-lt (s .resources) _ _ (end-lt 4 (omega arith) t b q g) in
+    let off = minus-lt _ _ _ (on-lt 4 (omega arith) t b q g) in
+    let few : s .resources ≤ 32 = unfold stationOf in accepted 4 t (g .table) .resources in
     let long : length (planned 4 t b q) ≤ 1 + s .resources = conforms-long s st q (planned 4 t b q) on off (planner-conforms s st q on off) in
+    omega (arith, long, few)
+
+pub carried-fits : (t b : List ℕ) (q : Request) → Asked t b q → (n : ℕ) (b′ words words′ : List ℕ) → Carried t b q words n b′ words′ → length words ≡ 33 → (n ≤ 33) × (length words′ ≡ 33)
+carried-fits t b q g n b′ words words′ c l =
+    let short = planned-short t b q (stages-passed true t b q (g .stages)) in
     (omega (arith, c .count), ap length (c .words) ∙ length-put words 0 (planned 4 t b q) (omega arith) ∙ l)

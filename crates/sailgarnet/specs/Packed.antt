@@ -1,5 +1,6 @@
 -- What the board's functions take and give: a request as four numbers, an answer as one. Assumes nothing.
-use Prim.Native.Nat.{ℕ, _+_, _*_, _%_}
+use mathlib.Core.Path.{_≡_}
+use Prim.Native.Nat.{ℕ, _+_, _*_, _/_, _%_}
 use Rattle.rules.specs.declared.Request.{Request}
 use Rattle.rules.specs.declared.Verdict.{Verdict}
 use Rattle.rules.specs.Answers.{numberOf, placeOf, countOf}
@@ -9,4 +10,10 @@ asked kind device a b = record { kind = kind; device = device; a = a; b = b }
 
 -- number in bits 0 to 7, count in bits 8 to 23, place in bits 24 to 63
 unfoldable pub packed : Verdict → ℕ
-packed v = numberOf v + 0x100 * (countOf v % 0x1_0000) + 0x100_0000 * (placeOf v % 0x100_0000_0000)
+packed v = numberOf v + 0x100 * countOf v + 0x100_0000 * placeOf v
+
+-- what the header's helpers read from it: the answer's own number, count and place, none of them cut
+pub record Reads (r : ℕ) (v : Verdict) : Type 0 where
+  pub number : r % 0x100 ≡ numberOf v
+  pub count : r / 0x100 % 0x1_0000 ≡ countOf v
+  pub place : r / 0x100_0000 ≡ placeOf v

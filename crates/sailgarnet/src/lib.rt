@@ -4,23 +4,27 @@ pub mod bytes;
 use rules::Request;
 use rules::Verdict;
 ghost use mathlib.Core.Path.{_≡_};
+ghost use Prim.Native.Nat.{_<_};
+ghost use Rattle.rules.specs.Answers.{placeOf, countOf};
 ghost use Rattle.rules.specs.Outcomes.{fresh, planBytes, checkBytes};
 ghost use Rattle.laws.specs.Demand3.{Demand3Bytes};
-ghost use Rattle.sailgarnet.specs.Packed.{packed, asked};
+ghost use Rattle.sailgarnet.specs.Packed.{packed, Reads, asked};
 
 // An answer as one number: its number in bits 0 to 7, its count in bits 8 to 23, its place in bits 24 to 63.
 pub fn pack(v: Verdict) -> u64
-    ensures { λ r. ⌜ r ≡ packed v ⌝ }
+    requires { ⌜ (countOf v < 0x1_0000) × (placeOf v < 0x100_0000_0000) ⌝ }
+    ensures { λ r. ⌜ (r ≡ packed v) × Reads r v ⌝ }
 {
     let number = rules::number(v) as u64;
     let count = rules::count(v) as u64;
     let place = rules::place(v) as u64;
-    number + 0x100 * (count % 0x1_0000) + 0x100_0000 * (place % 0x100_0000_0000)
+    number + 0x100 * count + 0x100_0000 * place
 }
 
 #[no_mangle]
 pub extern "C" fn sailgarnet_fresh(table: &[u8], state: &mut [u8]) -> u64
-    ensures { λ r. ⌜ (r ≡ packed (fresh 4 (now (table .entry)) (now (state .entry)) .verdict)) × (now (state .exit) ≡ fresh 4 (now (table .entry)) (now (state .entry)) .state) ⌝ }
+    ensures answer { λ r. ⌜ (r ≡ packed (fresh 4 (now (table .entry)) (now (state .entry)) .verdict)) × Reads r (fresh 4 (now (table .entry)) (now (state .entry)) .verdict) ⌝ }
+    ensures state { λ _. ⌜ now (state .exit) ≡ fresh 4 (now (table .entry)) (now (state .entry)) .state ⌝ }
 {
     pack(status::answers::fresh(table, state))
 }
@@ -35,7 +39,9 @@ pub extern "C" fn sailgarnet_plan(
     b: u32,
     plan: &mut [u8],
 ) -> u64
-    ensures { λ r. ⌜ (r ≡ packed (planBytes 4 (now (table .entry)) (now (state .entry)) (asked kind device a b) (now (plan .entry)) .verdict)) × (now (state .exit) ≡ planBytes 4 (now (table .entry)) (now (state .entry)) (asked kind device a b) (now (plan .entry)) .state) × (now (plan .exit) ≡ planBytes 4 (now (table .entry)) (now (state .entry)) (asked kind device a b) (now (plan .entry)) .plan) ⌝ }
+    ensures answer { λ r. ⌜ (r ≡ packed (planBytes 4 (now (table .entry)) (now (state .entry)) (asked kind device a b) (now (plan .entry)) .verdict)) × Reads r (planBytes 4 (now (table .entry)) (now (state .entry)) (asked kind device a b) (now (plan .entry)) .verdict) ⌝ }
+    ensures state { λ _. ⌜ now (state .exit) ≡ planBytes 4 (now (table .entry)) (now (state .entry)) (asked kind device a b) (now (plan .entry)) .state ⌝ }
+    ensures plan { λ _. ⌜ now (plan .exit) ≡ planBytes 4 (now (table .entry)) (now (state .entry)) (asked kind device a b) (now (plan .entry)) .plan ⌝ }
 {
     pack(bytes::plan_bytes(table, state, Request { kind, device, a, b }, plan))
 }
@@ -50,7 +56,7 @@ pub extern "C" fn sailgarnet_check(
     b: u32,
     list: &[u8],
 ) -> u64
-    ensures answer { λ r. ⌜ r ≡ packed (checkBytes 4 (now (table .entry)) (now (state .entry)) (asked kind device a b) (now (list .entry))) ⌝ }
+    ensures answer { λ r. ⌜ (r ≡ packed (checkBytes 4 (now (table .entry)) (now (state .entry)) (asked kind device a b) (now (list .entry)))) × Reads r (checkBytes 4 (now (table .entry)) (now (state .entry)) (asked kind device a b) (now (list .entry))) ⌝ }
     ensures demand { λ _. ⌜ Demand3Bytes 4 (now (table .entry)) (now (state .entry)) (asked kind device a b) (now (list .entry)) ⌝ }
 {
     pack(bytes::check_bytes(table, state, Request { kind, device, a, b }, list))
