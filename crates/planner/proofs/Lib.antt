@@ -1,7 +1,7 @@
 pub mod Coding
 pub mod Inverse
-pub mod Choice
-pub mod Switches
+pub mod Keys
+pub mod Insertion
 pub mod Device
 pub mod Run
 pub mod Whole

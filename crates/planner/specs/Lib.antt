@@ -1,4 +1,5 @@
 pub mod Ranges
 pub mod Phases
+pub mod Keys
 pub mod Plan
 pub mod After
