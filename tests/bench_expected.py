@@ -383,21 +383,23 @@ SIZES = [
     ("32 resources", alike(32, 1, WIDE), "1040 1000 1030 1000"),
     ("33 resources", alike(33, 0, BARE), "1030"),
 ]
-# a title, a table, requests from fresh; then a request and lists for it, more requests, and so on
+# a title, a table, requests from fresh, one more request, and lists for it
 LISTS = [
     ("lists for W4", TABLE, "1240", "1130", [
         "03010300 02010000 02020000", "03010300 02020000 02010000", "03010300 03010300 02010000 02020000", "03010300 02010000 02020000 02020000",
         "02010000 02020000", "03010300 02010000", "", "03010300 02010000 02000000", "03010300 02010000 02020000 00000000",
         "02010000 02020000 03010300", "03010300 02010000 02020000 00", "03010300 02010000 020200", "03010300 02010000 02020080",
         "03010200 02010000 02020000"]),
-    ("lists for the disk", OWN, "", "1330", [
-        "03030300 02010000 02000000 02040000", "03030300 02000000 02010000 02040000", "03030300 02040000 02010000 02000000"],
-        "1330", "1300", ["01000000 01010000 03030000", "01010000 01000000 03030000", "01000000 01000000 03030000", "03030000 01000000 01010000"]),
-    ("lists for the hub", OWN, "1330 1130 1230", "1020", ["01040000 02030000", "02030000 01040000", "03000200 01040000 02030000"],
-        "", "1000", ["", "01030000"], "", "1300", ["00"]),
-    ("lists for the sensor", OWN, "1000", "2111", ["01040000 04010181", "04010181 01040000", "01040000 04010383"],
-        "2111", "3100", ["04010000 02040000", "02040000 04010000", "04010181 02040000"]),
     ("34 words", TABLE, "", "3100", [136 * "00"]),
+    ("lists for the disk, down", OWN, "", "1330", [
+        "03030300 02010000 02000000 02040000", "03030300 02000000 02010000 02040000", "03030300 02040000 02010000 02000000"]),
+    ("lists for the disk, up", OWN, "1330", "1300", [
+        "01000000 01010000 03030000", "01010000 01000000 03030000", "01000000 01000000 03030000", "03030000 01000000 01010000"]),
+    ("lists for the hub", OWN, "1330 1130 1230", "1020", ["01040000 02030000", "02030000 01040000", "03000200 01040000 02030000"]),
+    ("lists for no calls", OWN, "1000", "1000", ["", "01030000"]),
+    ("lists for a refusal", OWN, "1130 1330 1130", "1300", ["00"]),
+    ("lists for arming", OWN, "1000", "2111", ["01040000 04010181", "04010181 01040000", "01040000 04010383"]),
+    ("lists for disarming", OWN, "2111", "3100", ["04010000 02040000", "02040000 04010000", "04010181 02040000"]),
 ]
 
 
@@ -446,16 +448,12 @@ def rooms(t, image, q):
         run(t, image, q, n)
 
 
-def lists(title, t, text, *rest):
-    image = from_fresh(title, t, text)
-    for i in range(0, len(rest), 3):
-        q, rows = requests(rest[i])[0], rest[i + 1]
-        for row in rows:
-            b = bytes.fromhex(row)
-            whole = b[:min(len(b) // 4, 33) * 4]
-            print("list%s request %d %d %d %d: check %d %d 0 words %d %d" % (hexed(b), *q, *check_list(t, image, q, b), *check_list(t, image, q, whole)))
-        for q in requests(rest[i + 2] if i + 2 < len(rest) else ""):
-            image = run(t, image, q)
+def lists(title, t, text, last, rows):
+    image, q = from_fresh(title, t, text), requests(last)[0]
+    for row in rows:
+        b = bytes.fromhex(row)
+        whole = b[:min(len(b) // 4, 33) * 4]
+        print("list%s request %d %d %d %d: check %d %d 0 words %d %d" % (hexed(b), *q, *check_list(t, image, q, b), *check_list(t, image, q, whole)))
 
 
 def all_requests():

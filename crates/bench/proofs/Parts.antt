@@ -1,7 +1,7 @@
 -- What the program's functions lean on: the length of a part, an answer's number, and the answer for a state with any table. Assumes nothing.
 use mathlib.Core.Path.{_≡_, refl, sym, ap, _∙_}
 use mathlib.Core.Bool.{Bool, true, false, not}
-use mathlib.Core.List.{List, [], _∷_}
+use mathlib.Core.List.{List, [], _∷_, _++_}
 use Prim.Native.Nat.{ℕ, _≤_, _+_, _*_}
 use native.Mathlib.Omega.{arith}
 use native.Mathlib.Numerals.{add-one}
@@ -14,8 +14,8 @@ use Rattle.rules.specs.Answers.{numberOf, passes, firstOf}
 use Rattle.rules.specs.Table.{tableVerdict}
 use Rattle.rules.proofs.Answers.{first-pass, first-stop, first-none, first-through}
 use Rattle.rules.specs.declared.Request.{Request}
-use Rattle.rules.specs.Rows.{blank}
-use Rattle.rules.specs.Outcomes.{planBytes, checkWords}
+use Rattle.rules.specs.Rows.{blank, benchTable}
+use Rattle.rules.specs.Outcomes.{fresh, planBytes, checkWords}
 use Rattle.bench.specs.Chain.{requestAt, chained}
 
 pub part-long : (n m : ℕ) (l : List ℕ) → length l ≡ m → n ≤ m → n ≡ length (take n l)
@@ -60,5 +60,15 @@ module _ (t b s : List ℕ) where
 
   pub chain-end : (i n : ℕ) (l : List ℕ) → l ≡ chained t b s i → i ≤ n → n ≤ i → l ≡ chained t b s n
   chain-end i n l h a z = let e : i ≡ n = omega arith in rw e at h
+
+pub bench-part : (t : List ℕ) → t ≡ benchTable ++ 0 ∷ [] → take 140 t ≡ benchTable
+bench-part t e = rw e refl
+
+pub on-station :
+    (t s r : List ℕ) (n : ℕ) →
+    t ≡ benchTable ++ 0 ∷ [] →
+    r ≡ chained (take 140 t) (fresh 4 (take 140 t) (blank 132) .state) s n →
+    r ≡ chained benchTable (fresh 4 benchTable (blank 132) .state) s n
+on-station t s r n e h = rw (bench-part t e) at h
 
 pub ruleset parts = (part-long, part-within, number-is, words-number, accepted-done, refused-first, state-next, chain-start, chain-next, chain-end)

@@ -22,7 +22,7 @@ chained t b s (suc n) = planBytes 4 t (chained t b s n) (requestAt s (5 * n)) (b
 -- 1 sensor: parent 0; `_PS0`, `_PS1`, `_PS3` and no `_PR`; `_PRW` {4} to S3 with `_DSW`; only `_SxD`: `_S1D` 1, `_S2D` 2, `_S3D` 3
 -- 2 radio: parent 0; `_PR0` {2} alone; `_PRW` {2} to S3 without `_DSW`; only `_SxW`: `_S0W` 0, `_S1W` 3, `_S2W` 3
 -- 3 disk: parent 1; `_PS0`, `_PS3`; `_PR0` {0, 1}, `_PR3` empty
-abbrev pub ownTable : List ℕ
+unfoldable pub ownTable : List ℕ
 ownTable =
     bytes 28 0x5057540501000400_04000a00_04000a00_01000500_04002c01_04000700
     ++ bytes 40 0xff000500_08000000_00000000_10000000_00000000_00000000_ffffffff_ffffffffff_00_000000000000

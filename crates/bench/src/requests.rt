@@ -2,14 +2,15 @@
 // past them are as they were lent; the first four entries, the on-set and the sum of the state afterwards; and number, place and count of
 // the checker on the planner's own list, given the state as it was before.
 use crate::lines;
+use crate::station;
 use rules::Request;
 ghost use mathlib.Core.Path.{_≡_};
 ghost use Prim.Native.Nat.{_+_, _*_, _/_, _%_, _<_, _≤_, min};
 ghost use lib.ListN.{length, take};
-ghost use Rattle.rules.specs.Rows.{blank};
+ghost use Rattle.rules.specs.Rows.{blank, benchTable};
 ghost use Rattle.rules.specs.Outcomes.{fresh, planBytes, checkBytes};
 ghost use Rattle.sailgarnet.specs.Packed.{packed};
-ghost use Rattle.bench.specs.Chain.{requestAt, chained};
+ghost use Rattle.bench.specs.Chain.{requestAt, chained, ownTable};
 
 // A state image.
 pub type Image = [u8; 132];
@@ -107,7 +108,7 @@ fn digit(x: u8) -> u32
 }
 
 // The request that four digits make.
-fn request_at(steps: &[u8], at: usize) -> Request
+pub fn request_at(steps: &[u8], at: usize) -> Request
     requires { ⌜ at + 4 ≤ length (now steps) ⌝ }
     ensures { λ r. ⌜ r ≡ requestAt (now (steps .entry)) at ⌝ }
 {
@@ -153,4 +154,20 @@ pub fn from_fresh(title: &[u8], table: &[u8], steps: &[u8]) -> Image
 {
     let start = fresh(title, table);
     chain(table, start, steps)
+}
+
+// Requests from a fresh state of the bench station.
+pub fn on_station(title: &[u8], steps: &[u8]) -> Image
+    ensures { λ r. ⌜ (length r ≡ 132) × (r ≡ chained benchTable (fresh 4 benchTable (blank 132) .state) (now (steps .entry)) (length (now (steps .entry)) / 5)) ⌝ }
+{
+    let table = station::table();
+    from_fresh(title, &table[..140], steps)
+}
+
+// Requests from a fresh state of the table of our own.
+pub fn on_own(title: &[u8], steps: &[u8]) -> Image
+    ensures { λ r. ⌜ (length r ≡ 132) × (r ≡ chained ownTable (fresh 4 ownTable (blank 132) .state) (now (steps .entry)) (length (now (steps .entry)) / 5)) ⌝ }
+{
+    let table = station::own_table();
+    from_fresh(title, &table, steps)
 }

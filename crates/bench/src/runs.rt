@@ -13,14 +13,9 @@ ghost use Rattle.bench.specs.Chain.{ownTable};
 pub fn worked() -> usize
     ensures { λ r. ⌜ r ≡ 13 ⌝ }
 {
-    let table = station::table();
-    requests::from_fresh(b"W1, W2, W6, W3", &table[..140], b"1120;1240;1030;1100;");
-    requests::from_fresh(b"W4, W7, W5", &table[..140], b"1240;1130;1120;1100;");
-    requests::from_fresh(
-        b"W8, W11, W12, W9, W10",
-        &table[..140],
-        b"1110;2142;2122;2132;1130;",
-    );
+    requests::on_station(b"W1, W2, W6, W3", b"1120;1240;1030;1100;");
+    requests::on_station(b"W4, W7, W5", b"1240;1130;1120;1100;");
+    requests::on_station(b"W8, W11, W12, W9, W10", b"1110;2142;2122;2132;1130;");
     13
 }
 
@@ -28,15 +23,9 @@ pub fn worked() -> usize
 pub fn further() -> usize
     ensures { λ r. ⌜ r ≡ 15 ⌝ }
 {
-    let table = station::table();
-    requests::from_fresh(
-        b"D3cold",
-        &table[..140],
-        b"1140;1140;1130;1100;1130;1140;1100;",
-    );
-    requests::from_fresh(
+    requests::on_station(b"D3cold", b"1140;1140;1130;1100;1130;1140;1100;");
+    requests::on_station(
         b"armed in D3hot",
-        &table[..140],
         b"3100;2133;1130;1140;2133;2132;3100;3100;",
     );
     15
@@ -46,15 +35,12 @@ pub fn further() -> usize
 fn moves() -> usize
     ensures { λ r. ⌜ r ≡ 25 ⌝ }
 {
-    let table = station::own_table();
-    requests::from_fresh(
+    requests::on_own(
         b"own table, down",
-        &table,
         b"1000;1020;1330;1130;1020;1230;1020;1030;1040;1020;1100;1300;1000;1100;1300;",
     );
-    requests::from_fresh(
+    requests::on_own(
         b"own table, up",
-        &table,
         b"1340;1330;1140;1120;1210;1240;1130;1300;1100;1300;",
     );
     25
@@ -64,15 +50,12 @@ fn moves() -> usize
 fn wakes() -> usize
     ensures { λ r. ⌜ r ≡ 29 ⌝ }
 {
-    let table = station::own_table();
-    requests::from_fresh(
+    requests::on_own(
         b"own table, sensor",
-        &table,
         b"2000;2111;2110;2113;2122;2100;2133;2143;1130;1330;1110;2111;1130;3100;3100;1130;2111;2133;3100;",
     );
-    requests::from_fresh(
+    requests::on_own(
         b"own table, radio",
-        &table,
         b"2200;2203;2213;2214;2211;2223;2233;2240;1230;3200;",
     );
     29
@@ -82,10 +65,8 @@ fn wakes() -> usize
 fn ranges() -> usize
     ensures { λ r. ⌜ r ≡ 9 ⌝ }
 {
-    let table = station::own_table();
-    requests::from_fresh(
+    requests::on_own(
         b"own table, ranges",
-        &table,
         b"0000;4000;1400;1050;1001;2150;2105;3110;3101;",
     );
     9
@@ -105,8 +86,7 @@ fn single(state: requests::Image, q: Request) -> requests::Image
 fn wide_numbers() -> usize
     ensures { λ r. ⌜ r ≡ 7 ⌝ }
 {
-    let table = station::own_table();
-    let state = requests::from_fresh(b"own table, wide numbers", &table, b"");
+    let state = requests::on_own(b"own table, wide numbers", b"");
     single(
         state,
         Request {
