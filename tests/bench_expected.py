@@ -336,8 +336,7 @@ def changed(base, row):
 
 
 def given(bus, camera, armed, s, d, lamp, on):
-    b = bytes([bus, 0, 0, 0, camera, armed, s, d, lamp]) + bytes(119) + bytes([on, 0, 0, 0])
-    return f" bus {bus}, camera {camera} {armed} {s} {d}, lamp {lamp}, on {on}", b
+    return bytes([bus, 0, 0, 0, camera, armed, s, d, lamp]) + bytes(119) + bytes([on, 0, 0, 0])
 
 
 # ---- requests: a title, and requests one after another from fresh
@@ -494,10 +493,12 @@ def main():
     for size, n in ((140, 131), (140, 132), (140, 133), (140, 0), (139, 132), (7, 131)):
         number, place, after = fresh(TABLE[:size], bytes([0xa5] * n))
         print(f"fresh of {size} into {n}: {number} {place} 0 sum {sum(after)}")
-    for _, rows in IMAGES:
-        for row in rows:
-            text, b = given(*row) if len(row) == 7 else changed(IMAGE, row)
-            print("image%s: %d %d" % (text, *check_state(TABLE, b)))
+    for row in [row for _, rows in IMAGES for row in rows if len(row) != 7]:
+        text, b = changed(IMAGE, row)
+        print("image%s: %d %d" % (text, *check_state(TABLE, b)))
+    for row in [row for _, rows in IMAGES for row in rows if len(row) == 7]:
+        b = given(*row)
+        print("image%s on%s: %d %d" % (hexed(b[:12]), hexed(b[128:]), *check_state(TABLE, b)))
     for at in (*range(16), *range(124, 132)):
         b = IMAGE[:132]
         answers = [check_state(TABLE, b[:at] + bytes([x]) + b[at + 1:]) for x in VALUES]

@@ -2,7 +2,7 @@
 use libc::STDOUT_FILENO;
 use rules::Verdict;
 ghost use mathlib.Core.Path.{_≡_};
-ghost use Prim.Native.Nat.{_*_, _<_, _≤_, min};
+ghost use Prim.Native.Nat.{_*_, _%_, _<_, _≤_, min};
 ghost use lib.ListN.{length, set};
 ghost use Rattle.rules.specs.Answers.{numberOf};
 
@@ -48,6 +48,13 @@ pub fn end() -> usize
     ensures { λ r. ⌜ r ≡ 1 ⌝ }
 {
     text(b"\n")
+}
+
+// The number that a digit stands for.
+pub fn digit(x: u8) -> u32
+    ensures { λ r. ⌜ r ≡ x % 16 ⌝ }
+{
+    words::wide(x) % 16
 }
 
 // A length, or the whole where it is longer than that.

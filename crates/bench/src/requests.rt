@@ -100,22 +100,15 @@ pub fn step(table: &[u8], before: Image, q: Request, plan: &mut [u8]) -> Image
     state
 }
 
-// The number that a digit stands for.
-fn digit(x: u8) -> u32
-    ensures { λ r. ⌜ r ≡ x % 16 ⌝ }
-{
-    words::wide(x) % 16
-}
-
 // The request that four digits make.
 pub fn request_at(steps: &[u8], at: usize) -> Request
     requires { ⌜ at + 4 ≤ length (now steps) ⌝ }
     ensures { λ r. ⌜ r ≡ requestAt (now (steps .entry)) at ⌝ }
 {
-    let kind = digit(steps[at]);
-    let device = digit(steps[at + 1]);
-    let a = digit(steps[at + 2]);
-    let b = digit(steps[at + 3]);
+    let kind = lines::digit(steps[at]);
+    let device = lines::digit(steps[at + 1]);
+    let a = lines::digit(steps[at + 2]);
+    let b = lines::digit(steps[at + 3]);
     Request { kind, device, a, b }
 }
 
