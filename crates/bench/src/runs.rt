@@ -7,6 +7,7 @@ ghost use Prim.Native.Nat.{_+_, _*_, _≤_};
 ghost use lib.ListN.{length};
 ghost use Rattle.rules.specs.Rows.{blank};
 ghost use Rattle.rules.specs.Outcomes.{planBytes};
+ghost use Rattle.sailgarnet.specs.Packed.{asked};
 ghost use Rattle.bench.specs.Chain.{ownTable};
 
 // Document 01's worked rows; answers how many requests.
@@ -73,13 +74,13 @@ fn ranges() -> usize
 }
 
 // One request on a state that is given; answers the state after it.
-fn single(state: requests::Image, q: Request) -> requests::Image
+fn single(state: requests::Image, kind: u32, device: u32, a: u32, b: u32) -> requests::Image
     requires { ⌜ length state ≡ 132 ⌝ }
-    ensures { λ r. ⌜ (length r ≡ 132) × (r ≡ planBytes 4 ownTable state q (blank 132) .state) ⌝ }
+    ensures { λ r. ⌜ (length r ≡ 132) × (r ≡ planBytes 4 ownTable state (asked kind device a b) (blank 132) .state) ⌝ }
 {
     let table = station::own_table();
     let mut plan = [0xa5u8; 132];
-    requests::step(&table, state, q, &mut plan)
+    requests::step(&table, state, Request { kind, device, a, b }, &mut plan)
 }
 
 // Numbers whose lowest byte alone would be good, and states that are refused before the request; answers how many.
@@ -87,69 +88,13 @@ fn wide_numbers() -> usize
     ensures { λ r. ⌜ r ≡ 7 ⌝ }
 {
     let state = requests::on_own(b"own table, wide numbers", b"");
-    single(
-        state,
-        Request {
-            kind: 0x101,
-            device: 0,
-            a: 0,
-            b: 0,
-        },
-    );
-    single(
-        state,
-        Request {
-            kind: 1,
-            device: 0x1_0000,
-            a: 0,
-            b: 0,
-        },
-    );
-    single(
-        state,
-        Request {
-            kind: 1,
-            device: 0,
-            a: 0x100_0000,
-            b: 0,
-        },
-    );
-    single(
-        state,
-        Request {
-            kind: 1,
-            device: 0,
-            a: 0,
-            b: 0x8000_0000,
-        },
-    );
-    single(
-        state,
-        Request {
-            kind: 0xffff_ffff,
-            device: 0xffff_ffff,
-            a: 0xffff_ffff,
-            b: 0xffff_ffff,
-        },
-    );
-    single(
-        [0u8; 132],
-        Request {
-            kind: 0,
-            device: 0,
-            a: 0,
-            b: 0,
-        },
-    );
-    single(
-        [0xa5u8; 132],
-        Request {
-            kind: 0,
-            device: 0,
-            a: 0,
-            b: 0,
-        },
-    );
+    single(state, 0x101, 0, 0, 0);
+    single(state, 1, 0x1_0000, 0, 0);
+    single(state, 1, 0, 0x100_0000, 0);
+    single(state, 1, 0, 0, 0x8000_0000);
+    single(state, 0xffff_ffff, 0xffff_ffff, 0xffff_ffff, 0xffff_ffff);
+    single([0u8; 132], 0, 0, 0, 0);
+    single([0xa5u8; 132], 0, 0, 0, 0);
     7
 }
 
