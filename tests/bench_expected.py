@@ -1,5 +1,5 @@
 #!/usr/bin/env python3
-"""What the program `bench` must print, worked out from document 01 alone. `bench_expected.py > crates/bench/stdout` writes it anew."""
+"""What the program `bench` must print, worked out from document 01 alone: the cases are the program's, the answers are not. `bench_expected.py > crates/bench/stdout` writes it anew."""
 
 # ---- document 01, "Bench station"
 TABLE = bytes.fromhex(
@@ -166,6 +166,123 @@ def fresh(t, buffer):
     return 0, 0, bytes(128) + (2 ** t[3] - 1).to_bytes(4, "little")
 
 
+# ---- "Requests and calls", and answers 10 to 18. A request is four numbers: kind, device, a, b
+def check_request(devices, levels, image, q):
+    kind, d, a, b = q
+    if kind not in (1, 2, 3) or d >= len(devices):
+        return 10, 0
+    if (kind == 1 and (a > 4 or b)) or (kind == 2 and (a > 4 or b > 4)) or (kind == 3 and (a or b)):
+        return 10, 0
+    device = devices[d]
+    state, armed, _, wake_d = image[4 * d:4 * d + 4]
+    if kind == 1:
+        if not device.supported(a):
+            return 11, 0
+        if a < state and a != 0:
+            return 12, 0
+        if device.parent != ABSENT and image[4 * device.parent] > a:
+            return 13, device.parent
+        for child, other in enumerate(devices):
+            if other.parent == d and image[4 * child] < a:
+                return 14, child
+        if armed and a > wake_d:
+            return 15, 0
+    if kind == 2:
+        if not device.prw or a > device.deepest:
+            return 16, 0
+        if any(device.sets[4] >> r & 1 and level < a for r, level in enumerate(levels)):
+            return 17, 0
+        if not device.supported(b) or not device.in_range(a, b) or b < state:
+            return 18, 0
+    return 0, 0
+
+
+def needed(devices, image):
+    union = 0
+    for k, device in enumerate(devices):
+        union |= device.state_needs(image[4 * k])
+        if image[4 * k + 1]:
+            union |= device.sets[4]
+    return union
+
+
+def permitted(t, image, q):
+    number, place = check_table(t)
+    if number == 0:
+        number, place = check_state(t, image)
+    if number == 0:
+        resources, devices = split(t)
+        number, place = check_request(devices, [b[0] for b in resources], image, q)
+    return number, place
+
+
+def own_call(device, before, q):
+    kind, d, a, b = q
+    if kind == 1:
+        x = min(a, 3)  # _PS3 for D3cold
+        changes = a != before[0] and not (before[0] == 3 and a == 4)
+        return [bytes([3, d, x, 0])] if changes and device.ps >> x & 1 else []
+    if kind == 2:
+        return [bytes([4, d, a, 128 + b])] if device.dsw else []
+    return [bytes([4, d, 0, 0])] if device.dsw and before[1] else []
+
+
+# the parts of a permitted request's list, in their order, each with the order that its calls must keep; and the image afterwards
+def carry_out(t, image, q):
+    resources, devices = split(t)
+    kind, d, a, b = q
+    after = bytearray(image)
+    if kind == 1:
+        after[4 * d] = a
+    elif kind == 2:
+        after[4 * d + 1:4 * d + 4] = bytes([1, a, b])
+    else:
+        after[4 * d + 1:4 * d + 4] = bytes(3)
+    want, have = needed(devices, after), le(image[128:])
+    after[128:] = want.to_bytes(4, "little")
+    order = [le(r[2:4]) for r in resources]
+    ons = [(order[r], r) for r in range(len(resources)) if want >> r & 1 and not have >> r & 1]
+    offs = [(-order[r], -r) for r in range(len(resources)) if have >> r & 1 and not want >> r & 1]
+    ons = [(key, bytes([1, r, 0, 0])) for key, r in sorted(ons)]
+    offs = [(key, bytes([2, -r, 0, 0])) for key, r in sorted(offs)]
+    own = [(0, call) for call in own_call(devices[d], image[4 * d:4 * d + 4], q)]
+    own_first = kind == 3 or (kind == 1 and a > image[4 * d])
+    return [own, ons, offs] if own_first else [ons, offs, own], bytes(after)
+
+
+# number, place, the calls, the image afterwards; room: whether 33 words fit
+def plan(t, image, q, room):
+    number, place = check_table(t)
+    if number == 0:
+        number, place = check_state(t, image)
+    if number == 0 and not room:
+        number, place = 9, 0
+    if number == 0:
+        number, place = permitted(t, image, q)
+    if number:
+        return number, place, [], image
+    parts, after = carry_out(t, image, q)
+    return 0, 0, [call for part in parts for _, call in part], after
+
+
+# the checker; a list is bytes, four a word
+def check_list(t, image, q, listed):
+    number, place = permitted(t, image, q)
+    if number:
+        return number, place
+    if len(listed) % 4:
+        return 19, 0
+    left = [listed[i:i + 4] for i in range(0, len(listed), 4)]
+    for part in carry_out(t, image, q)[0]:
+        # calls of equal orders are taken from the list as a set, since their sequence is free
+        while part:
+            equal = sorted(call for key, call in part if key == part[0][0])
+            if sorted(left[:len(equal)]) != equal:
+                return 19, 0
+            part, left = part[len(equal):], left[len(equal):]
+    return (19, 0) if left else (0, 0)
+
+
 # ---- the cases: a length, then places and the bytes put there
 BUS, CAMERA, LAMP = 20, 60, 100
 TABLES = [
@@ -218,9 +335,145 @@ def changed(base, row):
     return f" of {row[0]}{text}", bytes(b[:row[0]])
 
 
-def held(bus, camera, armed, s, d, lamp, on):
-    b = bytes([bus, 0, 0, 0, camera, armed, s, d, lamp]) + bytes(119) + bytes([on, 0, 0, 0])
-    return f" bus {bus}, camera {camera} {armed} {s} {d}, lamp {lamp}, on {on}", b
+def given(bus, camera, armed, s, d, lamp, on):
+    return bytes([bus, 0, 0, 0, camera, armed, s, d, lamp]) + bytes(119) + bytes([on, 0, 0, 0])
+
+
+# ---- requests: a title, and requests one after another from fresh
+OWN = bytes.fromhex(
+    # R = 5, D = 4; (level, order): r0 (4, 10), r1 (4, 10), r2 (1, 5), r3 (4, 300), r4 (4, 7)
+    "5057540501000400" "04000a00" "04000a00" "01000500" "04002c01" "04000700"
+    # hub: _PR0 {3}, _PR2 {4}, no _PR3
+    "ff000500" "08000000" "00000000" "10000000" "00000000" "00000000" "ffffffff" "ffffffffff" "00" "000000000000"
+    # sensor of the hub: _PS0, _PS1, _PS3; _PRW {4} to S3, _DSW; _S1D 1, _S2D 2, _S3D 3
+    "000b0003" "00000000" "00000000" "00000000" "00000000" "10000000" "010203ff" "ffffffffff" "03" "000000000000"
+    # radio of the hub: _PR0 {2}; _PRW {2} to S3; _S0W 0, _S1W 3, _S2W 3
+    "00000101" "04000000" "00000000" "00000000" "00000000" "04000000" "ffffffff" "000303ffff" "03" "000000000000"
+    # disk of the sensor: _PS0, _PS3; _PR0 {0, 1}, _PR3 empty
+    "01090900" "03000000" "00000000" "00000000" "00000000" "00000000" "ffffffff" "ffffffffff" "00" "000000000000"
+)
+BARE = "ff000000" + 20 * "00" + 9 * "ff" + 7 * "00"
+WIDE = "ff090900" "ffffffff" + 16 * "00" + 9 * "ff" + 7 * "00"
+
+
+def alike(R, D, device):
+    return b"PWT" + bytes([R, 1, 0, D, 0]) + bytes([4, 0, 1, 0]) * R + bytes.fromhex(device) * D
+
+
+STATION_RUNS = [
+    ("W1, W2, W6, W3", "1120 1240 1030 1100"),
+    ("W4, W7, W5", "1240 1130 1120 1100"),
+    ("W8, W11, W12, W9, W10", "1110 2142 2122 2132 1130"),
+    ("D3cold", "1140 1140 1130 1100 1130 1140 1100"),
+    ("armed in D3hot", "3100 2133 1130 1140 2133 2132 3100 3100"),
+]
+OWN_RUNS = [
+    ("own table, down", "1000 1020 1330 1130 1020 1230 1020 1030 1040 1020 1100 1300 1000 1100 1300"),
+    ("own table, up", "1340 1330 1140 1120 1210 1240 1130 1300 1100 1300"),
+    ("own table, sensor", "2000 2111 2110 2113 2122 2100 2133 2143 1130 1330 1110 2111 1130 3100 3100 1130 2111 2133 3100"),
+    ("own table, radio", "2200 2203 2213 2214 2211 2223 2233 2240 1230 3200"),
+    ("own table, ranges", "0000 4000 1400 1050 1001 2150 2105 3110 3101"),
+]
+WIDE_NUMBERS = [(0x101, 0, 0, 0), (1, 0x10000, 0, 0), (1, 0, 0x1000000, 0), (1, 0, 0, 0x80000000), (2 ** 32 - 1,) * 4]
+SIZES = [
+    ("nothing", alike(0, 0, BARE), "1000 2000 3000"),
+    ("32 devices", alike(0, 32, BARE), "1030 1040 2000 3000"),
+    ("33 devices", alike(0, 33, BARE), "1030"),
+    ("32 resources", alike(32, 1, WIDE), "1040 1000 1030 1000"),
+    ("33 resources", alike(33, 0, BARE), "1030"),
+]
+# a title, a table, requests from fresh, one more request, and lists for it
+LISTS = [
+    ("lists for W4", TABLE, "1240", "1130", [
+        "03010300 02010000 02020000", "03010300 02020000 02010000", "03010300 03010300 02010000 02020000", "03010300 02010000 02020000 02020000",
+        "02010000 02020000", "03010300 02010000", "", "03010300 02010000 02000000", "03010300 02010000 02020000 00000000",
+        "02010000 02020000 03010300", "03010300 02010000 02020000 00", "03010300 02010000 020200", "03010300 02010000 02020080",
+        "03010200 02010000 02020000"]),
+    ("34 words", TABLE, "", "3100", [136 * "00"]),
+    ("lists for the disk, down", OWN, "", "1330", [
+        "03030300 02010000 02000000 02040000", "03030300 02000000 02010000 02040000", "03030300 02040000 02010000 02000000"]),
+    ("lists for the disk, up", OWN, "1330", "1300", [
+        "01000000 01010000 03030000", "01010000 01000000 03030000", "01000000 01000000 03030000", "03030000 01000000 01010000"]),
+    ("lists for the hub", OWN, "1330 1130 1230", "1020", ["01040000 02030000", "02030000 01040000", "03000200 01040000 02030000"]),
+    ("lists for no calls", OWN, "1000", "1000", ["", "01030000"]),
+    ("lists for a refusal", OWN, "1130 1330 1130", "1300", ["00"]),
+    ("lists for arming", OWN, "1000", "2111", ["01040000 04010181", "04010181 01040000", "01040000 04010383"]),
+    ("lists for disarming", OWN, "2111", "3100", ["04010000 02040000", "02040000 04010000", "04010181 02040000"]),
+]
+
+
+def hexed(b):
+    return "".join((" " if i % 4 == 0 else "") + "%02x" % x for i, x in enumerate(b))
+
+
+def held(image):
+    return f" state{hexed(image[:16])} on{hexed(image[128:])} sum {sum(image)}"
+
+
+# a line of a request; what is lent as the plan is A5 throughout
+def run(t, image, q, size=132):
+    number, place, calls, after = plan(t, image, q, size >= 132)
+    listed = b"".join(calls)
+    told = "%d %d" % check_list(t, image, q, listed)
+    print(f"request {q[0]} {q[1]} {q[2]} {q[3]}: {number} {place} {len(calls)} calls{hexed(listed)} kept {size - len(listed)}{held(after)} check {told} 0")
+    return after
+
+
+def run_words(t, image, q, size):
+    number, place, calls, after = plan(t, image, q, size >= 33)
+    words = [le(call) for call in calls] + [0xa5a5a5a5] * (size - len(calls))
+    told = "%d %d" % check_list(t, image, q, b"".join(calls))
+    text = "".join(" %08x" % w for w in words)
+    print(f"words {size} request {q[0]} {q[1]} {q[2]} {q[3]}: {number} {place} {len(calls)} plan{text}{held(after)} words {told}")
+
+
+def requests(text):
+    return [tuple(int(x) for x in q) for q in text.split()]
+
+
+def from_fresh(title, t, text):
+    number, place, image = fresh(t, bytes([0xa5] * 132))
+    print(f"{title}: {number} {place} 0")
+    for q in requests(text):
+        image = run(t, image, q)
+    return image
+
+
+def rooms(t, image, q):
+    for n in (32, 33, 34):
+        run_words(t, image, q, n)
+    for n in (0, 131, 132, 133):
+        print(f"bytes {n} ", end="")
+        run(t, image, q, n)
+
+
+def lists(title, t, text, last, rows):
+    image, q = from_fresh(title, t, text), requests(last)[0]
+    for row in rows:
+        b = bytes.fromhex(row)
+        whole = b[:min(len(b) // 4, 33) * 4]
+        print("list%s request %d %d %d %d: check %d %d 0 words %d %d" % (hexed(b), *q, *check_list(t, image, q, b), *check_list(t, image, q, whole)))
+
+
+def all_requests():
+    for title, text in STATION_RUNS:
+        from_fresh(title, TABLE, text)
+    for title, text in OWN_RUNS:
+        from_fresh(title, OWN, text)
+    image = from_fresh("own table, wide numbers", OWN, "")
+    for q in WIDE_NUMBERS:
+        run(OWN, image, q)
+    for x in (0, 0xa5):
+        run(OWN, bytes([x] * 132), (0, 0, 0, 0))
+    for title, t, text in SIZES:
+        from_fresh(title, t, text)
+    image = from_fresh("plans", TABLE, "1240")
+    rooms(TABLE, image, (1, 1, 3, 0))
+    rooms(TABLE, image, (0, 0, 0, 0))
+    wide = alike(32, 1, WIDE)
+    rooms(wide, from_fresh("33 calls", wide, "1000"), (1, 0, 4, 0))
+    for row in LISTS:
+        lists(*row)
 
 
 def main():
@@ -240,14 +493,17 @@ def main():
     for size, n in ((140, 131), (140, 132), (140, 133), (140, 0), (139, 132), (7, 131)):
         number, place, after = fresh(TABLE[:size], bytes([0xa5] * n))
         print(f"fresh of {size} into {n}: {number} {place} 0 sum {sum(after)}")
-    for _, rows in IMAGES:
-        for row in rows:
-            text, b = held(*row) if len(row) == 7 else changed(IMAGE, row)
-            print("image%s: %d %d" % (text, *check_state(TABLE, b)))
+    for row in [row for _, rows in IMAGES for row in rows if len(row) != 7]:
+        text, b = changed(IMAGE, row)
+        print("image%s: %d %d" % (text, *check_state(TABLE, b)))
+    for row in [row for _, rows in IMAGES for row in rows if len(row) == 7]:
+        b = given(*row)
+        print("image%s on%s: %d %d" % (hexed(b[:12]), hexed(b[128:]), *check_state(TABLE, b)))
     for at in (*range(16), *range(124, 132)):
         b = IMAGE[:132]
         answers = [check_state(TABLE, b[:at] + bytes([x]) + b[at + 1:]) for x in VALUES]
         print("image byte %d:" % at + "".join(" %d %d" % a for a in answers))
+    all_requests()
 
 
 if __name__ == "__main__":

@@ -2,7 +2,7 @@
 use libc::STDOUT_FILENO;
 use rules::Verdict;
 ghost use mathlib.Core.Path.{_≡_};
-ghost use Prim.Native.Nat.{_*_, _<_, _≤_};
+ghost use Prim.Native.Nat.{_*_, _%_, _<_, _≤_, min};
 ghost use lib.ListN.{length, set};
 ghost use Rattle.rules.specs.Answers.{numberOf};
 
@@ -28,20 +28,43 @@ pub fn answer(v: Verdict) -> u8
     n
 }
 
+// Prints a text, and answers its length.
+pub fn text(text: &[u8]) -> usize
+    ensures { λ r. ⌜ r ≡ length (now (text .entry)) ⌝ }
+{
+    io::write_all(STDOUT_FILENO, text);
+    text.len()
+}
+
 // Ends what a line says of the case.
 pub fn colon() -> usize
     ensures { λ r. ⌜ r ≡ 1 ⌝ }
 {
-    io::write_all(STDOUT_FILENO, b":");
-    1
+    text(b":")
 }
 
 // Ends a line.
 pub fn end() -> usize
     ensures { λ r. ⌜ r ≡ 1 ⌝ }
 {
-    io::write_all(STDOUT_FILENO, b"\n");
-    1
+    text(b"\n")
+}
+
+// The number that a digit stands for.
+pub fn digit(x: u8) -> u32
+    ensures { λ r. ⌜ r ≡ x % 16 ⌝ }
+{
+    words::wide(x) % 16
+}
+
+// A length, or the whole where it is longer than that.
+pub fn within(n: usize, size: usize) -> usize
+    ensures { λ r. ⌜ r ≡ min n size ⌝ }
+{
+    if n < size {
+        return n;
+    }
+    size
 }
 
 // Some bytes with one of them set.
@@ -76,4 +99,40 @@ pub fn total(bytes: &[u8]) -> usize
         i += 1;
     }
     sum
+}
+
+// Prints bytes as two digits each, with a space before every fourth one, and answers how many.
+pub fn hex(bytes: &[u8]) -> usize
+    ensures { λ r. ⌜ r ≡ length (now (bytes .entry)) ⌝ }
+{
+    let mut i = 0;
+    while i < bytes.len() {
+        if i % 4 == 0 {
+            io::write_all(STDOUT_FILENO, b" ");
+        }
+        io::print_hex(STDOUT_FILENO, words::wide(bytes[i]) as u64, 2);
+        i += 1;
+    }
+    i
+}
+
+// Prints a word as eight digits, and answers it.
+fn word(x: u32) -> u32
+    ensures { λ r. ⌜ r ≡ x ⌝ }
+{
+    io::write_all(STDOUT_FILENO, b" ");
+    io::print_hex(STDOUT_FILENO, x as u64, 8);
+    x
+}
+
+// Prints words, and answers how many.
+pub fn hex_words(words: &[u32]) -> usize
+    ensures { λ r. ⌜ r ≡ length (now (words .entry)) ⌝ }
+{
+    let mut i = 0;
+    while i < words.len() {
+        word(words[i]);
+        i += 1;
+    }
+    i
 }

@@ -11,12 +11,6 @@ Inv-loop bytes sum₀ i₀ sum i = (i ≤ length bytes) × (sum ≤ 255 * i)
 abbrev μ-loop : tie.MeasureT-loop
 μ-loop bytes sum₀ i₀ sum i = length bytes - i
 
-add-sum : tie.Need-add-sum Inv-loop μ-loop
-add-sum c = search needs
-
-loop-again : tie.Need-loop-again Inv-loop μ-loop
-loop-again c = search needs
-
 pub total-spec : {M : Type 1} → statement M
 total-spec =
     tie.close
@@ -27,8 +21,8 @@ total-spec =
     (λ c. search needs)
     (λ c κs. search needs)
     (λ c. search needs)
-    add-sum
     (λ c. search needs)
     (λ c. search needs)
-    loop-again
+    (λ c. search needs)
+    (λ c. search needs)
     (λ c. search needs))

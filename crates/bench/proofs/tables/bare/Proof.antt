@@ -1,6 +1,6 @@
 -- The part that is lent has the length that its slice says. Assumes nothing.
-use borrow.Author.Needs.{needs}
 use Rattle.bench.proofs.Parts.{part-long}
+use borrow.Author.Needs.{needs}
 use Rattle.bench.proofs.tables.bare.Statement.{statement}
 use Rattle.bench.proofs.tables.bare.Tie as tie
 
@@ -11,18 +11,14 @@ pub bare-spec : {M : Type 1} → statement M
 bare-spec =
     tie.close
     (tie.spec
-    (λ c. search needs)
-    (λ c. search needs)
-    (λ c. search needs)
-    (λ c. search needs)
-    (λ c. search needs)
-    (λ c. search needs)
     (λ c κs. search needs)
     (λ c. search needs)
     (λ c κs. search needs)
     (λ c κs. search needs)
     (λ c. search needs)
+    (λ c κs. search needs)
     (λ c. search needs)
+    (λ c κs. search needs)
     (λ c κs. search needs)
     (λ c. search needs)
     slice-aggregate-judged
