@@ -24,7 +24,8 @@ use Rattle.request.specs.Stages.{stagesOf, stagesVerdict}
 use Rattle.planner.specs.Plan.{ownOf}
 use Rattle.planner.specs.After.{afterOf, Asked}
 use Rattle.planner.proofs.Whole.{own-of, entry-is, on-after, on-before}
-use Rattle.checker.specs.Phases.{switchWord, follows, takeWords, walked}
+use Rattle.planner.specs.Phases.{switchWord}
+use Rattle.checker.specs.Phases.{follows, takeWords, walked}
 use Rattle.checker.proofs.Walks.{take-by-words}
 
 -- ---- the walk with the words of the own call is the test

@@ -16,17 +16,10 @@ use Rattle.rules.specs.Check.{Rest, left, refused, resourceIn, mayCome, takeSet
 use Rattle.laws.proofs.Tests.{both-true}
 use Rattle.laws.proofs.Take.{take-stop, take-short, take-bad, take-one}
 use Rattle.checker.specs.declared.Taken.{Taken}
-use Rattle.checker.specs.Phases.{restOf, switchWord, follows}
+use Rattle.planner.specs.Phases.{switchWord}
+use Rattle.checker.specs.Phases.{restOf, follows}
 
--- ---- the word of a resource, and the order of two
-pub switch-off : (off : Bool) (r : ℕ) → off ≡ true → 2 + 256 * r ≡ switchWord off r
-unfolding switchWord
-switch-off off r e = rw e (omega arith)
-
-pub switch-on : (off : Bool) (r : ℕ) → off ≡ false → 1 + 256 * r ≡ switchWord off r
-unfolding switchWord
-switch-on off r e = rw e (omega arith)
-
+-- ---- the order of two resources
 pub order-off : (s : Station) (off : Bool) (last r a b : ℕ) → off ≡ true → a ≡ s .resource last .order → b ≡ s .resource r .order → leb b a ≡ follows s off last r
 unfolding follows
 order-off s off last r a b e p q = rw (e, p, q) refl
@@ -35,7 +28,7 @@ pub order-on : (s : Station) (off : Bool) (last r a b : ℕ) → off ≡ false �
 unfolding follows
 order-on s off last r a b e p q = rw (e, p, q) refl
 
-pub ruleset words-and-orders = (switch-off, switch-on, order-off, order-on)
+pub ruleset orders = (order-off, order-on)
 
 -- ---- one word. v is the word that switches its resource, b whether that is still to be switched
 module _ (word : ℕ → ℕ) (after : ℕ → ℕ → Bool) (todo : ℕ) (first : Bool) (last w v : ℕ) (e : v ≡ word (resourceIn w)) where

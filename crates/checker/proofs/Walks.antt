@@ -15,7 +15,8 @@ use Rattle.rules.specs.Station.{Station}
 use Rattle.rules.specs.Calls.{wordOf}
 use Rattle.rules.specs.Check.{Rest, left, refused, andThen, takeCalls, takeSet, isEnd}
 use Rattle.checker.specs.declared.Taken.{Taken}
-use Rattle.checker.specs.Phases.{restOf, switchWord, follows, takeWords, walked}
+use Rattle.planner.specs.Phases.{switchWord}
+use Rattle.checker.specs.Phases.{restOf, follows, takeWords, walked}
 use Rattle.checker.proofs.Phase.{rest-up-to, rest-refused}
 
 -- ---- the own word

@@ -5,18 +5,15 @@ use mathlib.Core.List.{List, [], _∷_}
 use lib.Dec.{eqb}
 use lib.ListN.{drop}
 use Rattle.rules.specs.Station.{Station}
-use Rattle.rules.specs.Check.{Rest, left, refused, andThen, takeSet, isEnd, onWord, offWord, notLower, notHigher}
+use Rattle.rules.specs.Check.{Rest, left, refused, andThen, takeSet, isEnd, notLower, notHigher}
+use Rattle.planner.specs.Phases.{switchWord}
 use Rattle.checker.specs.declared.Taken.{Taken}
 
 -- what is left of the list after a phase
 unfoldable pub restOf : List ℕ → Taken → Rest
 restOf ws r = cond (r .ok) (left (drop (r .at) ws)) refused
 
--- the word that switches r off or on, and whether r may follow the resource before it
-unfoldable pub switchWord : Bool → ℕ → ℕ
-switchWord true r = offWord r
-switchWord false r = onWord r
-
+-- r may follow the resource before it
 unfoldable pub follows : Station → Bool → ℕ → ℕ → Bool
 follows s true = notHigher s
 follows s false = notLower s

@@ -2,23 +2,13 @@
 use crate::Taken;
 ghost use mathlib.Core.Path.{_≡_};
 ghost use mathlib.Core.Bool.{true, false};
-ghost use Prim.Native.Nat.{_+_, _*_, _/_, _%_, _^_, _<_, _≤_};
+ghost use Prim.Native.Nat.{_^_, _<_, _≤_};
 ghost use lib.ListN.{length, drop};
 ghost use Rattle.rules.specs.Station.{countR, stationOf};
 ghost use Rattle.rules.specs.Check.{mayCome, takeSet};
 ghost use Rattle.table.specs.Layout.{Laid};
-ghost use Rattle.checker.specs.Phases.{restOf, switchWord, follows};
-
-// The word that switches r off or on.
-fn switch_word(off: bool, r: u32) -> u32
-    requires { ⌜ r < 256 ⌝ }
-    ensures { λ w. ⌜ w ≡ switchWord off r ⌝ }
-{
-    if off {
-        return 2 + 256 * r;
-    }
-    1 + 256 * r
-}
+ghost use Rattle.planner.specs.Phases.{switchWord};
+ghost use Rattle.checker.specs.Phases.{restOf, follows};
 
 // Whether r's resourceorder may follow the last one's: not higher for OFFs, not lower for ONs.
 fn in_order(table: &[u8], off: bool, last: usize, r: usize) -> bool
@@ -39,7 +29,7 @@ fn may_come(table: &[u8], off: bool, left: u32, first: bool, last: usize, word: 
     ensures { λ b. ⌜ b ≡ mayCome (switchWord off) (follows (stationOf 4 (now (table .entry))) off) left first last word ⌝ }
 {
     let r = word / 256 % 256;
-    if word != switch_word(off, r) {
+    if word != planner::order::switch_word(off, r as u8) {
         return false;
     }
     if !sets::has(left, r) {

@@ -11,6 +11,7 @@ pub may-come-spec : {M : Type 1} → statement M
 may-come-spec =
     tie.close
     (tie.spec
+    (λ c. search needs)
     (λ c κs. search needs)
     (λ c. search (needs, next-word))
     (λ c κs. search needs)
