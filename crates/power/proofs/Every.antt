@@ -1,7 +1,8 @@
 -- A loop that asks whether every number below n has a property, and stops at the first that has not. Assumes nothing.
 use mathlib.Core.Path.{_≡_, refl, sym, ap, _∙_}
 use mathlib.Core.Bool.{Bool, true, false, not}
-use Prim.Native.Nat.{ℕ, _+_, _-_, _≤_, _<_}
+use Prim.Native.Nat.{ℕ, zero, suc, _+_, _-_, _≤_, _<_}
+use native.Mathlib.Numerals.{add-one}
 use native.Mathlib.Omega.{arith}
 use borrow.Author.Tests.{le-leb, lt-leb}
 use lib.Dec.{leb}
@@ -30,5 +31,17 @@ module _ (f : ℕ → Bool) where
   pub every-done : (i n : ℕ) (v : Bool) → everyFrom f i n ≡ v → n ≤ i → true ≡ v
   unfolding everyFrom
   every-done i n v inv h = sym (le-leb n i h) ∙ ap (leb n) (done (λ j. not (f j)) i n _ refl h) ∙ inv
+
+  -- a loop that starts at i, where all below i have the property
+  pub every-skip : (i n : ℕ) → i ≤ n → ((j : ℕ) → j < i → f j ≡ true) → everyFrom f i n ≡ every f n
+  every-skip zero n h t = every-starts n
+  every-skip (suc i) n h t =
+      rw (← add-one i) (every-next i n _ (f i) (every-skip i n (omega arith) (λ j g. t j (omega arith))) (omega arith) refl (t i (omega arith)))
+
+-- two tests, each passed where the other is, are one
+pub same-test : (a b : Bool) → (a ≡ true → b ≡ true) → (b ≡ true → a ≡ true) → a ≡ b
+same-test true b f g = sym (f refl)
+same-test false true f g = g refl
+same-test false false f g = refl
 
 pub ruleset everyOf = (every-starts, every-next, every-stops, every-done)

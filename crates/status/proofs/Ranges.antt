@@ -1,18 +1,125 @@
 -- The values of a state image, as the code that tests them has them. Assumes nothing.
-use mathlib.Core.Path.{_≡_, refl}
-use mathlib.Core.Bool.{Bool, _&&_, _||_}
+use mathlib.Core.Path.{_≡_, refl, sym, ap, _∙_}
+use mathlib.Core.Bool.{Bool, true, false, not, _&&_, _||_}
 use mathlib.Core.List.{List}
-use Prim.Native.Nat.{ℕ, _^_}
-use lib.Dec.{ltb}
+use Prim.Native.Nat.{ℕ, _+_, _*_, _^_, _≤_, _<_}
+use native.Mathlib.Nat.{add-assoc}
+use native.Mathlib.Omega.{arith}
+use borrow.Author.Tests.{ltb-true, lt-ltb, le-ltb, le-leb, eqb-true, eq-eqb, ne-eqb, not-true, not-false}
+use lib.Dec.{eqb, ltb}
+use lib.ListN.{getD}
+use Rattle.sets.proofs.Laws.{decide}
+use Rattle.words.specs.Words.{readLE}
 use Rattle.rules.specs.declared.Entry.{Entry}
-use Rattle.rules.specs.Station.{countR, countD, stationOf}
-use Rattle.rules.specs.Status.{entriesOf, entryGood, entryZero, onGood}
+use Rattle.rules.specs.Index.{every}
+use Rattle.rules.specs.Station.{Station, countR, countD, stationOf}
+use Rattle.rules.specs.Status.{entryAt, entriesOf, entryGood, entryZero, entriesGood, onGood}
+use Rattle.rules.proofs.Index.{every-at, every-of}
+use Rattle.laws.proofs.Tests.{both-true, and-true, or-left, or-right}
+use Rattle.power.proofs.Every.{everyFrom, every-skip, every-next, every-stops, same-test}
+use Rattle.status.proofs.Held.{entry-in}
 
--- ---- entry k of the image's bytes; `e` is what was read, and `good` and `zero` what the tests of it returned
-pub place-is : (t b : List ℕ) (k d : ℕ) (e : Entry) (good zero : Bool) → e ≡ entriesOf 4 b k → good ≡ entryGood e → d ≡ countD t → zero ≡ entryZero e
-    → good && (ltb k d || zero) ≡ entryGood (entriesOf 4 b k) && (ltb k (stationOf 4 t .devices) || entryZero (entriesOf 4 b k))
-unfolding stationOf
-place-is t b k d e good zero read g c z = rw (← read, ← g, ← c, ← z) refl
+-- ---- an entry as the number that its four bytes make
+
+abbrev valueOf : Entry → ℕ
+valueOf e = e .state + 256 * (e .armed + 256 * (e .sleep + 256 * e .wake))
+
+module _ (e : Entry) where
+  low-good : valueOf e ≤ 4 → entryGood e ≡ true
+  unfolding entryGood
+  low-good h =
+      let armed : e .armed ≡ 0 = omega arith in
+      let sleep : e .sleep ≡ 0 = omega arith in
+      let wake : e .wake ≡ 0 = omega arith in
+      rw (armed, sleep, wake, le-leb (e .state) 4 (omega arith)) refl
+
+  none-zero : valueOf e ≡ 0 → entryZero e ≡ true
+  unfolding entryZero
+  none-zero h =
+      let state : e .state ≡ 0 = omega arith in
+      let armed : e .armed ≡ 0 = omega arith in
+      let sleep : e .sleep ≡ 0 = omega arith in
+      let wake : e .wake ≡ 0 = omega arith in
+      rw (state, armed, sleep, wake) refl
+
+  zero-none : entryZero e ≡ true → valueOf e ≡ 0
+  unfolding entryZero
+  zero-none z =
+      let a = both-true (eqb (e .state) 0 && eqb (e .armed) 0 && eqb (e .sleep) 0) (eqb (e .wake) 0) z in
+      let b = both-true (eqb (e .state) 0 && eqb (e .armed) 0) (eqb (e .sleep) 0) (a .0) in
+      let c = both-true (eqb (e .state) 0) (eqb (e .armed) 0) (b .0) in
+      omega (arith, eqb-true (e .state) 0 (c .0), eqb-true (e .armed) 0 (c .1), eqb-true (e .sleep) 0 (b .1), eqb-true (e .wake) 0 (a .1))
+
+-- w is what was read at entry k
+module _ (b : List ℕ) (k w : ℕ) (h : k < 32) (q : w ≡ readLE 4 b (4 * k)) where
+  value-is : w ≡ valueOf (entriesOf 4 b k)
+  unfolding readLE entryAt
+  value-is = q ∙ rw (entry-in b k h, add-assoc (4 * k) 1 1, add-assoc (4 * k) 2 1) (omega arith)
+
+  pub word-good : w ≤ 4 → true ≡ entryGood (entriesOf 4 b k)
+  word-good l = sym (low-good (entriesOf 4 b k) (omega (arith, value-is)))
+
+  pub word-zero : eqb w 0 ≡ entryZero (entriesOf 4 b k)
+  word-zero =
+      same-test (eqb w 0) (entryZero (entriesOf 4 b k))
+      (λ e. none-zero (entriesOf 4 b k) (omega (arith, value-is, eqb-true w 0 e)))
+      (λ e. eq-eqb w 0 (omega (arith, value-is, zero-none (entriesOf 4 b k) e)))
+
+pub entry-told : (b : List ℕ) (k : ℕ) (e : Entry) (g : Bool) → e ≡ entriesOf 4 b k → g ≡ entryGood e → g ≡ entryGood (entriesOf 4 b k)
+entry-told b k e g read q = rw (← read) q
+
+-- ---- the loop over the entries from n on
+module _ (b : List ℕ) (n : ℕ) where
+  abbrev pub zeroFrom : ℕ → Bool
+  zeroFrom k = ltb k n || entryZero (entriesOf 4 b k)
+
+  pub zero-starts : n ≤ 32 → everyFrom zeroFrom n 32 ≡ every zeroFrom 32
+  zero-starts h = every-skip zeroFrom n 32 h (λ j l. or-left (ltb j n) _ (lt-ltb j n l))
+
+  module _ (i w : ℕ) (v : Bool) (inv : everyFrom zeroFrom i 32 ≡ v) (h : i < 32) (l : n ≤ i) (q : w ≡ readLE 4 b (4 * i)) where
+    turn : eqb w 0 ≡ zeroFrom i
+    turn = rw (le-ltb i n l) (word-zero b i w h q)
+
+    pub zero-next : w ≡ 0 → everyFrom zeroFrom (i + 1) 32 ≡ v
+    zero-next z = every-next zeroFrom i 32 v (eqb w 0) inv h turn (eq-eqb w 0 z)
+
+    pub zero-stops : (w ≡ 0 → ⊥) → false ≡ v
+    zero-stops z = every-stops zeroFrom i 32 v (eqb w 0) inv h turn (ne-eqb w 0 z)
+
+-- ---- all entries: those of the devices and the others; good and zero are what the two loops returned
+module _ (t b : List ℕ) (n : ℕ) (c : n ≡ countD t) (h : n ≤ 32) where
+  abbrev good : ℕ → Bool
+  good k = entryGood (entriesOf 4 b k)
+
+  abbrev either : ℕ → Bool
+  either k = entryGood (entriesOf 4 b k) && zeroFrom b n k
+
+  good-at : every good n ≡ true → every (zeroFrom b n) 32 ≡ true → (k : ℕ) → k < 32 → either k ≡ true
+  good-at e f k l =
+      let z = every-at (zeroFrom b n) 32 k f l in
+      and-true (entryGood (entriesOf 4 b k)) (zeroFrom b n k)
+      (decide (ltb k n) (λ x. every-at good n k e (ltb-true k n x))
+      (λ x. low-good (entriesOf 4 b k) (omega (arith, zero-none (entriesOf 4 b k) (rw x at z)))))
+      z
+
+  all-good : every good n && every (zeroFrom b n) 32 ≡ entriesGood 32 (stationOf 4 t) (entriesOf 4 b)
+  unfolding entriesGood stationOf
+  all-good =
+      rw (← c)
+      (same-test (every good n && every (zeroFrom b n) 32) (every either 32)
+      (λ e. let a = both-true (every good n) (every (zeroFrom b n) 32) e in every-of either 32 (good-at (a .0) (a .1)))
+      (λ e. and-true (every good n) (every (zeroFrom b n) 32)
+      (every-of good n (λ k l. both-true (good k) (zeroFrom b n k) (every-at either 32 k e (omega arith)) .0))
+      (every-of (zeroFrom b n) 32 (λ k l. both-true (good k) (zeroFrom b n k) (every-at either 32 k e l) .1))))
+
+  module _ (first : Bool) (q : first ≡ every good n) where
+    pub entries-first : not first ≡ true → false ≡ entriesGood 32 (stationOf 4 t) (entriesOf 4 b)
+    entries-first x = rw (← q, not-true first x) at all-good
+
+    pub entries-rest : (rest : Bool) → not first ≡ false → rest ≡ every (zeroFrom b n) 32 → rest ≡ entriesGood 32 (stationOf 4 t) (entriesOf 4 b)
+    entries-rest rest x r = rw (← q, ← r, not-false first x) at all-good
+
+pub ruleset range-laws = (word-good, entry-told, zero-starts, zero-next, zero-stops, entries-first, entries-rest)
 
 -- ---- the on-set
 pub on-is : (t : List ℕ) (n on : ℕ) (b : Bool) → n ≡ countR t → b ≡ ltb on (2 ^ n) → b ≡ onGood (stationOf 4 t) on
