@@ -7,7 +7,7 @@ use native.Mathlib.Omega.{arith}
 use borrow.Author.Tests.{le-leb, lt-leb}
 use lib.Dec.{leb}
 use Rattle.rules.specs.Index.{leastFrom, every}
-use Rattle.rules.proofs.Index.{starts, found, next, done}
+use Rattle.rules.proofs.Index.{starts, found, next, done, every-at, every-of}
 
 -- every number from i to n - 1 has the property
 unfoldable pub everyFrom : (ℕ → Bool) → ℕ → ℕ → Bool
@@ -43,5 +43,10 @@ pub same-test : (a b : Bool) → (a ≡ true → b ≡ true) → (b ≡ true →
 same-test true b f g = sym (f refl)
 same-test false true f g = g refl
 same-test false false f g = refl
+
+-- what is the same below n
+pub every-ext : (f g : ℕ → Bool) (n : ℕ) → ((i : ℕ) → i < n → f i ≡ g i) → every f n ≡ every g n
+every-ext f g n h =
+    same-test (every f n) (every g n) (λ e. every-of g n (λ i l. sym (h i l) ∙ every-at f n i e l)) (λ e. every-of f n (λ i l. h i l ∙ every-at g n i e l))
 
 pub ruleset everyOf = (every-starts, every-next, every-stops, every-done)

@@ -1,5 +1,5 @@
 -- The values of a state image, as the code that tests them has them. Assumes nothing.
-use mathlib.Core.Path.{_≡_, refl, sym, ap, _∙_}
+use mathlib.Core.Path.{_≡_, refl, sym, _∙_}
 use mathlib.Core.Bool.{Bool, true, false, not, _&&_, _||_}
 use mathlib.Core.List.{List}
 use Prim.Native.Nat.{ℕ, _+_, _*_, _^_, _≤_, _<_}
@@ -12,10 +12,10 @@ use Rattle.sets.proofs.Laws.{decide}
 use Rattle.words.specs.Words.{readLE}
 use Rattle.rules.specs.declared.Entry.{Entry}
 use Rattle.rules.specs.Index.{every}
-use Rattle.rules.specs.Station.{Station, countR, countD, stationOf}
+use Rattle.rules.specs.Station.{countR, countD, stationOf}
 use Rattle.rules.specs.Status.{entryAt, entriesOf, entryGood, entryZero, entriesGood, onGood}
 use Rattle.rules.proofs.Index.{every-at, every-of}
-use Rattle.laws.proofs.Tests.{both-true, and-true, or-left, or-right}
+use Rattle.laws.proofs.Tests.{both-true, and-true, or-left}
 use Rattle.power.proofs.Every.{everyFrom, every-skip, every-next, every-stops, same-test}
 use Rattle.status.proofs.Held.{entry-in}
 
@@ -86,7 +86,7 @@ module _ (b : List ℕ) (n : ℕ) where
     pub zero-stops : (w ≡ 0 → ⊥) → false ≡ v
     zero-stops z = every-stops zeroFrom i 32 v (eqb w 0) inv h turn (ne-eqb w 0 z)
 
--- ---- all entries: those of the devices and the others; good and zero are what the two loops returned
+-- ---- all entries: those of the devices and the others; first and rest are what the two loops returned
 module _ (t b : List ℕ) (n : ℕ) (c : n ≡ countD t) (h : n ≤ 32) where
   abbrev good : ℕ → Bool
   good k = entryGood (entriesOf 4 b k)
