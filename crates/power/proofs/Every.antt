@@ -1,12 +1,14 @@
 -- A loop that asks whether every number below n has a property, and stops at the first that has not. Assumes nothing.
 use mathlib.Core.Path.{_≡_, refl, sym, ap, _∙_}
-use mathlib.Core.Bool.{Bool, true, false, not}
-use Prim.Native.Nat.{ℕ, zero, suc, _+_, _-_, _≤_, _<_}
-use native.Mathlib.Numerals.{add-one}
+use mathlib.Core.Bool.{Bool, true, false, not, _&&_}
+use mathlib.Core.Logic.{⊎-elim}
+use Prim.Native.Nat.{ℕ, _+_, _-_, _≤_, _<_}
+use native.Mathlib.Nat.{eq-or-lt-of-le}
 use native.Mathlib.Omega.{arith}
 use borrow.Author.Tests.{le-leb, lt-leb}
 use lib.Dec.{leb}
 use Rattle.rules.specs.Index.{leastFrom, every}
+use Rattle.laws.proofs.Tests.{both-true, and-true}
 use Rattle.rules.proofs.Index.{starts, found, next, done, every-at, every-of}
 
 -- every number from i to n - 1 has the property
@@ -32,17 +34,19 @@ module _ (f : ℕ → Bool) where
   unfolding everyFrom
   every-done i n v inv h = sym (le-leb n i h) ∙ ap (leb n) (done (λ j. not (f j)) i n _ refl h) ∙ inv
 
-  -- a loop that starts at i, where all below i have the property
-  pub every-skip : (i n : ℕ) → i ≤ n → ((j : ℕ) → j < i → f j ≡ true) → everyFrom f i n ≡ every f n
-  every-skip zero n h t = every-starts n
-  every-skip (suc i) n h t =
-      rw (← add-one i) (every-next i n _ (f i) (every-skip i n (omega arith) (λ j g. t j (omega arith))) (omega arith) refl (t i (omega arith)))
-
 -- two tests, each passed where the other is, are one
 pub same-test : (a b : Bool) → (a ≡ true → b ≡ true) → (b ≡ true → a ≡ true) → a ≡ b
 same-test true b f g = sym (f refl)
 same-test false true f g = g refl
 same-test false false f g = refl
+
+-- one number more
+pub every-suc : (f : ℕ → Bool) (n : ℕ) → every f (n + 1) ≡ every f n && f n
+every-suc f n =
+    same-test (every f (n + 1)) (every f n && f n)
+    (λ e. and-true (every f n) (f n) (every-of f n (λ i l. every-at f (n + 1) i e (omega arith))) (every-at f (n + 1) n e (omega arith)))
+    (λ e. let a = both-true (every f n) (f n) e in
+    every-of f (n + 1) (λ i l. ⊎-elim (λ q. rw q (a .1)) (λ m. every-at f n i (a .0) m) (eq-or-lt-of-le {n = i} {m = n} (omega arith))))
 
 -- what is the same below n
 pub every-ext : (f g : ℕ → Bool) (n : ℕ) → ((i : ℕ) → i < n → f i ≡ g i) → every f n ≡ every g n

@@ -1,13 +1,16 @@
 -- The values of a state image, as the code that tests them has them. Assumes nothing.
-use mathlib.Core.Path.{_≡_, refl, sym, _∙_}
+use mathlib.Core.Path.{_≡_, refl, sym, ap, _∙_}
 use mathlib.Core.Bool.{Bool, true, false, not, _&&_, _||_}
 use mathlib.Core.List.{List}
-use Prim.Native.Nat.{ℕ, _+_, _*_, _^_, _≤_, _<_}
-use native.Mathlib.Nat.{add-assoc}
+use Prim.Native.Nat.{ℕ, _+_, _*_, _/_, _%_, _^_, _≤_, _<_}
+use native.Mathlib.Nat.{add-assoc, le-max-left}
 use native.Mathlib.Omega.{arith}
-use borrow.Author.Tests.{ltb-true, lt-ltb, le-ltb, le-leb, eqb-true, eq-eqb, ne-eqb, not-true, not-false}
+use borrow.Author.Tests.{ltb-true, lt-ltb, le-ltb, le-leb, eqb-true, eqb-false, eq-eqb, ne-eqb, not-true, not-false}
+use lib.Arith.{bin-ind}
+use lib.Bits.{bitOr, or-step}
 use lib.Dec.{eqb, ltb}
 use lib.ListN.{getD}
+use Rattle.sets.specs.Sets.{union}
 use Rattle.sets.proofs.Laws.{decide}
 use Rattle.words.specs.Words.{readLE}
 use Rattle.rules.specs.declared.Entry.{Entry}
@@ -16,7 +19,7 @@ use Rattle.rules.specs.Station.{countR, countD, stationOf}
 use Rattle.rules.specs.Status.{entryAt, entriesOf, entryGood, entryZero, entriesGood, onGood}
 use Rattle.rules.proofs.Index.{every-at, every-of}
 use Rattle.laws.proofs.Tests.{both-true, and-true, or-left}
-use Rattle.power.proofs.Every.{everyFrom, every-skip, every-next, every-stops, same-test}
+use Rattle.power.proofs.Every.{every-suc, same-test}
 use Rattle.status.proofs.Held.{entry-in}
 
 -- ---- an entry as the number that its four bytes make
@@ -69,22 +72,33 @@ pub entry-told : (b : List ℕ) (k : ℕ) (e : Entry) (g : Bool) → e ≡ entri
 entry-told b k e g read q = rw (← read) q
 
 -- ---- the loop over the entries from n on
+
+-- a union is empty where both sets are
+le-union : (a b : ℕ) → a ≤ union a b
+unfolding union
+le-union = bin-ind (λ (n : ℕ). (b : ℕ) → n ≤ bitOr n b) (λ b. omega arith) (λ n ih b. omega (arith, ih (b / 2), or-step n b, le-max-left (n % 2) (b % 2)))
+
+union-none : (a b : ℕ) → eqb (union a b) 0 ≡ eqb a 0 && eqb b 0
+union-none a b =
+    decide (eqb a 0)
+    (λ e. rw (e, eqb-true a 0 e) (unfold union in refl))
+    (λ e. let no = eqb-false a 0 e in rw e (ne-eqb (union a b) 0 (λ z. no (omega (arith, le-union a b)))))
+
 module _ (b : List ℕ) (n : ℕ) where
   abbrev pub zeroFrom : ℕ → Bool
   zeroFrom k = ltb k n || entryZero (entriesOf 4 b k)
 
-  pub zero-starts : n ≤ 32 → everyFrom zeroFrom n 32 ≡ every zeroFrom 32
-  zero-starts h = every-skip zeroFrom n 32 h (λ j l. or-left (ltb j n) _ (lt-ltb j n l))
+  pub zero-starts : true ≡ every zeroFrom n
+  zero-starts = sym (every-of zeroFrom n (λ j l. or-left (ltb j n) _ (lt-ltb j n l)))
 
-  module _ (i w : ℕ) (v : Bool) (inv : everyFrom zeroFrom i 32 ≡ v) (h : i < 32) (l : n ≤ i) (q : w ≡ readLE 4 b (4 * i)) where
-    turn : eqb w 0 ≡ zeroFrom i
-    turn = rw (le-ltb i n l) (word-zero b i w h q)
+  -- all is the union of those before i, and w the number at i
+  pub zero-next : (i all w r : ℕ) → eqb all 0 ≡ every zeroFrom i → i < 32 → n ≤ i → w ≡ readLE 4 b (4 * i) → r ≡ union all w → eqb r 0 ≡ every zeroFrom (i + 1)
+  zero-next i all w r inv h l q e =
+      let here : eqb w 0 ≡ zeroFrom i = rw (le-ltb i n l) (word-zero b i w h q) in
+      rw (e, union-none all w, inv, here) (sym (every-suc zeroFrom i))
 
-    pub zero-next : w ≡ 0 → everyFrom zeroFrom (i + 1) 32 ≡ v
-    zero-next z = every-next zeroFrom i 32 v (eqb w 0) inv h turn (eq-eqb w 0 z)
-
-    pub zero-stops : (w ≡ 0 → ⊥) → false ≡ v
-    zero-stops z = every-stops zeroFrom i 32 v (eqb w 0) inv h turn (ne-eqb w 0 z)
+  pub zero-done : (i : ℕ) (r : Bool) → r ≡ every zeroFrom i → i ≤ 32 → 32 ≤ i → r ≡ every zeroFrom 32
+  zero-done i r inv h l = inv ∙ ap (every zeroFrom) (omega arith)
 
 -- ---- all entries: those of the devices and the others; first and rest are what the two loops returned
 module _ (t b : List ℕ) (n : ℕ) (c : n ≡ countD t) (h : n ≤ 32) where
@@ -119,7 +133,7 @@ module _ (t b : List ℕ) (n : ℕ) (c : n ≡ countD t) (h : n ≤ 32) where
     pub entries-rest : (rest : Bool) → not first ≡ false → rest ≡ every (zeroFrom b n) 32 → rest ≡ entriesGood 32 (stationOf 4 t) (entriesOf 4 b)
     entries-rest rest x r = rw (← q, ← r, not-false first x) at all-good
 
-pub ruleset range-laws = (word-good, entry-told, zero-starts, zero-next, zero-stops, entries-first, entries-rest)
+pub ruleset range-laws = (word-good, entry-told, zero-starts, zero-next, zero-done, entries-first, entries-rest)
 
 -- ---- the on-set
 pub on-is : (t : List ℕ) (n on : ℕ) (b : Bool) → n ≡ countR t → b ≡ ltb on (2 ^ n) → b ≡ onGood (stationOf 4 t) on

@@ -44,20 +44,18 @@ fn first_good(devices: &[u8], n: usize) -> bool
     true
 }
 
-// Each entry from n on is zero, its four bytes read as one number.
+// Each entry from n on is zero: the union of all, each read as one number, so that no turn waits for a test.
 fn zero_from(devices: &[u8], n: usize) -> bool
     requires { ⌜ (128 ≤ length (now devices)) × (n ≤ 32) ⌝ }
     ensures { λ r. ⌜ r ≡ every (λ k. ltb k n || entryZero (entriesOf 4 (now (devices .entry)) k)) 32 ⌝ }
 {
+    let mut all: u32 = 0;
     let mut i = n;
     while i < 32 {
-        let k = i;
+        all = sets::union(all, words::read32(devices, 4 * i));
         i += 1;
-        if words::read32(devices, 4 * k) != 0 {
-            return false;
-        }
     }
-    true
+    all == 0
 }
 
 // Each of the 32 entries is good, and those from D on are zero; zero is good, so those need no other test.
