@@ -1,12 +1,15 @@
--- A loop that asks whether every number below n has a property, and stops at the first that has not. Assumes nothing.
+-- A loop that asks whether every number below n has a property, and stops at the first that has not; and what `every` is by its parts. Assumes nothing.
 use mathlib.Core.Path.{_≡_, refl, sym, ap, _∙_}
-use mathlib.Core.Bool.{Bool, true, false, not}
+use mathlib.Core.Bool.{Bool, true, false, not, _&&_}
+use mathlib.Core.Logic.{⊎-elim}
 use Prim.Native.Nat.{ℕ, _+_, _-_, _≤_, _<_}
+use native.Mathlib.Nat.{eq-or-lt-of-le}
 use native.Mathlib.Omega.{arith}
 use borrow.Author.Tests.{le-leb, lt-leb}
 use lib.Dec.{leb}
 use Rattle.rules.specs.Index.{leastFrom, every}
-use Rattle.rules.proofs.Index.{starts, found, next, done}
+use Rattle.laws.proofs.Tests.{both-true, and-true}
+use Rattle.rules.proofs.Index.{starts, found, next, done, every-at, every-of}
 
 -- every number from i to n - 1 has the property
 unfoldable pub everyFrom : (ℕ → Bool) → ℕ → ℕ → Bool
@@ -30,5 +33,24 @@ module _ (f : ℕ → Bool) where
   pub every-done : (i n : ℕ) (v : Bool) → everyFrom f i n ≡ v → n ≤ i → true ≡ v
   unfolding everyFrom
   every-done i n v inv h = sym (le-leb n i h) ∙ ap (leb n) (done (λ j. not (f j)) i n _ refl h) ∙ inv
+
+-- two tests, each passed where the other is, are one
+pub same-test : (a b : Bool) → (a ≡ true → b ≡ true) → (b ≡ true → a ≡ true) → a ≡ b
+same-test true b f g = sym (f refl)
+same-test false true f g = g refl
+same-test false false f g = refl
+
+-- one number more
+pub every-suc : (f : ℕ → Bool) (n : ℕ) → every f (n + 1) ≡ every f n && f n
+every-suc f n =
+    same-test (every f (n + 1)) (every f n && f n)
+    (λ e. and-true (every f n) (f n) (every-of f n (λ i l. every-at f (n + 1) i e (omega arith))) (every-at f (n + 1) n e (omega arith)))
+    (λ e. let a = both-true (every f n) (f n) e in
+    every-of f (n + 1) (λ i l. ⊎-elim (λ q. rw q (a .1)) (λ m. every-at f n i (a .0) m) (eq-or-lt-of-le {n = i} {m = n} (omega arith))))
+
+-- what is the same below n
+pub every-ext : (f g : ℕ → Bool) (n : ℕ) → ((i : ℕ) → i < n → f i ≡ g i) → every f n ≡ every g n
+every-ext f g n h =
+    same-test (every f n) (every g n) (λ e. every-of g n (λ i l. sym (h i l) ∙ every-at f n i e l)) (λ e. every-of f n (λ i l. h i l ∙ every-at g n i e l))
 
 pub ruleset everyOf = (every-starts, every-next, every-stops, every-done)

@@ -1,4 +1,5 @@
 pub mod Every
+pub mod Members
 pub mod RangeLaws
 pub mod StateLaws
 pub mod WakeLaws

@@ -45,15 +45,16 @@ pub ruleset supported-laws = (always-d0, always-d3hot, by-ps, by-pr, by-pr3, no-
 
 -- ---- the sets of `_PR0` to `_PR3`
 module _ (v : Device) where
-  pub own-yes : (x r : ℕ) (b : Bool) → b ≡ hasPR v x → b ≡ true → r ≡ v .sets x → r ≡ ownSet v x
+  -- m is the mask that was read
+  pub own-yes : (x m r : ℕ) (b : Bool) → b ≡ member m x → m ≡ v .pr → b ≡ true → r ≡ v .sets x → r ≡ ownSet v x
   unfolding ownSet
-  own-yes x r b e t q = rw (sym e ∙ t) q
+  own-yes x m r b e p t q = rw (← p, sym e ∙ t) q
 
-  pub own-no : (x : ℕ) (b : Bool) → b ≡ hasPR v x → b ≡ false → 0 ≡ ownSet v x
+  pub own-no : (x m : ℕ) (b : Bool) → b ≡ member m x → m ≡ v .pr → b ≡ false → 0 ≡ ownSet v x
   unfolding ownSet
-  own-no x b e t = rw (sym e ∙ t)
+  own-no x m b e p t = rw (← p, sym e ∙ t)
 
-  -- the loop of the next shallower set is at k and is to answer w; m is the mask that was read
+  -- the loop of the next shallower set is at k and is to answer w
   pub listed-here : (k m r w : ℕ) (b : Bool) → listedSet v k ≡ w → 0 < k → b ≡ member m k → m ≡ v .pr → b ≡ true → r ≡ v .sets k → r ≡ w
   unfolding listedSet
   listed-here zero m r w b inv h e p t q = absurd (omega arith)

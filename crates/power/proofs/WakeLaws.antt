@@ -3,13 +3,12 @@
 use mathlib.Core.Path.{_≡_, refl, sym, _∙_}
 use mathlib.Core.Bool.{Bool, true, false, not, _||_}
 use mathlib.Core.List.{List}
-use Prim.Native.Nat.{ℕ}
-use borrow.Author.Tests.{not-true, not-false}
-use lib.Dec.{leb}
-use Rattle.sets.specs.Sets.{member}
+use Prim.Native.Nat.{ℕ, _≤_, _<_}
+use borrow.Author.Tests.{lt-ltb, le-ltb, not-true, not-false}
+use lib.Dec.{leb, ltb}
 use Rattle.rules.specs.Station.{Station, hasPRW, countR, stationOf}
 use Rattle.rules.specs.Power.{supported, wakeRange, wakeFrom, wakePowered, wakeState, wakePair}
-use Rattle.power.proofs.Every.{everyFrom, every-starts}
+use Rattle.power.proofs.Members.{everyIn}
 
 -- ---- the sleep state
 pub from-told : (s : Station) (d x k : ℕ) (b : Bool) → b ≡ hasPRW (s .device d) → b ≡ true → k ≡ s .device d .deepest → leb x k ≡ wakeFrom s d x
@@ -20,21 +19,22 @@ pub from-none : (s : Station) (d x : ℕ) (b : Bool) → b ≡ hasPRW (s .device
 unfolding wakeFrom
 from-none s d x b e t = rw (sym e ∙ t)
 
--- ---- the resources: one of them, in the set or not, and the loop over all
-pub level-told : (set r x k l : ℕ) (b : Bool) → b ≡ member set r → b ≡ true → k ≡ l → leb x k ≡ (not (member set r) || leb x l)
-level-told set r x k l b e t q = rw (sym e ∙ t, q)
+-- ---- the resources: one of them, which the table has or not, and the loop over the members of the set
+pub level-told : (t : List ℕ) (r x k n : ℕ) → n ≡ countR t → r < n → k ≡ stationOf 4 t .resource r .level
+    → leb x k ≡ (not (ltb r (countR t)) || leb x (stationOf 4 t .resource r .level))
+level-told t r x k n p h q = rw (← p, lt-ltb r n h, q) refl
 
-pub level-free : (set r : ℕ) (a b : Bool) → b ≡ member set r → b ≡ false → true ≡ (not (member set r) || a)
-level-free set r a b e t = rw (sym e ∙ t)
+pub level-free : (t : List ℕ) (r n : ℕ) (a : Bool) → n ≡ countR t → n ≤ r → true ≡ (not (ltb r (countR t)) || a)
+level-free t r n a p h = rw (← p, le-ltb r n h) refl
 
 resources-are : (t : List ℕ) → stationOf 4 t .resources ≡ countR t
 unfolding stationOf
 resources-are t = refl
 
-pub powered-starts : (t : List ℕ) (d x set n : ℕ) → set ≡ stationOf 4 t .device d .sets 4 → n ≡ countR t
-    → everyFrom (λ r. not (member set r) || leb x (stationOf 4 t .resource r .level)) 0 n ≡ wakePowered (stationOf 4 t) d x
-unfolding wakePowered
-powered-starts t d x set n p q = rw (p, q, resources-are t) (every-starts _ (countR t))
+pub powered-starts : (t : List ℕ) (d x set : ℕ) → set ≡ stationOf 4 t .device d .sets 4
+    → everyIn (λ r. leb x (stationOf 4 t .resource r .level)) set (countR t) ≡ wakePowered (stationOf 4 t) d x
+unfolding wakePowered everyIn
+powered-starts t d x set p = rw (p, resources-are t) refl
 
 -- ---- the device state, and the pair
 module _ (s : Station) (d x y : ℕ) where

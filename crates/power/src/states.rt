@@ -60,12 +60,12 @@ pub fn supported(table: &[u8], d: usize, x: u8) -> bool
     false
 }
 
-// The set of `_PRx`, empty without it.
-pub fn own_set(table: &[u8], d: usize, x: u8) -> u32
-    requires { ⌜ Laid (now table) × (d < countD (now table)) × (x < 5) ⌝ }
+// The set of `_PRx`, empty without it, by the device's `_PR` mask.
+pub fn own_set(table: &[u8], d: usize, mask: u8, x: u8) -> u32
+    requires { ⌜ Laid (now table) × (d < countD (now table)) × (mask ≡ stationOf 4 (now table) .device d .pr) × (x < 5) ⌝ }
     ensures { λ r. ⌜ r ≡ ownSet (stationOf 4 (now (table .entry)) .device d) x ⌝ }
 {
-    if has_pr(table, d, x) {
+    if has_bit(mask, x) {
         return table::fields::set(table, d, x as usize);
     }
     0
@@ -84,16 +84,17 @@ pub fn listed_set(table: &[u8], d: usize, x: u8) -> u32
         }
         k -= 1;
     }
-    own_set(table, d, 0)
+    own_set(table, d, mask, 0)
 }
 
-// What a device needs in state x.
+// What a device needs in state x. The mask is read before any test, so that a loop over the devices reads R once.
 pub fn state_needs(table: &[u8], d: usize, x: u8) -> u32
     requires { ⌜ Laid (now table) × (d < countD (now table)) ⌝ }
     ensures { λ r. ⌜ r ≡ stateNeeds (stationOf 4 (now (table .entry)) .device d) x ⌝ }
 {
+    let present = table::fields::pr(table, d);
     if x < 3 {
-        return own_set(table, d, x);
+        return own_set(table, d, present, x);
     }
     if x > 3 {
         return 0;

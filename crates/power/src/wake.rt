@@ -1,8 +1,8 @@
 // For which sleep state and from which device state a device may wake the system.
 ghost use mathlib.Core.Path.{_≡_};
-ghost use mathlib.Core.Bool.{_||_, not};
+ghost use mathlib.Core.Bool.{_||_, not, true};
 ghost use Prim.Native.Nat.{_<_};
-ghost use lib.Dec.{leb};
+ghost use lib.Dec.{leb, ltb};
 ghost use Rattle.sets.specs.Sets.{member};
 ghost use Rattle.rules.specs.Station.{countR, countD, stationOf};
 ghost use Rattle.rules.specs.Power.{wakeFrom, wakePowered, wakeState, wakePair};
@@ -19,29 +19,35 @@ pub fn wake_from(table: &[u8], d: usize, x: u8) -> bool
     false
 }
 
-// Resource r, if it is in the set, has systemlevel x or more.
-pub fn powered(table: &[u8], set: u32, r: usize, x: u8) -> bool
-    requires { ⌜ Laid (now table) × (r < countR (now table)) ⌝ }
-    ensures { λ b. ⌜ b ≡ (not (member set r) || leb x (stationOf 4 (now (table .entry)) .resource r .level)) ⌝ }
+// Resource r, if the table has it, has systemlevel x or more.
+pub fn powered(table: &[u8], r: usize, x: u8) -> bool
+    requires { ⌜ Laid (now table) ⌝ }
+    ensures { λ b. ⌜ b ≡ (not (ltb r (countR (now (table .entry)))) || leb x (stationOf 4 (now (table .entry)) .resource r .level)) ⌝ }
 {
-    if sets::has(set, r as u32) {
+    if r < table::fields::resources(table) {
         return x <= table::fields::level(table, r);
     }
     true
 }
 
-// Every `_PRW` resource has systemlevel x or more.
+// A member of a set that has one, the lowest, found by the machine and not by a loop.
+fn lowest(set: u32) -> u32
+    requires { ⌜ 0 < set ⌝ }
+    ensures { λ r. ⌜ (member set r ≡ true) × (r < 32) ⌝ }
+{
+    u32::trailing_zeros(set)
+}
+
+// Every `_PRW` resource has systemlevel x or more: from one member of the set to the next, so that a small set takes few turns.
 pub fn wake_powered(table: &[u8], d: usize, x: u8) -> bool
     requires { ⌜ Laid (now table) × (d < countD (now table)) ⌝ }
     ensures { λ r. ⌜ r ≡ wakePowered (stationOf 4 (now (table .entry))) d x ⌝ }
 {
-    let set = table::fields::set(table, d, 4);
-    let n = table::fields::resources(table);
-    let mut i = 0;
-    while i < n {
-        let r = i;
-        i += 1;
-        if !powered(table, set, r, x) {
+    let mut rest = table::fields::set(table, d, 4);
+    while 0 < rest {
+        let r = lowest(rest);
+        rest = sets::without(rest, r);
+        if !powered(table, r as usize, x) {
             return false;
         }
     }

@@ -4,11 +4,12 @@ use mathlib.Core.Path.{_≡_, refl, ap, _∙_}
 use mathlib.Core.Bool.{Bool, true, false, not, _&&_, _||_}
 use mathlib.Core.Logic.{⊎-elim}
 use mathlib.Core.List.{List}
-use Prim.Native.Nat.{ℕ, _+_, _≤_, _<_}
+use Prim.Native.Nat.{ℕ, _+_, _*_, _≤_, _<_}
 use native.Mathlib.Numerals.{add-one}
 use native.Mathlib.Omega.{arith}
 use borrow.Author.Tests.{eqb-true, eq-eqb, ne-eqb, leb-true, ltb-true, not-true, not-false}
 use lib.Dec.{eqb, leb, ltb}
+use lib.ListN.{getD}
 use Rattle.sets.specs.Sets.{union, subset}
 use Rattle.rules.specs.declared.Entry.{Entry}
 use Rattle.rules.specs.declared.Verdict.the-variants.{Done, Inconsistent}
@@ -16,11 +17,12 @@ use Rattle.rules.specs.Answers.{lowest}
 use Rattle.rules.specs.Station.{Station, countD, stationOf}
 use Rattle.rules.specs.Table.{parentGood}
 use Rattle.rules.specs.Power.{supported, needs, neededBelow, needed, wakePair}
-use Rattle.rules.specs.Status.{Status, entriesOf, entryGood, entriesGood, underParent, wakeSound, consistentButPower, powered, consistent, consistencyVerdict}
+use Rattle.rules.specs.Status.{Status, entryAt, entriesOf, entryGood, entriesGood, underParent, wakeSound, consistentButPower, powered, consistent, consistencyVerdict}
 use Rattle.rules.proofs.Index.{every-at}
 use Rattle.laws.proofs.Tests.{both-true, or-cases}
 use Rattle.table.specs.Layout.{Laid}
 use Rattle.status.specs.Ready.{Ready, statusWith}
+use Rattle.status.proofs.Held.{entry-in}
 use Rattle.status.proofs.Loops.{Looking, lowest-found, lowest-all}
 
 -- D by the table's byte, and as the station has it
@@ -47,19 +49,23 @@ parent-small t d p l h g q n =
     ⊎-elim (λ a. omega (arith, ltb-true r d a, l .devices)) (λ a. absurd (n (q ∙ eqb-true r 255 a))) (or-cases (ltb r d) (eqb r 255) g)
 
 -- ---- the wake rules; legal is what the test of the pair returned
-module _ (s : Station) (d : ℕ) (e : Entry) where
-  pub wake-unarmed : (e .armed ≡ 1 → ⊥) → true ≡ wakeSound s d e
+module _ (s : Station) (b : List ℕ) (d : ℕ) (h : d < 32) where
+  armed-is : getD b (4 * d + 1) 0 ≡ entriesOf 4 b d .armed
+  unfolding entryAt
+  armed-is = rw (entry-in b d h) refl
+
+  pub wake-unarmed : (getD b (4 * d + 1) 0 ≡ 1 → ⊥) → true ≡ wakeSound s d (entriesOf 4 b d)
   unfolding wakeSound
-  wake-unarmed n = rw (ne-eqb (e .armed) 1 n) refl
+  wake-unarmed n = rw (← armed-is, ne-eqb (getD b (4 * d + 1) 0) 1 n) refl
 
-  module _ (legal : Bool) (a : e .armed ≡ 1) (q : legal ≡ wakePair s d (e .sleep) (e .wake)) where
-    pub wake-illegal : not legal ≡ true → false ≡ wakeSound s d e
+  module _ (e : Entry) (legal : Bool) (a : getD b (4 * d + 1) 0 ≡ 1) (read : e ≡ entriesOf 4 b d) (q : legal ≡ wakePair s d (e .sleep) (e .wake)) where
+    pub wake-illegal : not legal ≡ true → false ≡ wakeSound s d (entriesOf 4 b d)
     unfolding wakeSound
-    wake-illegal n = rw (eq-eqb (e .armed) 1 a, ← q, not-true legal n) refl
+    wake-illegal n = rw (← armed-is, eq-eqb (getD b (4 * d + 1) 0) 1 a, ← read, ← q, not-true legal n) refl
 
-    pub wake-legal : not legal ≡ false → leb (e .state) (e .wake) ≡ wakeSound s d e
+    pub wake-legal : not legal ≡ false → leb (e .state) (e .wake) ≡ wakeSound s d (entriesOf 4 b d)
     unfolding wakeSound
-    wake-legal n = rw (eq-eqb (e .armed) 1 a, ← q, not-false legal n) refl
+    wake-legal n = rw (← armed-is, eq-eqb (getD b (4 * d + 1) 0) 1 a, ← read, ← q, not-false legal n) refl
 
 -- ---- the three rules apart from power
 module _ (s : Station) (entries : ℕ → Entry) (d : ℕ) (e : Entry) (known : Bool) (read : e ≡ entries d) (a : known ≡ supported s d (e .state)) where
@@ -71,9 +77,9 @@ module _ (s : Station) (entries : ℕ → Entry) (d : ℕ) (e : Entry) (known : 
   unfolding consistentButPower
   apart-under under m b n = rw (← read, ← a, not-false known m, ← b, not-true under n) refl
 
-  pub apart-wake : (under wake : Bool) → not known ≡ false → under ≡ underParent s entries d → not under ≡ false → wake ≡ wakeSound s d e → wake ≡ consistentButPower s entries d
+  pub apart-wake : (under wake : Bool) → not known ≡ false → under ≡ underParent s entries d → not under ≡ false → wake ≡ wakeSound s d (entries d) → wake ≡ consistentButPower s entries d
   unfolding consistentButPower
-  apart-wake under wake m b n c = rw (← read, ← a, not-false known m, ← b, not-false under n) c
+  apart-wake under wake m b n c = rw (← read, ← a, not-false known m, ← b, not-false under n) (rw (← read) at c)
 
 -- ---- power
 pub power-is : (s : Station) (b : List ℕ) (on d : ℕ) (e : Entry) (n : ℕ) (r : Bool) → e ≡ entriesOf 4 b d → n ≡ needs s d e → r ≡ subset n on → r ≡ powered s (statusWith b on) d

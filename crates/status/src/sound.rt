@@ -23,14 +23,16 @@ pub fn under_parent(table: &[u8], devices: &[u8], d: usize) -> bool
     up.state <= own.state
 }
 
-// If armed, its pair is legal and its state is not deeper than wake D.
-pub fn wake_sound(table: &[u8], d: usize, e: rules::Entry) -> bool
-    requires { ⌜ Laid (now table) × (d < countD (now table)) × (e .sleep < 5) ⌝ }
-    ensures { λ r. ⌜ r ≡ wakeSound (stationOf 4 (now (table .entry))) d e ⌝ }
+// If armed, its pair is legal and its state is not deeper than wake D. The pair is read only then.
+pub fn wake_sound(table: &[u8], devices: &[u8], d: usize) -> bool
+    requires { ⌜ Ready (now table) (now devices) × (d < countD (now table)) ⌝ }
+    ensures { λ r. ⌜ r ≡ wakeSound (stationOf 4 (now (table .entry))) d (entriesOf 4 (now (devices .entry)) d) ⌝ }
 {
-    if e.armed != 1 {
+    let at = 4 * d;
+    if devices[at + 1] != 1 {
         return true;
     }
+    let e = crate::image::entry(devices, d);
     if !power::wake::wake_pair(table, d, e.sleep, e.wake) {
         return false;
     }
@@ -49,7 +51,7 @@ pub fn consistent_but_power(table: &[u8], devices: &[u8], d: usize) -> bool
     if !under_parent(table, devices, d) {
         return false;
     }
-    wake_sound(table, d, e)
+    wake_sound(table, devices, d)
 }
 
 // Everything that device d needs is on.

@@ -9,6 +9,7 @@ state-needs-spec =
     tie.close
     (tie.spec
     (λ c κs. search needs)
+    (λ c κs. search needs)
     (λ c. search (needs, set-laws))
     (λ c. d3cold-needs _ _ (search needs))
     (λ c κs. search needs)

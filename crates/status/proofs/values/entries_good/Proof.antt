@@ -1,48 +1,16 @@
--- The loop stops at the first entry that is not good. Assumes nothing.
-use Prim.Native.Nat.{_≤_, _-_}
-use mathlib.Core.Path.{_≡_}
-use mathlib.Core.Bool.{_&&_, _||_}
-use lib.Dec.{ltb}
+-- The entries below D by one loop, the others by another. Assumes nothing.
 use borrow.Author.Needs.{needs}
-use borrow.Author.Tests.{not-true, not-false}
-use Rattle.rules.specs.Station.{stationOf}
-use Rattle.rules.specs.Status.{entriesOf, entryGood, entryZero, entriesGood}
-use Rattle.power.proofs.Every.{everyFrom, everyOf}
+use Rattle.status.proofs.Ranges.{range-laws}
 use Rattle.status.proofs.values.entries_good.Statement.{statement}
 use Rattle.status.proofs.values.entries_good.Tie as tie
 
-abbrev Inv-loop : tie.InvT-loop
-Inv-loop table devices i₀ i =
-    (i ≤ 32)
-    × (everyFrom (λ k. entryGood (entriesOf 4 devices k) && (ltb k (stationOf 4 table .devices) || entryZero (entriesOf 4 devices k))) i 32
-    ≡ entriesGood 32 (stationOf 4 table) (entriesOf 4 devices))
+returns : tie.Need-returns
+returns c = search (needs, range-laws)
 
-abbrev μ-loop : tie.MeasureT-loop
-μ-loop table devices i₀ i = 32 - i
-
-loop-holds : tie.Need-loop-holds Inv-loop μ-loop
-unfolding entriesGood
-loop-holds c = search (needs, everyOf)
-
-returns : tie.Need-returns Inv-loop μ-loop
-returns c = search (needs, everyOf, not-true)
-
-loop-again : tie.Need-loop-again Inv-loop μ-loop
-loop-again c = search (needs, everyOf, not-false)
-
-returns-2 : tie.Need-returns-2 Inv-loop μ-loop
-returns-2 c = search (needs, everyOf)
+returns-2 : tie.Need-returns-2
+returns-2 c = search (needs, range-laws)
 
 pub entries-good-spec : {M : Type 1} → statement M
 entries-good-spec =
     tie.close
-    (tie.spec
-    Inv-loop
-    μ-loop
-    loop-holds
-    (λ c. search needs)
-    (λ c κs. search needs)
-    returns
-    (λ c. search needs)
-    loop-again
-    returns-2)
+    (tie.spec (λ c κs. search needs) (λ c κs. search needs) returns (λ c κs. search needs) returns-2)
