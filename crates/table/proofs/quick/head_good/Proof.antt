@@ -7,4 +7,5 @@ use Rattle.table.proofs.quick.head_good.Tie as tie
 pub head-good-spec : {M : Type 1} → statement M
 head-good-spec =
     tie.close
-    (tie.spec (λ c κs. search needs) (λ c. search needs) (λ c. search needs) (λ c. search needs) (λ c. search needs) (λ c. search needs) (λ c. search needs) (λ c. search (needs, quick-tests)))
+    (tie.spec (λ c κs. search needs) (λ c. search needs) (λ c. search needs) (λ c. search needs) (λ c. search needs) (λ c. search needs)
+    (λ c. search needs) (λ c. search (needs, quick-tests)))

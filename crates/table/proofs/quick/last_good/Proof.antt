@@ -7,4 +7,5 @@ use Rattle.table.proofs.quick.last_good.Tie as tie
 pub last-good-spec : {M : Type 1} → statement M
 last-good-spec =
     tie.close
-    (tie.spec (λ c κs. search needs) (λ c. search (needs, quick-tests)) (λ c. search needs) (λ c κs. search needs) (λ c. search needs) (λ c κs. search needs) (λ c. search (needs, quick-tests)))
+    (tie.spec (λ c κs. search needs) (λ c. search (needs, quick-tests)) (λ c. search needs) (λ c κs. search needs) (λ c. search needs)
+    (λ c κs. search needs) (λ c. search (needs, quick-tests)))

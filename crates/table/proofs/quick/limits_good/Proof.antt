@@ -7,4 +7,5 @@ use Rattle.table.proofs.quick.limits_good.Tie as tie
 pub limits-good-spec : {M : Type 1} → statement M
 limits-good-spec =
     tie.close
-    (tie.spec (λ c κs. search needs) (λ c κs. search needs) (λ c κs. search needs) (λ c κs. search needs) (λ c κs. search needs) (λ c. search (needs, quick-tests)))
+    (tie.spec (λ c κs. search needs) (λ c κs. search needs) (λ c κs. search needs) (λ c κs. search needs) (λ c κs. search needs)
+    (λ c. search (needs, quick-tests)))

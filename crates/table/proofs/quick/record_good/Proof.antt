@@ -7,4 +7,6 @@ use Rattle.table.proofs.quick.record_good.Tie as tie
 pub record-good-spec : {M : Type 1} → statement M
 record-good-spec =
     tie.close
-    (tie.spec (λ c κs. search needs) (λ c. search (needs, quick-parts)) (λ c κs. search needs) (λ c. search (needs, quick-parts)) (λ c κs. search needs) (λ c. search (needs, quick-parts)) (λ c κs. search needs) (λ c. search (needs, quick-parts)) (λ c κs. search needs) (λ c. search (needs, quick-parts)) (λ c κs. search needs) (λ c. search (needs, quick-parts)))
+    (tie.spec (λ c κs. search needs) (λ c. search (needs, quick-parts)) (λ c κs. search needs) (λ c. search (needs, quick-parts)) (λ c κs. search needs)
+    (λ c. search (needs, quick-parts)) (λ c κs. search needs) (λ c. search (needs, quick-parts)) (λ c κs. search needs)
+    (λ c. search (needs, quick-parts)) (λ c κs. search needs) (λ c. search (needs, quick-parts)))

@@ -7,4 +7,5 @@ use Rattle.table.proofs.quick.set_absent.Tie as tie
 pub set-absent-spec : {M : Type 1} → statement M
 set-absent-spec =
     tie.close
-    (tie.spec (λ c κs. search needs) (λ c. search needs) (λ c. search needs) (λ c. search needs) (λ c κs. search needs) (λ c. search (needs, quick-tests)))
+    (tie.spec (λ c κs. search needs) (λ c. search needs) (λ c. search needs) (λ c. search needs) (λ c κs. search needs)
+    (λ c. search (needs, quick-tests)))

@@ -7,4 +7,5 @@ use Rattle.table.proofs.quick.states_good.Tie as tie
 pub states-good-spec : {M : Type 1} → statement M
 states-good-spec =
     tie.close
-    (tie.spec (λ c κs. search needs) (λ c. search (needs, state-bad 0)) (λ c κs. search needs) (λ c. search (needs, state-bad 1)) (λ c κs. search needs) (λ c. search (needs, state-bad 2)) (λ c κs. search needs) (λ c. search (needs, quick-tests)))
+    (tie.spec (λ c κs. search needs) (λ c. search (needs, state-bad 0)) (λ c κs. search needs) (λ c. search (needs, state-bad 1)) (λ c κs. search needs)
+    (λ c. search (needs, state-bad 2)) (λ c κs. search needs) (λ c. search (needs, quick-tests)))
