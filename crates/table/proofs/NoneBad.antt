@@ -1,12 +1,12 @@
 -- Whether no field is bad, as one test: of fields one after the other, of the five sets, of zeros read as one number, and of a device's parts.
 -- Where the code asks another function, that function's answer comes as b, with what it says. Assumes nothing.
 use mathlib.Core.Path.{_≡_, refl, sym, ap, _∙_}
-use mathlib.Core.Bool.{Bool, true, false, not, _&&_, _||_, and-assoc, and-comm, and-true, and-false, true≢false}
-use mathlib.Core.List.{List, [], _∷_, _++_, append-assoc}
+use mathlib.Core.Bool.{Bool, true, false, not, _&&_, _||_, cond, and-assoc, and-true, and-false, true≢false}
+use mathlib.Core.List.{List, [], _∷_, _++_}
 use Prim.Native.Nat.{ℕ, zero, suc, _+_, _*_, _^_, _≤_, _<_}
 use native.Mathlib.Omega.{arith}
 use borrow.Author.Tests.{eqb-true, eqb-false, eq-eqb, ne-eqb, ltb-true, ltb-false, lt-ltb, le-ltb, not-true, not-false}
-use lib.Bits.{bitOr, bitAnd, and-le-l, and-le-r, or-lt, or-add-and}
+use lib.Bits.{bitOr, and-le-l, and-le-r, or-lt, or-add-and}
 use lib.Dec.{eqb, ltb}
 use lib.ListN.{getD}
 use Rattle.sets.specs.Sets.{member}
@@ -19,9 +19,9 @@ use Rattle.laws.specs.Carried.{All}
 use Rattle.laws.proofs.All.{all-each, each-at}
 use Rattle.laws.proofs.Accepted.{field-good, field-bad, no-bad}
 use Rattle.laws.proofs.Tests.{both-true}
-use Rattle.table.specs.Good.{noneBad, fitFields, absentFields}
+use Rattle.table.specs.Good.{noneBad, fitFields, absentSet, absentFields}
 use Rattle.table.proofs.OnBytes.{sets-at}
-use Rattle.table.proofs.Bad.{join-stop, join-pass, sxdField, sxwField, setField, zeroField, deepest-bad, zeros-left, head-in, sets-in, sxd-in, sxw-in, from-sxw, from-sxd, from-sets, whole}
+use Rattle.table.proofs.Bad.{join-stop, join-pass, sxdField, sxwField, zeroField, deepest-bad, zeros-left, head-in, sets-in, sxd-in, sxw-in, from-sxw, from-sxd, from-sets, whole}
 
 -- ---- a field, then others; and two lists joined
 abbrev In : Field → Type 0
@@ -39,14 +39,24 @@ joined l r a =
     (λ e. rw e (ap (λ (n : ℕ). eqb n 40) (join-pass 40 l r a (eqb-true _ _ e))))
     (λ e. rw e (ap (λ (n : ℕ). eqb n 40) (join-stop 40 l r (eqb-false _ _ e)) ∙ e))
 
--- ---- two tests as one: zeros in a number's bytes, and a union's bits
-sum-zero : (a b : ℕ) → eqb a 0 && eqb b 0 ≡ eqb (a + 256 * b) 0
-sum-zero a b =
+-- ---- two tests as one: zeros in a number's bytes and in a union, and a union's bits
+both-zero : (a b c : ℕ) → (c ≡ 0 → a ≡ 0) → (c ≡ 0 → b ≡ 0) → (a ≡ 0 → b ≡ 0 → c ≡ 0) → eqb a 0 && eqb b 0 ≡ eqb c 0
+both-zero a b c f g h =
     decide (eqb a 0)
     (λ x. decide (eqb b 0)
-    (λ y. rw (x, y) (sym (eq-eqb (a + 256 * b) 0 (omega (arith, eqb-true a 0 x, eqb-true b 0 y)))))
-    (λ y. rw (x, y) (sym (ne-eqb (a + 256 * b) 0 (λ z. eqb-false b 0 y (omega arith))))))
-    (λ x. rw x (sym (ne-eqb (a + 256 * b) 0 (λ z. eqb-false a 0 x (omega arith)))))
+    (λ y. rw (x, y) (sym (eq-eqb c 0 (h (eqb-true a 0 x) (eqb-true b 0 y)))))
+    (λ y. rw (x, y) (sym (ne-eqb c 0 (λ z. eqb-false b 0 y (g z))))))
+    (λ x. rw x (sym (ne-eqb c 0 (λ z. eqb-false a 0 x (f z)))))
+
+sum-zero : (a b : ℕ) → eqb a 0 && eqb b 0 ≡ eqb (a + 256 * b) 0
+sum-zero a b = both-zero a b (a + 256 * b) (λ z. omega arith) (λ z. omega arith) (λ x y. omega arith)
+
+union-zero : (a b : ℕ) → eqb (bitOr a b) 0 ≡ eqb a 0 && eqb b 0
+union-zero a b =
+    let sum = or-add-and a b in
+    let l = and-le-l a b in
+    let r = and-le-r a b in
+    sym (both-zero a b (bitOr a b) (λ z. omega arith) (λ z. omega arith) (λ x y. omega arith))
 
 union-fits : (a b n : ℕ) → ltb (bitOr a b) (2 ^ n) ≡ ltb a (2 ^ n) && ltb b (2 ^ n)
 union-fits a b n =
@@ -79,15 +89,9 @@ module _ (f : ℕ → Field) where
       sym
 
 -- ---- one of the fields that the code goes through is bad
-abbrev absentField : List ℕ → ℕ → ℕ → Field
-absentField t at k = field (4 + 4 * k) (present (deviceAt 4 t at) k || eqb (deviceAt 4 t at .sets k) 0)
-
 pub state-bad : (k : ℕ) (t : List ℕ) (at : ℕ) (b : Bool) → k < 4 → b ≡ sxdGood (deviceAt 4 t at) (k + 1) → not b ≡ true → false ≡ noneBad (sxdFields 4 (deviceAt 4 t at))
 unfolding sxdFields
 state-bad k t at b h e p = one-bad (sxdField (deviceAt 4 t at)) 4 k b (λ j l. omega arith) h e p
-
-pub absent-bad : (k : ℕ) (t : List ℕ) (at : ℕ) (b : Bool) → k < 5 → b ≡ absentField t at k .good → not b ≡ true → false ≡ noneBad (absentFields (deviceAt 4 t at))
-absent-bad k t at b h e p = one-bad (absentField t at) 5 k b (λ j l. omega arith) h e p
 
 -- ---- a device's bytes 0 to 3, `_SxD` and `_SxW`
 module _ (t : List ℕ) (at : ℕ) where
@@ -119,17 +123,28 @@ module _ (t : List ℕ) (at : ℕ) where
       (four (sxdField (deviceAt 4 t at)) (omega arith) (omega arith) (omega arith) (omega arith))
 
   -- ---- the sets of absent objects
-  pub absent-test : (k s : ℕ) (b : Bool) → k < 5 → b ≡ present (deviceAt 4 t at) k → s ≡ readLE 4 t (at + 4 + 4 * k)
-      → b || eqb s 0 ≡ present (deviceAt 4 t at) k || eqb (deviceAt 4 t at .sets k) 0
-  absent-test k s b h e f = rw (e, f, sets-at t at k h) refl
+  abbrev absentField : ℕ → Field
+  absentField k = field (4 + 4 * k) (present (deviceAt 4 t at) k || eqb (deviceAt 4 t at .sets k) 0)
 
-  absent-five : absentField t at 0 .good && absentField t at 1 .good && absentField t at 2 .good && absentField t at 3 .good && absentField t at 4 .good ≡ noneBad (absentFields (deviceAt 4 t at))
-  absent-five = five (absentField t at) (omega arith) (omega arith) (omega arith) (omega arith) (omega arith)
+  module _ (k : ℕ) (b : Bool) (e : b ≡ present (deviceAt 4 t at) k) where
+    pub none-where-there : b ≡ true → 0 ≡ absentSet (deviceAt 4 t at) k
+    none-where-there p = rw (sym e ∙ p) refl
 
-  pub absent-last : (a b c d e : Bool) → a ≡ absentField t at 0 .good → b ≡ absentField t at 1 .good → c ≡ absentField t at 2 .good → d ≡ absentField t at 3 .good
-      → e ≡ absentField t at 4 .good → not a ≡ false → not b ≡ false → not c ≡ false → not d ≡ false → e ≡ noneBad (absentFields (deviceAt 4 t at))
-  absent-last a b c d e p q r s u x y z w =
-      u ∙ rw (sym p ∙ not-false a x, sym q ∙ not-false b y, sym r ∙ not-false c z, sym s ∙ not-false d w) at absent-five
+    pub set-where-absent : (s : ℕ) → k < 5 → b ≡ false → s ≡ readLE 4 t (at + 4 + 4 * k) → s ≡ absentSet (deviceAt 4 t at) k
+    set-where-absent s h p f = rw (sym e ∙ p) (f ∙ sym (sets-at t at k h))
+
+  absent-five : absentField 0 .good && absentField 1 .good && absentField 2 .good && absentField 3 .good && absentField 4 .good ≡ noneBad (absentFields (deviceAt 4 t at))
+  absent-five = five absentField (omega arith) (omega arith) (omega arith) (omega arith) (omega arith)
+
+  zero-absent : (k s : ℕ) → s ≡ absentSet (deviceAt 4 t at) k → absentField k .good ≡ eqb s 0
+  zero-absent k s e = decide (present (deviceAt 4 t at) k) (λ p. rw (e, p) refl) (λ p. rw (e, p) refl)
+
+  pub absent-test : (a b c d e : ℕ) → a ≡ absentSet (deviceAt 4 t at) 0 → b ≡ absentSet (deviceAt 4 t at) 1 → c ≡ absentSet (deviceAt 4 t at) 2
+      → d ≡ absentSet (deviceAt 4 t at) 3 → e ≡ absentSet (deviceAt 4 t at) 4
+      → eqb (bitOr (bitOr (bitOr (bitOr a b) c) d) e) 0 ≡ noneBad (absentFields (deviceAt 4 t at))
+  absent-test a b c d e p q r s u =
+      rw (union-zero, union-zero, union-zero, union-zero)
+      (rw (zero-absent 0 a p, zero-absent 1 b q, zero-absent 2 c r, zero-absent 3 d s, zero-absent 4 e u) at absent-five)
 
   -- all five objects are there
   power-all : getD t (at + 2) 0 ≡ 15
@@ -248,6 +263,6 @@ module _ (resources : ℕ) (t : List ℕ) (d at : ℕ) where
   last-decides h f a x w b p q r s u v hh ff aa xx ww =
       v ∙ rw (sym p ∙ not-false h hh, sym q ∙ not-false f ff, sym r ∙ not-false a aa, sym s ∙ not-false x xx, sym u ∙ not-false w ww) at all-parts
 
-pub ruleset quick-tests = (head-test, limits-test, states-test, absent-test, absent-last, all-there, fit-test, last-bad, last-test)
+pub ruleset quick-tests = (head-test, limits-test, states-test, none-where-there, set-where-absent, absent-test, all-there, fit-test, last-bad, last-test)
 
 pub ruleset quick-parts = (head-stops, fit-stops, absent-stops, states-stop, limits-stop, last-decides)

@@ -1,6 +1,6 @@
 -- What a device's check asks of the fields of a record, where the first bad one's place is not asked for. Assumes nothing.
 use Prim.Native.Nat.{ℕ, _+_, _*_, _^_}
-use mathlib.Core.Bool.{Bool, _||_}
+use mathlib.Core.Bool.{Bool, cond, _||_}
 use mathlib.Core.List.{List}
 use lib.Dec.{eqb, ltb}
 use Rattle.rules.specs.Index.{each}
@@ -17,3 +17,7 @@ fitFields resources v = each (λ k. field (4 + 4 * k) (ltb (v .sets k) (2 ^ reso
 
 abbrev pub absentFields : Device → List Field
 absentFields v = each (λ k. field (4 + 4 * k) (present v k || eqb (v .sets k) 0)) 5
+
+-- set k where its object is absent, else none
+abbrev pub absentSet : Device → ℕ → ℕ
+absentSet v k = cond (present v k) 0 (v .sets k)

@@ -2,13 +2,11 @@
 // so the tests do without the place of a bad field, share what they can, and leave at the first that fails.
 use crate::records;
 ghost use mathlib.Core.Path.{_≡_};
-ghost use mathlib.Core.Bool.{_||_};
 ghost use Prim.Native.Nat.{_+_, _<_, _≤_};
-ghost use lib.Dec.{eqb};
 ghost use lib.ListN.{length};
 ghost use Rattle.rules.specs.Station.{deviceAt};
-ghost use Rattle.rules.specs.Table.{present, headFields, sxdFields, sxwFields, lastFields, deviceFields};
-ghost use Rattle.table.specs.Good.{noneBad, fitFields, absentFields};
+ghost use Rattle.rules.specs.Table.{headFields, sxdFields, sxwFields, lastFields, deviceFields};
+ghost use Rattle.table.specs.Good.{noneBad, fitFields, absentSet, absentFields};
 
 // Bytes 0 to 3.
 fn head_good(table: &[u8], at: usize, d: usize) -> bool
@@ -34,15 +32,18 @@ fn sets_fit(table: &[u8], at: usize, resources: usize) -> bool
     sets::fits(a | b | c | d | e, resources as u32)
 }
 
-// Set k is zero, or its object is there.
-fn set_absent(table: &[u8], at: usize, k: usize) -> bool
+// Set k where its object is absent, else none.
+fn absent_set(table: &[u8], at: usize, k: usize) -> u32
     requires { ⌜ (at + 40 ≤ length (now table)) × (k < 5) ⌝ }
-    ensures { λ b. ⌜ b ≡ present (deviceAt 4 (now (table .entry)) at) k || eqb (deviceAt 4 (now (table .entry)) at .sets k) 0 ⌝ }
+    ensures { λ s. ⌜ s ≡ absentSet (deviceAt 4 (now (table .entry)) at) k ⌝ }
 {
-    records::present(table, at, k) | (words::read32(table, at + 4 + 4 * k) == 0)
+    if records::present(table, at, k) {
+        return 0;
+    }
+    words::read32(table, at + 4 + 4 * k)
 }
 
-// The sets of absent objects are zero; where all five objects are there, no set need be looked at.
+// The sets of absent objects are zero: their union is. Where all five objects are there, no set need be looked at.
 fn sets_absent(table: &[u8], at: usize) -> bool
     requires { ⌜ at + 40 ≤ length (now table) ⌝ }
     ensures { λ b. ⌜ b ≡ noneBad (absentFields (deviceAt 4 (now (table .entry)) at)) ⌝ }
@@ -50,19 +51,12 @@ fn sets_absent(table: &[u8], at: usize) -> bool
     if (table[at + 2] == 15) & records::present(table, at, 4) {
         return true;
     }
-    if !set_absent(table, at, 0) {
-        return false;
-    }
-    if !set_absent(table, at, 1) {
-        return false;
-    }
-    if !set_absent(table, at, 2) {
-        return false;
-    }
-    if !set_absent(table, at, 3) {
-        return false;
-    }
-    set_absent(table, at, 4)
+    let a = absent_set(table, at, 0);
+    let b = absent_set(table, at, 1);
+    let c = absent_set(table, at, 2);
+    let d = absent_set(table, at, 3);
+    let e = absent_set(table, at, 4);
+    (a | b | c | d | e) == 0
 }
 
 // `_S1D` to `_S4D`.
