@@ -1,7 +1,7 @@
 -- Whether no field is bad, as one test: of fields one after the other, of the five sets, of zeros read as one number, and of a device's parts.
 -- Where the code asks another function, that function's answer comes as b, with what it says. Assumes nothing.
 use mathlib.Core.Path.{_≡_, refl, sym, ap, _∙_}
-use mathlib.Core.Bool.{Bool, true, false, not, _&&_, _||_, cond, and-assoc, and-true, and-false, true≢false}
+use mathlib.Core.Bool.{Bool, true, false, not, _&&_, _||_, and-assoc, and-true, and-false, true≢false}
 use mathlib.Core.List.{List, [], _∷_, _++_}
 use Prim.Native.Nat.{ℕ, zero, suc, _+_, _*_, _^_, _≤_, _<_}
 use native.Mathlib.Omega.{arith}
@@ -210,7 +210,12 @@ split : (p q : ℕ → Bool) (k i : ℕ) → i + k ≤ 5
 unfolding eachFrom firstBad
 split p q zero i h = refl
 split p q (suc k) i h =
-    rw (step (λ j. field (4 + 4 * j) (p j && q j)) i k (omega arith), step (λ j. field (4 + 4 * j) (p j)) i k (omega arith), step (λ j. field (4 + 4 * j) (q j)) i k (omega arith), split p q k (suc i) (omega arith))
+    rw (
+      step (λ j. field (4 + 4 * j) (p j && q j)) i k (omega arith),
+      step (λ j. field (4 + 4 * j) (p j)) i k (omega arith),
+      step (λ j. field (4 + 4 * j) (q j)) i k (omega arith),
+      split p q k (suc i) (omega arith),
+    )
     (exchange (p i) (q i) _ _)
 
 -- ---- the parts of a device's record: one that has a bad field is enough
