@@ -129,40 +129,52 @@ pub ruleset last-part = (deepest-bad, zeros-left, rising)
 stops : (l r : List Field) (n : ℕ) → n ≡ firstBad 40 l → (n ≡ 40 → ⊥) → n ≡ firstBad 40 (l ++ r)
 stops l r n e h = e ∙ sym (join-stop 40 l r (λ q. h (e ∙ q)))
 
+-- every field starts before the record's end
+pub head-in : (d : ℕ) (v : Device) → All (λ f. f .at < 40) (headFields d v)
+unfolding headFields All
+head-in d v = (omega arith, (omega arith, (omega arith, (omega arith, tt))))
+
+pub sets-in : (resources : ℕ) (v : Device) → All (λ f. f .at < 40) (setFields 4 resources v)
+unfolding setFields
+sets-in resources v = all-each _ (setField resources v) 0 5 (λ k l u. omega arith)
+
+pub sxd-in : (v : Device) → All (λ f. f .at < 40) (sxdFields 4 v)
+unfolding sxdFields
+sxd-in v = all-each _ (sxdField v) 0 4 (λ k l u. omega arith)
+
+pub sxw-in : (v : Device) → All (λ f. f .at < 40) (sxwFields 4 v)
+unfolding sxwFields
+sxw-in v = all-each _ (sxwField v) 0 5 (λ k l u. omega arith)
+
 module _ (resources : ℕ) (t : List ℕ) (d at : ℕ) where
   abbrev dev : Device
   dev = deviceAt 4 t at
 
   -- the parts from `_SxW`, from `_SxD` and from the sets on, and all of them
-  abbrev from-sxw : List Field
+  abbrev pub from-sxw : List Field
   from-sxw = sxwFields 4 dev ++ lastFields 4 t at dev
 
-  abbrev from-sxd : List Field
+  abbrev pub from-sxd : List Field
   from-sxd = sxdFields 4 dev ++ from-sxw
 
-  abbrev from-sets : List Field
+  abbrev pub from-sets : List Field
   from-sets = setFields 4 resources dev ++ from-sxd
 
-  whole : firstBad 40 (headFields d dev ++ from-sets) ≡ firstBad 40 (deviceFields 4 resources t d at)
+  pub whole : firstBad 40 (headFields d dev ++ from-sets) ≡ firstBad 40 (deviceFields 4 resources t d at)
   unfolding deviceFields
   whole = simp append-assoc
 
   past-head : (n : ℕ) → n ≡ firstBad 40 (headFields d dev) → n ≡ 40 → firstBad 40 from-sets ≡ firstBad 40 (deviceFields 4 resources t d at)
-  unfolding headFields All
-  past-head n e h =
-      sym (join-pass 40 (headFields d dev) from-sets (omega arith, (omega arith, (omega arith, (omega arith, tt)))) (sym e ∙ h)) ∙ whole
+  past-head n e h = sym (join-pass 40 (headFields d dev) from-sets (head-in d dev) (sym e ∙ h)) ∙ whole
 
   past-sets : (n : ℕ) → n ≡ firstBad 40 (setFields 4 resources dev) → n ≡ 40 → firstBad 40 from-sxd ≡ firstBad 40 from-sets
-  unfolding setFields
-  past-sets n e h = sym (join-pass 40 (setFields 4 resources dev) from-sxd (all-each _ (setField resources dev) 0 5 (λ k l u. omega arith)) (sym e ∙ h))
+  past-sets n e h = sym (join-pass 40 (setFields 4 resources dev) from-sxd (sets-in resources dev) (sym e ∙ h))
 
   past-sxd : (n : ℕ) → n ≡ firstBad 40 (sxdFields 4 dev) → n ≡ 40 → firstBad 40 from-sxw ≡ firstBad 40 from-sxd
-  unfolding sxdFields
-  past-sxd n e h = sym (join-pass 40 (sxdFields 4 dev) from-sxw (all-each _ (sxdField dev) 0 4 (λ k l u. omega arith)) (sym e ∙ h))
+  past-sxd n e h = sym (join-pass 40 (sxdFields 4 dev) from-sxw (sxd-in dev) (sym e ∙ h))
 
   past-sxw : (n : ℕ) → n ≡ firstBad 40 (sxwFields 4 dev) → n ≡ 40 → firstBad 40 (lastFields 4 t at dev) ≡ firstBad 40 from-sxw
-  unfolding sxwFields
-  past-sxw n e h = sym (join-pass 40 (sxwFields 4 dev) (lastFields 4 t at dev) (all-each _ (sxwField dev) 0 5 (λ k l u. omega arith)) (sym e ∙ h))
+  past-sxw n e h = sym (join-pass 40 (sxwFields 4 dev) (lastFields 4 t at dev) (sxw-in dev) (sym e ∙ h))
 
   pub in-head : (r : ℕ) → r ≡ firstBad 40 (headFields d dev) → (r ≡ 40 → ⊥) → r ≡ firstBad 40 (deviceFields 4 resources t d at)
   in-head r e n = stops (headFields d dev) from-sets r e n ∙ whole

@@ -2,3 +2,4 @@ pub mod Readers
 pub mod OnBytes
 pub mod Bad
 pub mod Verdicts
+pub mod NoneBad

@@ -1,14 +1,15 @@
 -- Each test that the rules make of a record, as a test of the record's bytes: what the checks of one record cite. A bit of a mask or a set that the
 -- code asks of another function comes as its answer, with what that answer says. Assumes nothing.
-use mathlib.Core.Path.{_≡_, refl, _∙_}
-use mathlib.Core.Bool.{Bool, not, cond, _&&_, _||_}
+use mathlib.Core.Path.{_≡_, refl, sym, _∙_}
+use mathlib.Core.Bool.{Bool, not, cond, _&&_, _||_, or-false}
 use mathlib.Core.List.{List}
-use Prim.Native.Nat.{ℕ, _+_, _*_, _%_, _^_, _<_}
+use Prim.Native.Nat.{ℕ, _+_, _*_, _%_, _^_, _≤_, _<_}
 use native.Mathlib.Omega.{arith}
-use borrow.Author.Tests.{eq-eqb, ne-eqb}
+use borrow.Author.Tests.{eqb-true, eq-eqb, ne-eqb, le-leb, lt-leb}
 use lib.Dec.{eqb, leb, ltb}
 use lib.ListN.{getD}
 use Rattle.sets.specs.Sets.{member}
+use Rattle.sets.proofs.Laws.{decide}
 use Rattle.words.specs.Words.{readLE}
 use Rattle.rules.specs.Station.{absent, deviceAt}
 use Rattle.rules.specs.Table.{firstBad, resourceFields, resourceGood, parentGood, present, setGood, sxdGood, sxwGood, deepestGood, objectsGood}
@@ -23,7 +24,7 @@ unfolding resourceGood
 resource-test t r v e = rw e refl
 
 module _ (t : List ℕ) (at : ℕ) where
-  sets-at : (k : ℕ) → k < 5 → deviceAt 4 t at .sets k ≡ readLE 4 t (at + 4 + 4 * k)
+  pub sets-at : (k : ℕ) → k < 5 → deviceAt 4 t at .sets k ≡ readLE 4 t (at + 4 + 4 * k)
   unfolding deviceAt
   sets-at k h = below-in 5 0 (λ j. readLE 4 t (at + 4 + 4 * j)) k h
 
@@ -61,14 +62,20 @@ module _ (t : List ℕ) (at : ℕ) where
   unfolding setGood
   set-test resources k s f p h e g q = rw (sets-at k h, ← e, ← g, ← q) refl
 
-  pub sxd-test : (k : ℕ) → k < 4
-      → eqb (getD t (at + 24 + k) 0) 255 || leb (getD t (at + 24 + k) 0) 3 && (eqb (getD t (at + 29 + k) 0) 255 || leb (getD t (at + 24 + k) 0) (getD t (at + 29 + k) 0))
-      ≡ sxdGood (deviceAt 4 t at) (k + 1)
+  sxw-next : (k : ℕ) → k < 4 → deviceAt 4 t at .sxw (k + 1) ≡ getD t (at + 29 + k) 0
+  sxw-next k h = let i : at + 28 + (k + 1) ≡ at + 29 + k = omega arith in sxw-at (k + 1) (omega arith) ∙ rw i refl
+
+  pub sxd-state : (k : ℕ) → k < 4 → getD t (at + 24 + k) 0 ≤ 3 → leb (getD t (at + 24 + k) 0) (getD t (at + 29 + k) 0) ≡ sxdGood (deviceAt 4 t at) (k + 1)
   unfolding sxdGood
-  sxd-test k h =
-      let i : at + 28 + (k + 1) ≡ at + 29 + k = omega arith in
-      let w : deviceAt 4 t at .sxw (k + 1) ≡ getD t (at + 29 + k) 0 = sxw-at (k + 1) (omega arith) ∙ rw i refl in
-      rw (sxd-at k h, w) refl
+  sxd-state k h l =
+      let s = getD t (at + 24 + k) 0 in
+      let w = getD t (at + 29 + k) 0 in
+      rw (sxd-at k h, sxw-next k h, ne-eqb s 255 (omega arith), le-leb s 3 l)
+      (decide (eqb w 255) (λ e. rw e (le-leb s w (omega (arith, eqb-true w 255 e)))) (λ e. rw e refl))
+
+  pub sxd-absent : (k : ℕ) → k < 4 → 3 < getD t (at + 24 + k) 0 → eqb (getD t (at + 24 + k) 0) 255 ≡ sxdGood (deviceAt 4 t at) (k + 1)
+  unfolding sxdGood
+  sxd-absent k h l = rw (sxd-at k h, lt-leb (getD t (at + 24 + k) 0) 3 l) (sym (or-false (eqb (getD t (at + 24 + k) 0) 255)))
 
   pub sxw-test : (x : ℕ) → x < 5 → eqb (getD t (at + 28 + x) 0) 255 || leb (getD t (at + 28 + x) 0) 4 ≡ sxwGood (deviceAt 4 t at) x
   unfolding sxwGood
@@ -89,4 +96,4 @@ module _ (t : List ℕ) (at : ℕ) where
   unfolding objectsGood deviceAt
   objects-test ps0 ps3 pr0 dsw prw a b c d e = rw (a, b, c, d, e) refl
 
-pub ruleset record-tests = (bit-is, resource-test, parent-test, wake-there, power-there, set-test, sxd-test, sxw-test, deepest-test, objects-test)
+pub ruleset record-tests = (bit-is, resource-test, parent-test, wake-there, power-there, set-test, sxd-state, sxd-absent, sxw-test, deepest-test, objects-test)

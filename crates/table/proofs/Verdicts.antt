@@ -23,6 +23,7 @@ use Rattle.rules.proofs.Answers.{first-pass, first-stop, first-none, unless-of,
 use Rattle.laws.proofs.Accepted.{accepted}
 use Rattle.laws.proofs.Tests.{both-true}
 use Rattle.table.specs.Layout.{Laid}
+use Rattle.table.specs.Good.{noneBad}
 
 -- ---- each check, on the bytes
 module _ (t : List ℕ) where
@@ -47,9 +48,15 @@ module _ (t : List ℕ) where
   unfolding fieldsGood badField
   fields-test d at r n e f g = rw (g, e, f) refl
 
-  pub device-test : (d at : ℕ) (f o : Bool) → at ≡ deviceStart 4 t d → f ≡ fieldsGood 4 t d → o ≡ objectsGood (deviceAt 4 t at) → not (f && o) ≡ not (deviceGood 4 t d)
-  unfolding deviceGood
-  device-test d at f o e g h = rw (g, h, e) refl
+  -- b: no field of the device's record is bad
+  module _ (d at r : ℕ) (b : Bool) (e : at ≡ deviceStart 4 t d) (f : r ≡ countR t) (g : b ≡ noneBad (deviceFields 4 r t d at)) where
+    pub field-refused : not b ≡ true → true ≡ not (deviceGood 4 t d)
+    unfolding deviceGood
+    field-refused p = rw (sym (fields-test d at r _ e f refl) ∙ sym g ∙ not-true b p) refl
+
+    pub objects-decide : (o : Bool) → o ≡ objectsGood (deviceAt 4 t at) → not b ≡ false → not o ≡ not (deviceGood 4 t d)
+    unfolding deviceGood
+    objects-decide o h p = rw (sym (fields-test d at r _ e f refl) ∙ sym g ∙ not-false b p, h, e) refl
 
   pub resource-bad : (r : ℕ) (b : Bool) → b ≡ resourceGood t r → not b ≡ not (resourceGood t r)
   resource-bad r b e = ap not e
@@ -62,7 +69,7 @@ module _ (t : List ℕ) where
   unfolding deviceRefusal
   refused-5 d f e p = rw (← e, p)
 
-pub ruleset table-tests = (too-short, header-test, counts-test, length-test, fields-test, device-test, resource-bad, refused-6, refused-5)
+pub ruleset table-tests = (too-short, header-test, counts-test, length-test, fields-test, field-refused, objects-decide, resource-bad, refused-6, refused-5)
 
 -- the loops over resources and devices start with n to go
 pub from-none : (f : ℕ → Bool) (n m : ℕ) → n ≡ m → leastFrom f 0 (n - 0) ≡ least f m

@@ -1,5 +1,6 @@
 // Whether any bytes are a power table, answers 1 to 6, and the bytes of one device's record.
 use crate::fields;
+use crate::quick;
 use crate::records;
 use rules::Verdict;
 ghost use mathlib.Core.Path.{_≡_};
@@ -72,7 +73,7 @@ fn lowest_resource(table: &[u8]) -> usize
     i
 }
 
-// Whether every field of device d is good.
+// Whether every field of device d is good, asked of a device that is refused.
 fn fields_good(table: &[u8], d: usize) -> bool
     requires { ⌜ Laid (now table) × (d < countD (now table)) ⌝ }
     ensures { λ b. ⌜ b ≡ fieldsGood 4 (now (table .entry)) d ⌝ }
@@ -87,7 +88,10 @@ fn device_bad(table: &[u8], d: usize) -> bool
     ensures { λ b. ⌜ b ≡ not (deviceGood 4 (now (table .entry)) d) ⌝ }
 {
     let at = fields::start(table, d);
-    !(fields_good(table, d) & records::objects_good(table, at))
+    if !quick::record_good(table, at, d, fields::resources(table)) {
+        return true;
+    }
+    !records::objects_good(table, at)
 }
 
 // 5 and 6: the lowest bad device, D if none is bad.

@@ -30,7 +30,7 @@ pub fn resource_good(table: &[u8], r: usize) -> bool
 }
 
 // A parent is lower than its child; 255 for none.
-fn parent_good(table: &[u8], at: usize, d: usize) -> bool
+pub fn parent_good(table: &[u8], at: usize, d: usize) -> bool
     requires { ⌜ (at + 40 ≤ length (now table)) × (d < 32) ⌝ }
     ensures { λ b. ⌜ b ≡ parentGood d (deviceAt 4 (now (table .entry)) at) ⌝ }
 {
@@ -46,7 +46,7 @@ fn bit(mask: u8, x: u32) -> bool
 }
 
 // Whether set k's object is there: `_PR0` to `_PR3`, or `_PRW`.
-fn present(table: &[u8], at: usize, k: usize) -> bool
+pub fn present(table: &[u8], at: usize, k: usize) -> bool
     requires { ⌜ (at + 40 ≤ length (now table)) × (k < 5) ⌝ }
     ensures { λ b. ⌜ b ≡ present (deviceAt 4 (now (table .entry)) at) k ⌝ }
 {
@@ -65,18 +65,21 @@ fn set_good(table: &[u8], at: usize, k: usize, resources: usize) -> bool
     sets::fits(s, resources as u32) & (present(table, at, k) | (s == 0))
 }
 
-// `_SxD` for x = k + 1: 0 to 3 or absent, and not larger than `_SxW` where both are present.
-fn sxd_good(table: &[u8], at: usize, k: usize) -> bool
+// `_SxD` for x = k + 1: 0 to 3 or absent, and not larger than `_SxW` where both are present. An absent `_SxW`, 255, is larger than any state.
+pub fn sxd_good(table: &[u8], at: usize, k: usize) -> bool
     requires { ⌜ (at + 40 ≤ length (now table)) × (k < 4) ⌝ }
     ensures { λ b. ⌜ b ≡ sxdGood (deviceAt 4 (now (table .entry)) at) (k + 1) ⌝ }
 {
     let state = table[at + 24 + k];
     let limit = table[at + 29 + k];
-    (state == 255) | (state <= 3) & ((limit == 255) | (state <= limit))
+    if state <= 3 {
+        return state <= limit;
+    }
+    state == 255
 }
 
 // `_SxW`: 0 to 4 or absent.
-fn sxw_good(table: &[u8], at: usize, x: usize) -> bool
+pub fn sxw_good(table: &[u8], at: usize, x: usize) -> bool
     requires { ⌜ (at + 40 ≤ length (now table)) × (x < 5) ⌝ }
     ensures { λ b. ⌜ b ≡ sxwGood (deviceAt 4 (now (table .entry)) at) x ⌝ }
 {
@@ -85,7 +88,7 @@ fn sxw_good(table: &[u8], at: usize, x: usize) -> bool
 }
 
 // The deepest sleep state: 0 to 4; 0 without `_PRW`.
-fn deepest_good(table: &[u8], at: usize) -> bool
+pub fn deepest_good(table: &[u8], at: usize) -> bool
     requires { ⌜ at + 40 ≤ length (now table) ⌝ }
     ensures { λ b. ⌜ b ≡ deepestGood (deviceAt 4 (now (table .entry)) at) ⌝ }
 {

@@ -1,8 +1,11 @@
--- The opposite of both checks of the record. Assumes nothing.
+-- A bad field is enough; without one the objects decide. Assumes nothing.
 use Rattle.table.proofs.Verdicts.{table-tests}
 use borrow.Author.Needs.{needs}
 use Rattle.table.proofs.check.device_bad.Statement.{statement}
 use Rattle.table.proofs.check.device_bad.Tie as tie
 
 pub device-bad-spec : {M : Type 1} → statement M
-device-bad-spec = tie.close (tie.spec (λ c κs. search needs) (λ c κs. search needs) (λ c κs. search needs) (λ c. search (needs, table-tests)))
+device-bad-spec =
+    tie.close
+    (tie.spec (λ c κs. search needs) (λ c κs. search needs) (λ c κs. search needs) (λ c. search (needs, table-tests)) (λ c κs. search needs)
+    (λ c. search (needs, table-tests)))
