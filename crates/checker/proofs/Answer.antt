@@ -10,22 +10,22 @@ use Rattle.rules.specs.declared.Entry.{Entry}
 use Rattle.rules.specs.declared.Request.{Request}
 use Rattle.rules.specs.declared.State.{State}
 use Rattle.rules.specs.declared.Verdict.{Verdict}
-use Rattle.rules.specs.declared.Verdict.the-variants.{Done, NoRoom, NotConforming}
+use Rattle.rules.specs.declared.Verdict.the-variants.{Done, NotConforming}
 use Rattle.rules.specs.Answers.{passes, firstOf, unless}
 use Rattle.rules.specs.Station.{Station, stationOf}
 use Rattle.rules.specs.Status.{Status, statusOf, entriesOf}
 use Rattle.rules.specs.Request.{newEntry}
 use Rattle.rules.specs.Calls.{wordOf, ownCall, ownLast, toTurnOn, toTurnOff}
 use Rattle.rules.specs.Check.{Rest, onWord, offWord, notLower, notHigher, andThen, takeCalls, takeSet, isEnd, ownFirstCalls, ownLastCalls, conforming}
-use Rattle.rules.specs.Outcomes.{requestStage, permittedVerdict, checkWords}
-use Rattle.rules.proofs.Answers.{first-pass, first-stop, first-none, first-through, unless-of, unless-stop}
+use Rattle.rules.specs.Outcomes.{permittedVerdict}
+use Rattle.rules.proofs.Answers.{first-pass, first-stop, first-none, unless-of, unless-stop}
 use Rattle.status.specs.State.{stateOf}
 use Rattle.request.specs.Stages.{stagesOf, stagesVerdict}
 use Rattle.planner.specs.Plan.{ownOf}
 use Rattle.planner.specs.After.{afterOf, Asked}
 use Rattle.planner.proofs.Whole.{own-of, entry-is, on-after, on-before}
 use Rattle.planner.specs.Phases.{switchWord}
-use Rattle.checker.specs.Phases.{follows, takeWords, walked}
+use Rattle.checker.specs.Phases.{follows, walked}
 use Rattle.checker.proofs.Walks.{take-by-words}
 
 -- ---- the walk with the words of the own call is the test
@@ -63,23 +63,24 @@ pub permitted-is : (t b : List ℕ) (q : Request) → stagesVerdict true t b q �
 unfolding stagesVerdict stagesOf permittedVerdict firstOf unless passes
 permitted-is t b q = refl
 
-module _ (t b : List ℕ) (q : Request) (ws : List ℕ) (v : Verdict) (p : Bool) (e : v ≡ stagesVerdict true t b q) (f : p ≡ passes v) where
-  pub check-refused : not p ≡ true → v ≡ checkWords 4 t b q ws
-  unfolding checkWords
+-- whatever the test: of a list of words, or of bytes
+module _ (t b : List ℕ) (q : Request) (v : Verdict) (p : Bool) (e : v ≡ stagesVerdict true t b q) (f : p ≡ passes v) (test : Bool) where
+  abbrev answer : Verdict
+  answer = firstOf (permittedVerdict 4 t b q ∷ unless test NotConforming ∷ []) (Done 0)
+
+  pub check-refused : not p ≡ true → v ≡ answer
   check-refused n =
       let is : v ≡ permittedVerdict 4 t b q = e ∙ permitted-is t b q in
       is ∙ sym (first-stop (permittedVerdict 4 t b q) _ (Done 0) (sym (ap passes is) ∙ sym f ∙ not-true p n))
 
-  module _ (yes : not p ≡ false) (c : Bool) (g : c ≡ conforming (stationOf 4 t) (statusOf 4 b) q ws) where
+  module _ (yes : not p ≡ false) (c : Bool) (g : c ≡ test) where
     on : passes (permittedVerdict 4 t b q) ≡ true
     on = sym (ap passes (e ∙ permitted-is t b q)) ∙ sym f ∙ not-false p yes
 
-    pub check-19 : not c ≡ true → NotConforming ≡ checkWords 4 t b q ws
-    unfolding checkWords
+    pub check-19 : not c ≡ true → NotConforming ≡ answer
     check-19 n =
         sym (first-pass (permittedVerdict 4 t b q) _ (Done 0) on ∙ rw (← g, unless-stop c NotConforming (not-true c n)) (first-stop NotConforming [] (Done 0) (unfold passes in refl)))
 
-    pub check-done : not c ≡ false → Done 0 ≡ checkWords 4 t b q ws
-    unfolding checkWords
+    pub check-done : not c ≡ false → Done 0 ≡ answer
     check-done n =
         sym (first-pass (permittedVerdict 4 t b q) _ (Done 0) on ∙ rw (← g, unless-of c NotConforming (not-false c n)) (first-pass (Done 0) [] (Done 0) (unfold passes in refl) ∙ first-none (Done 0)))

@@ -1,34 +1,31 @@
 -- The planner whole: what the checks have shown, the words and the state of an accepted request, and the outcome. Assumes nothing.
 use mathlib.Core.Path.{_≡_, refl, sym, ap, _∙_}
 use mathlib.Core.Bool.{Bool, true, false, not, _&&_, cond}
-use mathlib.Core.List.{List, map}
+use mathlib.Core.List.{List}
 use Prim.Native.Nat.{ℕ, _^_, _≤_, _<_}
 use native.Mathlib.Omega.{arith}
-use borrow.Author.Tests.{le-leb, leb-true, not-true, not-false}
-use lib.Dec.{leb}
+use borrow.Author.Tests.{not-true, not-false}
 use lib.ListN.{length}
 use lib.Seq.{length-take-le}
 use Rattle.sets.specs.Sets.{member, minus}
-use Rattle.sets.proofs.Laws.{decide, member-minus, minus-lt}
+use Rattle.sets.proofs.Laws.{member-minus, minus-lt}
 use Rattle.words.specs.Words.{put}
 use Rattle.rules.specs.declared.Entry.{Entry}
 use Rattle.rules.specs.declared.Request.{Request}
 use Rattle.rules.specs.declared.State.{State}
 use Rattle.rules.specs.declared.Verdict.{Verdict}
 use Rattle.rules.specs.declared.Verdict.the-variants.{Done, NoRoom, BadRequest}
-use Rattle.rules.specs.Answers.{passes, firstOf, unless}
-use Rattle.rules.specs.Station.{Station, countR, countD, stationOf}
+use Rattle.rules.specs.Answers.{passes, firstOf}
+use Rattle.rules.specs.Station.{Station, countR, stationOf}
 use Rattle.rules.specs.Power.{needed}
-use Rattle.rules.specs.Status.{statusOf, entriesOf, imageOf}
+use Rattle.rules.specs.Status.{statusOf, entriesOf}
 use Rattle.rules.specs.Request.{formGood, requestVerdict, newEntry, entriesAfter}
-use Rattle.rules.specs.Calls.{wordOf, ownCall, endSet, toTurnOn, toTurnOff, turnOn, turnOff, calls, statusAfter}
-use Rattle.rules.specs.Outcomes.{outcome, planned, planVerdict, stateAfter, requestStage}
-use Rattle.rules.specs.Outcomes as outcomes
+use Rattle.rules.specs.Calls.{ownCall, endSet, toTurnOn, toTurnOff, turnOn, turnOff, calls}
+use Rattle.rules.specs.Outcomes.{Outcome, outcome, planned, planVerdict, stateAfter, requestStage}
 use Rattle.rules.proofs.Answers.{first-both, first-through, first-same, unless-at}
 use Rattle.laws.proofs.States.{sound-of}
 use Rattle.laws.proofs.Runs.{Stages}
 use Rattle.laws.proofs.Demand3.{end-lt, on-lt}
-use Rattle.table.specs.Layout.{Laid}
 use Rattle.table.proofs.Verdicts.{laid-of}
 use Rattle.status.specs.State.{stateOf, bytesOf, withEntry}
 use Rattle.status.proofs.Held.{entries-of}
@@ -150,29 +147,27 @@ pub next-is : (s : Station) (st entered : State) (d on : ℕ) (e : Entry) → en
 unfolding afterOf
 next-is s st entered d on e f g = rw (g, f) refl
 
--- ---- the outcome
-module _ (t b : List ℕ) (q : Request) (plan : List ℕ) (room : Bool) (v : Verdict) (p : Bool)
-    (r : room ≡ leb 33 (length plan)) (e : v ≡ stagesVerdict room t b q) (f : p ≡ passes v) where
-  refused-verdict : not p ≡ true → planVerdict 4 (leb 33 (length plan)) t b q ≡ v
+-- ---- the outcome, whatever an accepted request writes into the plan: words, or their bytes
+module _ (t b : List ℕ) (q : Request) (room : Bool) (v : Verdict) (p : Bool) (e : v ≡ stagesVerdict room t b q) (f : p ≡ passes v) where
+  refused-verdict : not p ≡ true → planVerdict 4 room t b q ≡ v
   unfolding planVerdict stagesVerdict stagesOf
-  refused-verdict n =
-      let same : passes (firstOf (stagesOf (leb 33 (length plan)) t b q) (Done 0)) ≡ false = rw r at (sym (ap passes e) ∙ sym f ∙ not-true p n) in
-      first-same (stagesOf (leb 33 (length plan)) t b q) (Done (length (planned 4 t b q))) same ∙ sym (rw r at e)
+  refused-verdict n = first-same (stagesOf room t b q) (Done (length (planned 4 t b q))) (sym (ap passes e) ∙ sym f ∙ not-true p n) ∙ sym e
 
-  refused-passes : not p ≡ true → passes (planVerdict 4 (leb 33 (length plan)) t b q) ≡ false
-  refused-passes n = ap passes (refused-verdict n) ∙ sym f ∙ not-true p n
-
-  pub plan-refused : not p ≡ true → (v ≡ outcomes.planWords 4 t b q plan .verdict) × (b ≡ outcomes.planWords 4 t b q plan .state) × (plan ≡ outcomes.planWords 4 t b q plan .plan)
-  unfolding outcomes.planWords outcome
-  plan-refused n = (sym (refused-verdict n), rw (refused-passes n) refl, rw (refused-passes n) refl)
-
-  done-verdict : not p ≡ false → planVerdict 4 (leb 33 (length plan)) t b q ≡ Done (length (planned 4 t b q))
+  done-verdict : not p ≡ false → planVerdict 4 room t b q ≡ Done (length (planned 4 t b q))
   unfolding planVerdict stagesVerdict stagesOf
-  done-verdict n =
-      let all : passes (firstOf (stagesOf (leb 33 (length plan)) t b q) (Done 0)) ≡ true = rw r at (sym (ap passes e) ∙ sym f ∙ not-false p n) in
-      first-through (stagesOf (leb 33 (length plan)) t b q) (Done (length (planned 4 t b q))) all
+  done-verdict n = first-through (stagesOf room t b q) (Done (length (planned 4 t b q))) (sym (ap passes e) ∙ sym f ∙ not-false p n)
 
-  pub plan-done : not p ≡ false → (n : ℕ) (b′ plan′ : List ℕ) → Carried t b q plan n b′ plan′
-      → (Done n ≡ outcomes.planWords 4 t b q plan .verdict) × (b′ ≡ outcomes.planWords 4 t b q plan .state) × (plan′ ≡ outcomes.planWords 4 t b q plan .plan)
-  unfolding outcomes.planWords outcome passes
-  plan-done n k b′ plan′ c = (rw (done-verdict n, c .count) refl, rw (done-verdict n) (c .state), rw (done-verdict n) (c .words))
+  module _ (plan written : List ℕ) where
+    abbrev out : Outcome
+    out = outcome (planVerdict 4 room t b q) b plan (stateAfter 4 t b q) written
+
+    pub plan-refused : not p ≡ true → (v ≡ out .verdict) × (b ≡ out .state) × (plan ≡ out .plan)
+    unfolding outcome
+    plan-refused n =
+        let no : passes (planVerdict 4 room t b q) ≡ false = ap passes (refused-verdict n) ∙ sym f ∙ not-true p n in
+        (sym (refused-verdict n), rw no refl, rw no refl)
+
+    pub plan-done : not p ≡ false → (n : ℕ) (b′ plan′ : List ℕ) → n ≡ length (planned 4 t b q) → b′ ≡ stateAfter 4 t b q → plan′ ≡ written
+        → (Done n ≡ out .verdict) × (b′ ≡ out .state) × (plan′ ≡ out .plan)
+    unfolding outcome passes
+    plan-done n k b′ plan′ c s w = (rw (done-verdict n, c) refl, rw (done-verdict n) s, rw (done-verdict n) w)

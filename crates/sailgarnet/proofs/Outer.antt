@@ -1,34 +1,28 @@
 -- Plan and check on bytes, from the same checks and the words: refused, done, and why a list of more than 33 words is never lawful. Assumes nothing.
 use mathlib.Core.Path.{_≡_, refl, sym, ap, _∙_}
-use mathlib.Core.Bool.{Bool, true, false, not, _&&_, cond, true≢false, and-false}
-use mathlib.Core.List.{List, [], _∷_}
+use mathlib.Core.Bool.{Bool, true, false, _&&_, and-false}
+use mathlib.Core.List.{List, _∷_}
 use Prim.Native.Nat.{ℕ, _+_, _*_, _/_, _%_, _^_, _≤_, _<_}
 use native.Mathlib.Omega.{arith}
-use borrow.Author.Tests.{eq-eqb, ne-eqb, not-true, not-false}
-use lib.Dec.{eqb, leb}
+use borrow.Author.Tests.{eq-eqb, ne-eqb}
+use lib.Dec.{eqb}
 use lib.ListN.{length, take}
 use Rattle.sets.proofs.Laws.{decide, minus-lt}
 use Rattle.words.specs.Words.{put, wordBytes, byteWords}
 use Rattle.words.proofs.Laws.{byte-words-length}
 use Rattle.words.proofs.Put.{length-put, take-put}
 use Rattle.rules.specs.declared.Request.{Request}
-use Rattle.rules.specs.declared.Verdict.{Verdict}
-use Rattle.rules.specs.declared.Verdict.the-variants.{Done, NotConforming}
-use Rattle.rules.specs.Answers.{passes, firstOf, unless}
-use Rattle.rules.specs.Station.{stationOf, countR}
+use Rattle.rules.specs.Station.{stationOf}
 use Rattle.rules.specs.Status.{statusOf}
 use Rattle.rules.specs.Calls.{toTurnOn, toTurnOff}
 use Rattle.rules.specs.Check.{conforming}
-use Rattle.rules.specs.Outcomes.{outcome, planned, planVerdict, planBytes, permittedVerdict, checkBytes}
-use Rattle.rules.proofs.Answers.{first-pass, first-stop, first-none, first-through, first-same, unless-of, unless-stop}
+use Rattle.rules.specs.Outcomes.{planned}
 use Rattle.laws.proofs.Accepted.{accepted}
 use Rattle.laws.proofs.Runs.{Stages}
 use Rattle.laws.proofs.Conform.{conforming-at, planner-conforms}
 use Rattle.laws.proofs.Demand3.{end-lt, on-lt}
-use Rattle.request.specs.Stages.{stagesOf, stagesVerdict}
 use Rattle.planner.specs.After.{Asked, Carried}
 use Rattle.planner.proofs.Whole.{stages-passed}
-use Rattle.checker.proofs.Answer.{permitted-is}
 use Rattle.sailgarnet.proofs.Long.{conforms-long}
 
 -- ---- lists
@@ -59,55 +53,12 @@ module _ (t b : List ℕ) (q : Request) (g : Asked t b q) (list : List ℕ) wher
   list-is e r ws w f = rw (eq-eqb (length list % 4) 0 e, ← w) f
 
 -- ---- the checker's answer
-module _ (t b : List ℕ) (q : Request) (list : List ℕ) (v : Verdict) (p : Bool) (e : v ≡ stagesVerdict true t b q) (f : p ≡ passes v) where
-  pub bytes-refused : not p ≡ true → v ≡ checkBytes 4 t b q list
-  unfolding checkBytes
-  bytes-refused n =
-      let is : v ≡ permittedVerdict 4 t b q = e ∙ permitted-is t b q in
-      is ∙ sym (first-stop (permittedVerdict 4 t b q) _ (Done 0) (sym (ap passes is) ∙ sym f ∙ not-true p n))
-
-  module _ (yes : not p ≡ false) (c : Bool) (g : c ≡ eqb (length list % 4) 0 && conforming (stationOf 4 t) (statusOf 4 b) q (byteWords (length list / 4) list)) where
-    on : passes (permittedVerdict 4 t b q) ≡ true
-    on = sym (ap passes (e ∙ permitted-is t b q)) ∙ sym f ∙ not-false p yes
-
-    pub bytes-19 : not c ≡ true → NotConforming ≡ checkBytes 4 t b q list
-    unfolding checkBytes
-    bytes-19 n =
-        sym (first-pass (permittedVerdict 4 t b q) _ (Done 0) on ∙ rw (← g, unless-stop c NotConforming (not-true c n)) (first-stop NotConforming [] (Done 0) (unfold passes in refl)))
-
-    pub bytes-done : not c ≡ false → Done 0 ≡ checkBytes 4 t b q list
-    unfolding checkBytes
-    bytes-done n =
-        sym (first-pass (permittedVerdict 4 t b q) _ (Done 0) on ∙ rw (← g, unless-of c NotConforming (not-false c n)) (first-pass (Done 0) [] (Done 0) (unfold passes in refl) ∙ first-none (Done 0)))
-
--- ---- the planner's outcome on bytes
-module _ (t b : List ℕ) (q : Request) (plan : List ℕ) (room : Bool) (v : Verdict) (p : Bool)
-    (r : room ≡ leb 132 (length plan)) (e : v ≡ stagesVerdict room t b q) (f : p ≡ passes v) where
-  refused-verdict : not p ≡ true → planVerdict 4 (leb 132 (length plan)) t b q ≡ v
-  unfolding planVerdict stagesVerdict stagesOf
-  refused-verdict n =
-      let same : passes (firstOf (stagesOf (leb 132 (length plan)) t b q) (Done 0)) ≡ false = rw r at (sym (ap passes e) ∙ sym f ∙ not-true p n) in
-      first-same (stagesOf (leb 132 (length plan)) t b q) (Done (length (planned 4 t b q))) same ∙ sym (rw r at e)
-
-  refused-passes : not p ≡ true → passes (planVerdict 4 (leb 132 (length plan)) t b q) ≡ false
-  refused-passes n = ap passes (refused-verdict n) ∙ sym f ∙ not-true p n
-
-  pub bytes-plan-refused : not p ≡ true → (v ≡ planBytes 4 t b q plan .verdict) × (b ≡ planBytes 4 t b q plan .state) × (plan ≡ planBytes 4 t b q plan .plan)
-  unfolding planBytes outcome
-  bytes-plan-refused n = (sym (refused-verdict n), rw (refused-passes n) refl, rw (refused-passes n) refl)
-
-  done-verdict : not p ≡ false → planVerdict 4 (leb 132 (length plan)) t b q ≡ Done (length (planned 4 t b q))
-  unfolding planVerdict stagesVerdict stagesOf
-  done-verdict n =
-      let all : passes (firstOf (stagesOf (leb 132 (length plan)) t b q) (Done 0)) ≡ true = rw r at (sym (ap passes e) ∙ sym f ∙ not-false p n) in
-      first-through (stagesOf (leb 132 (length plan)) t b q) (Done (length (planned 4 t b q))) all
-
-  pub bytes-plan-done : not p ≡ false → (n : ℕ) (b′ words words′ plan′ : List ℕ) → Carried t b q words n b′ words′ → plan′ ≡ put plan 0 (wordBytes (take n words′))
-      → (Done n ≡ planBytes 4 t b q plan .verdict) × (b′ ≡ planBytes 4 t b q plan .state) × (plan′ ≡ planBytes 4 t b q plan .plan)
-  unfolding planBytes outcome passes
-  bytes-plan-done n k b′ words words′ plan′ c w =
-      let front : take k words′ ≡ planned 4 t b q = rw (c .words) (take-put words (planned 4 t b q) k (sym (c .count))) in
-      (rw (done-verdict n, c .count) refl, rw (done-verdict n) (c .state), rw (done-verdict n) (w ∙ ap (λ (l : List ℕ). put plan 0 (wordBytes l)) front))
+-- ---- the planner's words as bytes
+pub written-bytes : (t b : List ℕ) (q : Request) (plan : List ℕ) (n : ℕ) (b′ words words′ plan′ : List ℕ) → Carried t b q words n b′ words′ → plan′ ≡ put plan 0 (wordBytes (take n words′))
+    → plan′ ≡ put plan 0 (wordBytes (planned 4 t b q))
+written-bytes t b q plan n b′ words words′ plan′ c w =
+    let front : take n words′ ≡ planned 4 t b q = rw (c .words) (take-put words (planned 4 t b q) n (sym (c .count))) in
+    w ∙ ap (λ (l : List ℕ). put plan 0 (wordBytes l)) front
 
 -- an accepted plan has at most 33 words, so they fit the buffer that they were written into
 pub planned-short : (t b : List ℕ) (q : Request) → Stages 4 t b q → length (planned 4 t b q) ≤ 33

@@ -2,12 +2,13 @@ use mathlib.Core.Path.{refl}
 use borrow.Author.Tests.{leb-true}
 use Rattle.planner.proofs.Whole.{asked-of, room-passed, plan-refused, plan-done}
 use borrow.Author.Needs.{needs}
+use Rattle.rules.specs.Outcomes.{planWords}
 use Rattle.planner.proofs.plan.plan_words.Statement.{statement}
 use Rattle.planner.proofs.plan.plan_words.Tie as tie
 
 returns : tie.Need-returns
-returns c =
-    plan-refused _ _ _ (c .before .before .before .before .before .before .before .args .plan .now) _ _ _ refl (c .before .before .verdict .ensures) (c .before .passes .ensures) (c .if1 .taken)
+unfolding planWords
+returns c = plan-refused _ _ _ _ _ _ (c .before .before .verdict .ensures) (c .before .passes .ensures) _ _ (c .if1 .taken)
 
 carry-requires : tie.Need-carry-requires
 carry-requires c κs =
@@ -17,8 +18,10 @@ carry-requires c κs =
     (asked-of _ _ _ _ _ _ r e f (c .before .before .if1 .left), leb-true _ _ r)
 
 returns-2 : tie.Need-returns-2
+unfolding planWords
 returns-2 c =
-    plan-done _ _ _ (c .before .before .before .before .before .before .before .before .before .before .before .before .before .before .args .plan .now) _ _ _ refl (c .before .before .before .before .before .before .before .before .before .verdict .ensures) (c .before .before .before .before .before .before .before .before .passes .ensures) (c .before .before .before .before .before .before .before .if1 .left) _ _ _ (c .before .before .before .before .carry .ensures)
+    let x = c .before .before .before .before .carry .ensures in
+    plan-done _ _ _ _ _ _ (c .before .before .before .before .before .before .before .before .before .verdict .ensures) (c .before .before .before .before .before .before .before .before .passes .ensures) _ _ (c .before .before .before .before .before .before .before .if1 .left) _ _ _ (x .count) (x .state) (x .words)
 
 pub plan-words-spec : {M : Type 1} → statement M
 plan-words-spec =

@@ -1,27 +1,31 @@
 use mathlib.Core.Path.{refl}
 use native.Mathlib.Omega.{arith}
+use Rattle.rules.specs.Outcomes.{checkBytes}
 use Rattle.laws.proofs.Bytes.{demand3-bytes}
 use Rattle.planner.proofs.Whole.{asked-of}
-use Rattle.sailgarnet.proofs.Outer.{bytes-refused, bytes-19, bytes-done}
+use Rattle.checker.proofs.Answer.{check-refused, check-19, check-done}
 use borrow.Author.Needs.{needs}
 use Rattle.sailgarnet.proofs.bytes.check_bytes.Statement.{statement}
 use Rattle.sailgarnet.proofs.bytes.check_bytes.Tie as tie
 
 returns : tie.Need-returns
+unfolding checkBytes
 returns c =
-    (bytes-refused _ _ _ _ _ _ (c .before .before .verdict .ensures) (c .before .passes .ensures) (c .if1 .taken), demand3-bytes 4 (omega arith) _ _ _ _)
+    (check-refused _ _ _ _ _ (c .before .before .verdict .ensures) (c .before .passes .ensures) _ (c .if1 .taken), demand3-bytes 4 (omega arith) _ _ _ _)
 
 lawful-requires : tie.Need-lawful-requires
 lawful-requires c κs =
     asked-of _ _ _ _ _ _ refl (c .before .before .verdict .ensures) (c .before .passes .ensures) (c .if1 .left)
 
 returns-2 : tie.Need-returns-2
+unfolding checkBytes
 returns-2 c =
-    (bytes-19 _ _ _ _ _ _ (c .before .before .before .before .verdict .ensures) (c .before .before .before .passes .ensures) (c .before .before .if1 .left) _ (c .before .lawful .ensures) (c .if2 .taken), demand3-bytes 4 (omega arith) _ _ _ _)
+    (check-19 _ _ _ _ _ (c .before .before .before .before .verdict .ensures) (c .before .before .before .passes .ensures) _ (c .before .before .if1 .left) _ (c .before .lawful .ensures) (c .if2 .taken), demand3-bytes 4 (omega arith) _ _ _ _)
 
 returns-3 : tie.Need-returns-3
+unfolding checkBytes
 returns-3 c =
-    (bytes-done _ _ _ _ _ _ (c .before .before .before .before .verdict .ensures) (c .before .before .before .passes .ensures) (c .before .before .if1 .left) _ (c .before .lawful .ensures) (c .if2 .left), demand3-bytes 4 (omega arith) _ _ _ _)
+    (check-done _ _ _ _ _ (c .before .before .before .before .verdict .ensures) (c .before .before .before .passes .ensures) _ (c .before .before .if1 .left) _ (c .before .lawful .ensures) (c .if2 .left), demand3-bytes 4 (omega arith) _ _ _ _)
 
 pub check-bytes-spec : {M : Type 1} → statement M
 check-bytes-spec =

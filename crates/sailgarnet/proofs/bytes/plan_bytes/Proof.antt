@@ -2,15 +2,16 @@ use mathlib.Core.Path.{refl}
 use native.Mathlib.Omega.{arith}
 use borrow.Author.Tests.{leb-true}
 use lib.ListN.{length}
-use Rattle.planner.proofs.Whole.{asked-of, room-passed}
-use Rattle.sailgarnet.proofs.Outer.{carried-fits, bytes-plan-refused, bytes-plan-done}
+use Rattle.rules.specs.Outcomes.{planBytes}
+use Rattle.planner.proofs.Whole.{asked-of, room-passed, plan-refused, plan-done}
+use Rattle.sailgarnet.proofs.Outer.{carried-fits, written-bytes}
 use borrow.Author.Needs.{needs}
 use Rattle.sailgarnet.proofs.bytes.plan_bytes.Statement.{statement}
 use Rattle.sailgarnet.proofs.bytes.plan_bytes.Tie as tie
 
 returns : tie.Need-returns
-returns c =
-    bytes-plan-refused _ _ _ (c .before .before .before .before .before .before .before .args .plan .now) _ _ _ refl (c .before .before .verdict .ensures) (c .before .passes .ensures) (c .if1 .taken)
+unfolding planBytes
+returns c = plan-refused _ _ _ _ _ _ (c .before .before .verdict .ensures) (c .before .passes .ensures) _ _ (c .if1 .taken)
 
 carry-requires : tie.Need-carry-requires
 carry-requires c κs =
@@ -31,8 +32,11 @@ write-words-requires c κs =
     (h .0, omega arith, omega arith)
 
 returns-2 : tie.Need-returns-2
+unfolding planBytes
 returns-2 c =
-    bytes-plan-done _ _ _ (c .before .before .before .before .before .before .before .before .before .before .before .before .before .before .before .before .before .before .args .plan .now) _ _ _ refl (c .before .before .before .before .before .before .before .before .before .before .before .before .before .verdict .ensures) (c .before .before .before .before .before .before .before .before .before .before .before .before .passes .ensures) (c .before .before .before .before .before .before .before .before .before .before .before .if1 .left) _ _ _ _ _ (c .before .before .before .before .before .before .before .before .carry .ensures) (c .before .before .write-words .ensures)
+    let x = c .before .before .before .before .before .before .before .before .carry .ensures in
+    let w = written-bytes _ _ _ _ _ _ _ _ _ x (c .before .before .write-words .ensures) in
+    plan-done _ _ _ _ _ _ (c .before .before .before .before .before .before .before .before .before .before .before .before .before .verdict .ensures) (c .before .before .before .before .before .before .before .before .before .before .before .before .passes .ensures) _ _ (c .before .before .before .before .before .before .before .before .before .before .before .if1 .left) _ _ _ (x .count) (x .state) w
 
 pub plan-bytes-spec : {M : Type 1} → statement M
 plan-bytes-spec =
