@@ -47,7 +47,7 @@ walked-is s st q ws =
 
 -- from the values as the code has them
 pub test-is : (t b : List ℕ) (q : Request) (g : Asked t b q) (before : State) (e ne : Entry) (after : State) (own ws : List ℕ) (last : Bool) (on off : ℕ) (r : Bool)
-    → before ≡ stateOf b → e ≡ entriesOf 4 (before .devices) (q .device) → ne ≡ newEntry e q → after ≡ afterOf (stationOf 4 t) before (q .device) ne
+    → before ≡ stateOf b → e ≡ entriesOf 4 b (q .device) → ne ≡ newEntry e q → after ≡ afterOf (stationOf 4 t) before (q .device) ne
     → on ≡ minus (after .on) (before .on) → off ≡ minus (before .on) (after .on) → own ≡ map wordOf (ownOf (stationOf 4 t) e q) → last ≡ ownLast q
     → r ≡ walked (stationOf 4 t) own last on off ws → r ≡ conforming (stationOf 4 t) (statusOf 4 b) q ws
 unfolding toTurnOn toTurnOff

@@ -16,8 +16,7 @@ pub fn conforming(table: &[u8], state: &[u8], q: Request, list: &[u32]) -> bool
 {
     let d = q.device as usize;
     let before = status::image::load(state);
-    let devices = before.devices;
-    let e = status::image::entry(&devices, d);
+    let e = status::image::entry(state, d);
     let after = planner::plan::next_state(table, before, d, request::new_entry(e, q));
     let on = sets::minus(after.on, before.on);
     let off = sets::minus(before.on, after.on);

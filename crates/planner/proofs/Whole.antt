@@ -90,7 +90,7 @@ unfolding stateOf statusOf
 state-on b = refl
 
 module _ (t b : List ℕ) (q : Request) (g : Asked t b q) (before : State) (e ne : Entry) (after : State)
-    (h : before ≡ stateOf b) (i : e ≡ entriesOf 4 (before .devices) (q .device)) (j : ne ≡ newEntry e q) (k : after ≡ afterOf (stationOf 4 t) before (q .device) ne) where
+    (h : before ≡ stateOf b) (i : e ≡ entriesOf 4 b (q .device)) (j : ne ≡ newEntry e q) (k : after ≡ afterOf (stationOf 4 t) before (q .device) ne) where
   stages : Stages 4 t b q
   stages = stages-passed true t b q (g .stages)
 
@@ -98,10 +98,11 @@ module _ (t b : List ℕ) (q : Request) (g : Asked t b q) (before : State) (e ne
   small-device = omega (arith, g .device, g .laid .devices)
 
   pub entry-is : e ≡ statusOf 4 b .entries (q .device)
-  entry-is = i ∙ ap (λ (x : State). entriesOf 4 (x .devices) (q .device)) h ∙ ap (λ (f : ℕ → Entry). f (q .device)) (entries-of b)
+  unfolding statusOf
+  entry-is = i
 
   new-is : ne ≡ newEntry (entriesOf 4 (stateOf b .devices) (q .device)) q
-  new-is = j ∙ ap (λ (x : Entry). newEntry x q) (i ∙ ap (λ (x : State). entriesOf 4 (x .devices) (q .device)) h)
+  new-is = j ∙ ap (λ (x : Entry). newEntry x q) (entry-is ∙ sym (ap (λ (f : ℕ → Entry). f (q .device)) (entries-of b)))
 
   devices-long : length (stateOf b .devices) ≡ 128
   unfolding stateOf

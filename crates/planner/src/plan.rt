@@ -29,8 +29,7 @@ pub fn carry(table: &[u8], state: &mut [u8], q: Request, plan: &mut [u32]) -> us
 {
     let d = q.device as usize;
     let before = status::image::load(state);
-    let devices = before.devices;
-    let e = status::image::entry(&devices, d);
+    let e = status::image::entry(state, d);
     let after = next_state(table, before, d, request::new_entry(e, q));
     let on = sets::minus(after.on, before.on);
     let off = sets::minus(before.on, after.on);
