@@ -35,13 +35,13 @@ where there is one: the answer number says at which stage. The inputs are in \`h
 
 $(cat target/bench.md)
 
-Where a table is refused at once (*table, mark*) the library is some nanoseconds slower: an exported function, \`request::stages::verdict\` and \`table::check::check_table\` stay three functions in the machine code and each
+Where a table is refused at once (*table, mark*) the library is a nanosecond or two slower: an exported function, \`request::stages::verdict\` and \`table::check::check_table\` stay three functions in the machine code and each
 saves six registers before the first byte is read.
 
 ## Instructions
 
-\`make instructions\`: instructions of one call, counted, so other programs on the machine do not change them. In each count are those of the benchmark's own call and of the Rust wrapper: 62 for the
-library, 33 for the reference.
+\`make instructions\`: instructions of one call, counted, so other programs on the machine do not change them. In each count are those of the benchmark's own call,
+about thirty on either side.
 
 $(cat target/instructions.md)
 

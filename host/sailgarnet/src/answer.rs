@@ -17,6 +17,7 @@ pub struct Answer {
 impl Answer {
     /// The answer read from the number a C function gave: number in bits 0 to
     /// 7, count in bits 8 to 23, place in bits 24 to 63.
+    #[inline]
     pub const fn unpack(packed: u64) -> Self {
         Self {
             number: packed as u8,
@@ -26,6 +27,7 @@ impl Answer {
     }
 
     /// The answer as a C function gives it. A place has at most 40 bits.
+    #[inline]
     pub const fn pack(self) -> u64 {
         self.number as u64 | (self.count as u64) << 8 | self.place << 24
     }

@@ -52,6 +52,7 @@ mod c {
 /// assert!(sailgarnet::fresh(&table, &mut state).is_done());
 /// assert_eq!(state, [0; sailgarnet::STATE_BYTES]);
 /// ```
+#[inline]
 pub fn fresh(table: &[u8], state: &mut [u8]) -> Answer {
     // SAFETY: each pointer is valid for its length, and a mutable borrow
     // overlaps no other.
@@ -89,6 +90,7 @@ pub fn fresh(table: &[u8], state: &mut [u8]) -> Answer {
 /// let answer = plan(&table, &mut state, Request::move_to(0, 1), &mut buffer);
 /// assert_eq!(answer.verdict(), Some(Verdict::StateNotSupported));
 /// ```
+#[inline]
 pub fn plan(table: &[u8], state: &mut [u8], request: Request, plan: &mut [u8]) -> Answer {
     let Request { kind, device, a, b } = request;
     // SAFETY: each pointer is valid for its length, and a mutable borrow
@@ -115,6 +117,7 @@ pub fn plan(table: &[u8], state: &mut [u8], request: Request, plan: &mut [u8]) -
 ///
 /// Gives 0, or a refusal: 1 to 8 and 10 to 18 as the planner gives them, 19 if
 /// the request is permitted and the list is not lawful.
+#[inline]
 pub fn check(table: &[u8], state: &[u8], request: Request, list: &[u8]) -> Answer {
     let Request { kind, device, a, b } = request;
     // SAFETY: each pointer is valid for its length, and nothing is written.
