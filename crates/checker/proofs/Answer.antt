@@ -24,7 +24,7 @@ use Rattle.request.specs.Stages.{stagesOf, stagesVerdict}
 use Rattle.planner.specs.Plan.{ownOf}
 use Rattle.planner.specs.After.{afterOf, Asked}
 use Rattle.planner.proofs.Whole.{own-of, entry-is, on-after, on-before}
-use Rattle.planner.specs.Phases.{switchWord}
+use Rattle.calls.specs.Switch.{switchWord}
 use Rattle.checker.specs.Phases.{follows, walked}
 use Rattle.checker.proofs.Walks.{take-by-words}
 

@@ -16,7 +16,7 @@ use Rattle.rules.specs.Check.{Rest, left, refused, resourceIn, mayCome, takeSet
 use Rattle.laws.proofs.Tests.{both-true}
 use Rattle.laws.proofs.Take.{take-stop, take-short, take-bad, take-one}
 use Rattle.checker.specs.declared.Taken.{Taken}
-use Rattle.planner.specs.Phases.{switchWord}
+use Rattle.calls.specs.Switch.{switchWord}
 use Rattle.checker.specs.Phases.{restOf, follows}
 
 -- ---- the order of two resources

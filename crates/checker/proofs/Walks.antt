@@ -15,7 +15,7 @@ use Rattle.rules.specs.Station.{Station}
 use Rattle.rules.specs.Calls.{wordOf}
 use Rattle.rules.specs.Check.{Rest, left, refused, andThen, takeCalls, takeSet, isEnd}
 use Rattle.checker.specs.declared.Taken.{Taken}
-use Rattle.planner.specs.Phases.{switchWord}
+use Rattle.calls.specs.Switch.{switchWord}
 use Rattle.checker.specs.Phases.{restOf, follows, takeWords, walked}
 use Rattle.checker.proofs.Phase.{rest-up-to, rest-refused}
 

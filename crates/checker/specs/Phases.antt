@@ -6,7 +6,7 @@ use lib.Dec.{eqb}
 use lib.ListN.{drop}
 use Rattle.rules.specs.Station.{Station}
 use Rattle.rules.specs.Check.{Rest, left, refused, andThen, takeSet, isEnd, notLower, notHigher}
-use Rattle.planner.specs.Phases.{switchWord}
+use Rattle.calls.specs.Switch.{switchWord}
 use Rattle.checker.specs.declared.Taken.{Taken}
 
 -- what is left of the list after a phase

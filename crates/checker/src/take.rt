@@ -7,7 +7,7 @@ ghost use lib.ListN.{length, drop};
 ghost use Rattle.rules.specs.Station.{countR, stationOf};
 ghost use Rattle.rules.specs.Check.{mayCome, takeSet};
 ghost use Rattle.table.specs.Layout.{Laid};
-ghost use Rattle.planner.specs.Phases.{switchWord};
+ghost use Rattle.calls.specs.Switch.{switchWord};
 ghost use Rattle.checker.specs.Phases.{restOf, follows};
 
 // Whether r's resourceorder may follow the last one's: not higher for OFFs, not lower for ONs.
@@ -29,7 +29,7 @@ fn may_come(table: &[u8], off: bool, left: u32, first: bool, last: usize, word: 
     ensures { λ b. ⌜ b ≡ mayCome (switchWord off) (follows (stationOf 4 (now (table .entry))) off) left first last word ⌝ }
 {
     let r = word / 256 % 256;
-    if word != planner::order::switch_word(off, r as u8) {
+    if word != calls::switch_word(off, r as u8) {
         return false;
     }
     if !sets::has(left, r) {

@@ -1,5 +1,3 @@
-pub mod Coding
-pub mod Inverse
 pub mod Keys
 pub mod Insertion
 pub mod Device

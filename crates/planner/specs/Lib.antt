@@ -1,4 +1,3 @@
-pub mod Ranges
 pub mod Phases
 pub mod Keys
 pub mod Plan

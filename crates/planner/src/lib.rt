@@ -2,5 +2,4 @@
 pub mod order;
 pub mod own;
 pub mod plan;
-pub mod word;
 pub mod write;

@@ -6,7 +6,7 @@ ghost use Rattle.rules.specs.Station.{countD, stationOf};
 ghost use Rattle.rules.specs.Calls.{wordOf, methodFor, moveCall, wakeCall, ownLast};
 ghost use Rattle.table.specs.Layout.{Laid};
 ghost use Rattle.planner.specs.Plan.{ownWords, callsMethod, ownOf};
-use crate::word::word_of;
+use calls::word_of;
 use rules::Call;
 use rules::Entry;
 use rules::Request;

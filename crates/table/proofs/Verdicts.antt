@@ -23,7 +23,7 @@ use Rattle.rules.proofs.Answers.{first-pass, first-stop, first-none, unless-of,
 use Rattle.laws.proofs.Accepted.{accepted}
 use Rattle.laws.proofs.Tests.{both-true}
 use Rattle.table.specs.Layout.{Laid}
-use Rattle.table.specs.Good.{noneBad}
+use Rattle.records.specs.Good.{noneBad}
 
 -- ---- each check, on the bytes
 module _ (t : List ℕ) where

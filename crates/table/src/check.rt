@@ -1,7 +1,5 @@
 // Whether any bytes are a power table, answers 1 to 6, and the bytes of one device's record.
 use crate::fields;
-use crate::quick;
-use crate::records;
 use rules::Verdict;
 ghost use mathlib.Core.Path.{_≡_};
 ghost use mathlib.Core.Bool.{true, not};
@@ -88,7 +86,7 @@ fn device_bad(table: &[u8], d: usize) -> bool
     ensures { λ b. ⌜ b ≡ not (deviceGood 4 (now (table .entry)) d) ⌝ }
 {
     let at = fields::start(table, d);
-    if !quick::record_good(table, at, d, fields::resources(table)) {
+    if !records::quick::record_good(table, at, d, fields::resources(table)) {
         return true;
     }
     !records::objects_good(table, at)

@@ -1,5 +1,3 @@
 // Reading a power table: its fields, and whether any bytes are one.
 pub mod check;
 pub mod fields;
-pub mod quick;
-pub mod records;

@@ -7,7 +7,7 @@ use lib.ListN.{length, drop}
 use Rattle.sets.proofs.Laws.{minus-lt}
 use Rattle.rules.specs.Station.{countR, stationOf}
 use Rattle.rules.specs.Check.{takeSet}
-use Rattle.planner.specs.Phases.{switchWord}
+use Rattle.calls.specs.Switch.{switchWord}
 use Rattle.checker.specs.Phases.{follows}
 use Rattle.checker.proofs.Phase.{rest-up-to, rest-refused, phase-done, phase-short, phase-bad, phase-next, come-member}
 use Rattle.checker.proofs.take.take_set.Statement.{statement}

@@ -1,0 +1,126 @@
+// A call as a word of the plan, and back; and the words that switch a resource.
+ghost use mathlib.Core.Path.{_≡_};
+ghost use Prim.Native.Nat.{_<_, _^_};
+ghost use Rattle.rules.specs.Calls.{word4, wordOf, wakeWord, callOf, callOfBytes, wakeOf};
+ghost use Rattle.calls.specs.Switch.{switchWord};
+use rules::Call;
+use rules::Wake;
+use rules::Word;
+
+// The word with these bytes, lowest first.
+fn word4(a: u8, b: u8, c: u8, d: u8) -> u32
+    ensures { λ r. ⌜ r ≡ word4 a b c d ⌝ }
+{
+    words::wide(a)
+        + 0x100 * words::wide(b)
+        + 0x1_0000 * words::wide(c)
+        + 0x100_0000 * words::wide(d)
+}
+
+// The word of a `_DSW` call.
+fn wake_word(device: u8, wake: Wake) -> u32
+    requires { ⌜ wakeWord device wake < 2 ^ 32 ⌝ }
+    ensures { λ r. ⌜ r ≡ wakeWord device wake ⌝ }
+{
+    match wake {
+        Wake::Enable { sleep, state } => word4(4, device, sleep, 128 + state),
+        Wake::Disable => word4(4, device, 0, 0),
+    }
+}
+
+// The word of a call. All fit but one with a wake state of 128 or more.
+pub fn word_of(call: Call) -> u32
+    requires { ⌜ wordOf call < 2 ^ 32 ⌝ }
+    ensures { λ r. ⌜ r ≡ wordOf call ⌝ }
+{
+    match call {
+        Call::ResourceOn(r) => word4(1, r, 0, 0),
+        Call::ResourceOff(r) => word4(2, r, 0, 0),
+        Call::SetState { device, state } => word4(3, device, state, 0),
+        Call::SetWake { device, wake } => wake_word(device, wake),
+    }
+}
+
+// What `_DSW`'s last two bytes say: two zeros, or S and 128 + D.
+fn wake_of(device: u8, x: u8, y: u8) -> Word
+    ensures { λ r. ⌜ r ≡ wakeOf device x y ⌝ }
+{
+    if y == 0 {
+        if x == 0 {
+            return Word::Is(Call::SetWake {
+                device,
+                wake: Wake::Disable,
+            });
+        }
+        return Word::NoCall;
+    }
+    if x > 4 {
+        return Word::NoCall;
+    }
+    if y < 128 {
+        return Word::NoCall;
+    }
+    if y > 132 {
+        return Word::NoCall;
+    }
+    Word::Is(Call::SetWake {
+        device,
+        wake: Wake::Enable {
+            sleep: x,
+            state: y - 128,
+        },
+    })
+}
+
+// The call with these bytes, if there is one.
+fn call_of_bytes(kind: u8, number: u8, x: u8, y: u8) -> Word
+    ensures { λ r. ⌜ r ≡ callOfBytes kind number x y ⌝ }
+{
+    if kind == 4 {
+        return wake_of(number, x, y);
+    }
+    if y != 0 {
+        return Word::NoCall;
+    }
+    if kind == 3 {
+        if x <= 3 {
+            return Word::Is(Call::SetState {
+                device: number,
+                state: x,
+            });
+        }
+        return Word::NoCall;
+    }
+    if x != 0 {
+        return Word::NoCall;
+    }
+    if kind == 1 {
+        return Word::Is(Call::ResourceOn(number));
+    }
+    if kind == 2 {
+        return Word::Is(Call::ResourceOff(number));
+    }
+    Word::NoCall
+}
+
+// What a word says: a call, or none.
+pub fn call_of(word: u32) -> Word
+    ensures { λ r. ⌜ r ≡ callOf word ⌝ }
+{
+    call_of_bytes(
+        (word % 0x100) as u8,
+        (word / 0x100 % 0x100) as u8,
+        (word / 0x1_0000 % 0x100) as u8,
+        (word / 0x100_0000) as u8,
+    )
+}
+
+// The word that turns a resource off, or on.
+pub fn switch_word(off: bool, r: u8) -> u32
+    ensures { λ w. ⌜ w ≡ switchWord off r ⌝ }
+{
+    if off {
+        return word_of(Call::ResourceOff(r));
+    }
+    word_of(Call::ResourceOn(r))
+}

@@ -1,8 +1,0 @@
--- `planner::word::wake_of` meets its contract. A law for each way out. Assumes nothing.
-use borrow.Author.Needs.{needs}
-use Rattle.planner.proofs.Coding.{wakes}
-use Rattle.planner.proofs.word.wake_of.Statement.{statement}
-use Rattle.planner.proofs.word.wake_of.Tie as tie
-
-pub wake-of-spec : {M : Type 1} → statement M
-wake-of-spec = tie.close (tie.spec (λ c. search (needs, wakes)) (λ c. search (needs, wakes)) (λ c. search (needs, wakes)) (λ c. search (needs, wakes)) (λ c. search (needs, wakes)) (λ c. search (needs, wakes)))
