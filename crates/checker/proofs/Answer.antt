@@ -19,7 +19,7 @@ use Rattle.rules.specs.Calls.{wordOf, ownCall, ownLast, toTurnOn, toTurnOff}
 use Rattle.rules.specs.Check.{Rest, onWord, offWord, notLower, notHigher, andThen, takeCalls, takeSet, isEnd, ownFirstCalls, ownLastCalls, conforming}
 use Rattle.rules.specs.Outcomes.{permittedVerdict}
 use Rattle.rules.proofs.Answers.{first-pass, first-stop, first-none, unless-of, unless-stop}
-use Rattle.status.specs.State.{stateOf}
+use Rattle.image.specs.State.{stateOf}
 use Rattle.request.specs.Stages.{stagesOf, stagesVerdict}
 use Rattle.planner.specs.Plan.{ownOf}
 use Rattle.planner.specs.After.{afterOf, Asked}

@@ -15,8 +15,8 @@ pub fn conforming(table: &[u8], state: &[u8], q: Request, list: &[u32]) -> bool
     ensures { λ r. ⌜ r ≡ conforming (stationOf 4 (now (table .entry))) (statusOf 4 (now (state .entry))) q (now (list .entry)) ⌝ }
 {
     let d = q.device as usize;
-    let before = status::image::load(state);
-    let e = status::image::entry(state, d);
+    let before = image::load(state);
+    let e = image::entry(state, d);
     let after = planner::plan::next_state(table, before, d, request::new_entry(e, q));
     let on = sets::minus(after.on, before.on);
     let off = sets::minus(before.on, after.on);

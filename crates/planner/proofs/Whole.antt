@@ -27,9 +27,9 @@ use Rattle.laws.proofs.States.{sound-of}
 use Rattle.laws.proofs.Runs.{Stages}
 use Rattle.laws.proofs.Demand3.{end-lt, on-lt}
 use Rattle.table.proofs.Verdicts.{laid-of}
-use Rattle.status.specs.State.{stateOf, bytesOf, withEntry}
-use Rattle.status.proofs.Held.{entries-of}
-use Rattle.status.proofs.Written.{after-entries, after-image}
+use Rattle.image.specs.State.{stateOf, bytesOf, withEntry}
+use Rattle.image.proofs.Held.{entries-of}
+use Rattle.image.proofs.Written.{after-entries, after-image}
 use Rattle.request.specs.Stages.{stagesOf, stagesVerdict}
 use Rattle.request.proofs.Rules.{form-small, form-device-below}
 use Rattle.planner.specs.Plan.{ownOf, planWords, Apart}

@@ -15,7 +15,7 @@ use Rattle.rules.specs.Status.{entriesOf}
 use Rattle.rules.specs.Outcomes.{planned, stateAfter}
 use Rattle.table.specs.Layout.{Laid}
 use Rattle.request.specs.Stages.{stagesVerdict}
-use Rattle.status.specs.State.{withEntry}
+use Rattle.image.specs.State.{withEntry}
 
 -- with device d's entry e, and the needed set of these entries on
 unfoldable pub afterOf : Station → State → ℕ → Entry → State

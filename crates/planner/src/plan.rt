@@ -16,7 +16,7 @@ pub fn next_state(table: &[u8], before: State, d: usize, e: Entry) -> State
     requires { ⌜ Laid (now table) × (d < countD (now table)) ⌝ }
     ensures { λ r. ⌜ r ≡ afterOf (stationOf 4 (now (table .entry))) before d e ⌝ }
 {
-    let entered = status::image::with_entry(before, d, e);
+    let entered = image::with_entry(before, d, e);
     let devices = entered.devices;
     let on = status::needed::needed(table, &devices);
     State { devices, on }
@@ -28,13 +28,13 @@ pub fn carry(table: &[u8], state: &mut [u8], q: Request, plan: &mut [u32]) -> us
     ensures { λ r. ⌜ Carried (now (table .entry)) (now (state .entry)) q (now (plan .entry)) r (now (state .exit)) (now (plan .exit)) ⌝ }
 {
     let d = q.device as usize;
-    let before = status::image::load(state);
-    let e = status::image::entry(state, d);
+    let before = image::load(state);
+    let e = image::entry(state, d);
     let after = next_state(table, before, d, request::new_entry(e, q));
     let on = sets::minus(after.on, before.on);
     let off = sets::minus(before.on, after.on);
     let count = crate::write::write_calls(table, e, q, on, off, plan);
-    status::image::store(after, state);
+    image::store(after, state);
     count
 }
 

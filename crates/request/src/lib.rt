@@ -61,7 +61,7 @@ fn parent_allows(table: &[u8], devices: &[u8], d: usize, x: u8) -> bool
     if p == 255 {
         return true;
     }
-    let up = status::image::entry(devices, p as usize);
+    let up = image::entry(devices, p as usize);
     up.state <= x
 }
 
@@ -74,7 +74,7 @@ fn child_bars(table: &[u8], devices: &[u8], d: usize, x: u8, c: usize) -> bool
     if p as usize != d {
         return false;
     }
-    let e = status::image::entry(devices, c);
+    let e = image::entry(devices, c);
     e.state < x
 }
 
@@ -99,7 +99,7 @@ fn move_verdict(table: &[u8], devices: &[u8], d: usize, x: u8) -> Verdict
     requires { ⌜ Ready (now table) (now devices) × (d < countD (now table)) ⌝ }
     ensures { λ r. ⌜ r ≡ moveVerdict (stationOf 4 (now (table .entry))) (entriesOf 4 (now (devices .entry))) d x ⌝ }
 {
-    let e = status::image::entry(devices, d);
+    let e = image::entry(devices, d);
     if !power::states::supported(table, d, x) {
         return Verdict::Unsupported;
     }
@@ -153,7 +153,7 @@ fn arm_verdict(table: &[u8], devices: &[u8], d: usize, x: u8, y: u8) -> Verdict
     if !power::wake::wake_state(table, d, x, y) {
         return Verdict::BadWakeState;
     }
-    let e = status::image::entry(devices, d);
+    let e = image::entry(devices, d);
     if e.state > y {
         return Verdict::BadWakeState;
     }

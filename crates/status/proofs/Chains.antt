@@ -21,9 +21,9 @@ use Rattle.rules.specs.Outcomes.{outcome, freshVerdict, fresh}
 use Rattle.rules.proofs.Answers.{first-pass, first-stop, first-none, first-both, unless-of}
 use Rattle.laws.proofs.Accepted.{accepted}
 use Rattle.table.proofs.Verdicts.{laid-done, laid-told, accepted-is}
-use Rattle.status.specs.State.{bytesOf, freshState}
+use Rattle.image.specs.State.{bytesOf, freshState}
 use Rattle.status.specs.Ready.{Ready, statusWith}
-use Rattle.status.proofs.Held.{fresh-image}
+use Rattle.image.proofs.Held.{fresh-image}
 
 -- ---- a chain that passes comes to its last answer
 first-done : (vs : List Verdict) (last : Verdict) → passes (firstOf vs last) ≡ true → firstOf vs last ≡ last

@@ -22,7 +22,7 @@ use Rattle.rules.proofs.Index.{every-at}
 use Rattle.laws.proofs.Tests.{both-true, or-cases}
 use Rattle.table.specs.Layout.{Laid}
 use Rattle.status.specs.Ready.{Ready, statusWith}
-use Rattle.status.proofs.Held.{entry-in}
+use Rattle.image.proofs.Held.{entry-in}
 use Rattle.status.proofs.Loops.{Looking, lowest-found, lowest-all}
 
 -- D by the table's byte, and as the station has it

@@ -1,5 +1,3 @@
-pub mod Held
-pub mod Written
 pub mod Loops
 pub mod Ranges
 pub mod Keeps

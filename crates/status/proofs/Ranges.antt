@@ -20,7 +20,7 @@ use Rattle.rules.specs.Status.{entryAt, entriesOf, entryGood, entryZero, entrie
 use Rattle.rules.proofs.Index.{every-at, every-of}
 use Rattle.laws.proofs.Tests.{both-true, and-true, or-left}
 use Rattle.power.proofs.Every.{every-suc, same-test}
-use Rattle.status.proofs.Held.{entry-in}
+use Rattle.image.proofs.Held.{entry-in}
 
 -- ---- an entry as the number that its four bytes make
 

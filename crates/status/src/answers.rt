@@ -36,7 +36,7 @@ pub fn fresh(table: &[u8], state: &mut [u8]) -> rules::Verdict
         return rules::Verdict::BadState;
     }
     let resources = table::fields::resources(table);
-    let made = crate::image::fresh_state(resources as u32);
-    crate::image::store(made, state);
+    let made = image::fresh_state(resources as u32);
+    image::store(made, state);
     rules::Verdict::Done(0)
 }

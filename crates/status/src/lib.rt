@@ -1,6 +1,5 @@
-// The state image: reading and writing it, and whether it is good for a table.
+// Whether a state image is good for a table, what its devices need, and a fresh one.
 pub mod answers;
-pub mod image;
 pub mod needed;
 pub mod sound;
 pub mod values;

@@ -16,7 +16,7 @@ pub fn needed(table: &[u8], devices: &[u8]) -> u32
     let mut all: u32 = 0;
     let mut i = 0;
     while i < n {
-        let e = crate::image::entry(devices, i);
+        let e = image::entry(devices, i);
         all = sets::union(all, power::states::needs(table, i, e));
         i += 1;
     }

@@ -18,8 +18,8 @@ pub fn under_parent(table: &[u8], devices: &[u8], d: usize) -> bool
     if p == 255 {
         return true;
     }
-    let up = crate::image::entry(devices, p as usize);
-    let own = crate::image::entry(devices, d);
+    let up = image::entry(devices, p as usize);
+    let own = image::entry(devices, d);
     up.state <= own.state
 }
 
@@ -32,7 +32,7 @@ pub fn wake_sound(table: &[u8], devices: &[u8], d: usize) -> bool
     if devices[at + 1] != 1 {
         return true;
     }
-    let e = crate::image::entry(devices, d);
+    let e = image::entry(devices, d);
     if !power::wake::wake_pair(table, d, e.sleep, e.wake) {
         return false;
     }
@@ -44,7 +44,7 @@ pub fn consistent_but_power(table: &[u8], devices: &[u8], d: usize) -> bool
     requires { ⌜ Ready (now table) (now devices) × (d < countD (now table)) ⌝ }
     ensures { λ r. ⌜ r ≡ consistentButPower (stationOf 4 (now (table .entry))) (entriesOf 4 (now (devices .entry))) d ⌝ }
 {
-    let e = crate::image::entry(devices, d);
+    let e = image::entry(devices, d);
     if !power::states::supported(table, d, e.state) {
         return false;
     }
@@ -59,7 +59,7 @@ pub fn powered(table: &[u8], devices: &[u8], on: u32, d: usize) -> bool
     requires { ⌜ Laid (now table) × (128 ≤ length (now devices)) × (d < countD (now table)) ⌝ }
     ensures { λ r. ⌜ r ≡ powered (stationOf 4 (now (table .entry))) (statusWith (now (devices .entry)) on) d ⌝ }
 {
-    let e = crate::image::entry(devices, d);
+    let e = image::entry(devices, d);
     sets::within(power::states::needs(table, d, e), on)
 }
 

@@ -25,7 +25,7 @@ fn place_good(devices: &[u8], k: usize) -> bool
     if words::read32(devices, 4 * k) <= 4 {
         return true;
     }
-    entry_good(crate::image::entry(devices, k))
+    entry_good(image::entry(devices, k))
 }
 
 // Each of the first n entries is good.

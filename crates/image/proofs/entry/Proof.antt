@@ -1,8 +1,8 @@
 -- The four bytes are read as the definition reads them. Assumes nothing.
 use borrow.Author.Needs.{needs}
-use Rattle.status.proofs.Held.{held}
-use Rattle.status.proofs.image.entry.Statement.{statement}
-use Rattle.status.proofs.image.entry.Tie as tie
+use Rattle.image.proofs.Held.{held}
+use Rattle.image.proofs.entry.Statement.{statement}
+use Rattle.image.proofs.entry.Tie as tie
 
 pub entry-spec : {M : Type 1} → statement M
 entry-spec =

@@ -3,7 +3,7 @@ ghost use mathlib.Core.Path.{_≡_};
 ghost use Prim.Native.Nat.{_<_, _≤_};
 ghost use lib.ListN.{length};
 ghost use Rattle.rules.specs.Status.{entriesOf};
-ghost use Rattle.status.specs.State.{stateOf, bytesOf, freshState, withEntry};
+ghost use Rattle.image.specs.State.{stateOf, bytesOf, freshState, withEntry};
 
 // Every device in D0, none armed, the given number of resources on.
 pub fn fresh_state(resources: u32) -> rules::State

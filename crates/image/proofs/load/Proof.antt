@@ -4,9 +4,9 @@ use mathlib.Core.Path.{_≡_}
 use borrow.Author.Needs.{needs}
 use lib.ListN.{length, take}
 use Rattle.words.proofs.Put.{Emitted, emitted-none, emitted-copy}
-use Rattle.status.proofs.Held.{held}
-use Rattle.status.proofs.image.load.Statement.{statement}
-use Rattle.status.proofs.image.load.Tie as tie
+use Rattle.image.proofs.Held.{held}
+use Rattle.image.proofs.load.Statement.{statement}
+use Rattle.image.proofs.load.Tie as tie
 
 abbrev Inv-loop : tie.InvT-loop
 Inv-loop image devices₀ i₀ devices i = (i ≤ 128) × (length devices₀ ≡ 128) × Emitted devices₀ 0 (take i image) devices i

@@ -4,9 +4,9 @@ use mathlib.Core.Path.{_≡_}
 use borrow.Author.Needs.{needs}
 use lib.ListN.{length, take}
 use Rattle.words.proofs.Put.{Emitted, emitted-none, emitted-copy}
-use Rattle.status.proofs.Held.{held}
-use Rattle.status.proofs.image.store.Statement.{statement}
-use Rattle.status.proofs.image.store.Tie as tie
+use Rattle.image.proofs.Held.{held}
+use Rattle.image.proofs.store.Statement.{statement}
+use Rattle.image.proofs.store.Tie as tie
 
 abbrev Inv-loop : tie.InvT-loop
 Inv-loop state image₀ devices i₀ image i = (i ≤ 128) × (length devices ≡ 128) × Emitted image₀ 0 (take i devices) image i

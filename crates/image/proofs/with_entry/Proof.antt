@@ -1,8 +1,8 @@
 -- Four stores, one after another, are the entry's bytes in their place. Assumes nothing.
 use borrow.Author.Needs.{needs}
-use Rattle.status.proofs.Written.{with-is}
-use Rattle.status.proofs.image.with_entry.Statement.{statement}
-use Rattle.status.proofs.image.with_entry.Tie as tie
+use Rattle.image.proofs.Written.{with-is}
+use Rattle.image.proofs.with_entry.Statement.{statement}
+use Rattle.image.proofs.with_entry.Tie as tie
 
 pub with-entry-spec : {M : Type 1} → statement M
 with-entry-spec =

@@ -19,8 +19,8 @@ use Rattle.rules.specs.Status.{entryAt, entryBytes, entriesOf, statusOf, imageO
 use Rattle.rules.specs.Power.{needed}
 use Rattle.rules.specs.Request.{newEntry, entriesAfter}
 use Rattle.rules.specs.Calls.{endSet, statusAfter}
-use Rattle.status.specs.State.{stateOf, bytesOf, statusIn, withEntry}
-use Rattle.status.proofs.Held.{entry-in, entry-out, entry-same, entries-of, image-of}
+use Rattle.image.specs.State.{stateOf, bytesOf, statusIn, withEntry}
+use Rattle.image.proofs.Held.{entry-in, entry-out, entry-same, entries-of, image-of}
 
 -- ---- a run of stores
 

@@ -21,7 +21,7 @@ use Rattle.rules.specs.Index.{below}
 use Rattle.rules.specs.Station.{Station}
 use Rattle.rules.specs.Status.{noEntry, entryAt, entryBytes, entriesOf, statusOf, entriesBytes, imageOf, freshStatus}
 use Rattle.rules.proofs.Index.{below-in, below-out}
-use Rattle.status.specs.State.{stateOf, bytesOf, statusIn, freshState}
+use Rattle.image.specs.State.{stateOf, bytesOf, statusIn, freshState}
 
 -- ---- one entry
 
