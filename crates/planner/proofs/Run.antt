@@ -22,7 +22,7 @@ use Rattle.rules.specs.Check.{onWord, offWord}
 use Rattle.laws.proofs.Sort.{length-sort}
 use Rattle.planner.specs.declared.own.Own.{Own}
 use Rattle.planner.specs.declared.own.Own.the-variants.{Word, NoCall}
-use Rattle.planner.specs.Phases.{switchWords, phaseWords}
+use Rattle.order.specs.Phases.{switchWords, phaseWords}
 use Rattle.planner.specs.Plan.{ownWords, ownOf, planWords, Apart}
 
 -- ---- the own call's word

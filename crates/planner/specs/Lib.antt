@@ -1,4 +1,2 @@
-pub mod Phases
-pub mod Keys
 pub mod Plan
 pub mod After

@@ -1,5 +1,4 @@
 // The planner: the calls of a request, in their order, as words of a lent plan.
-pub mod order;
 pub mod own;
 pub mod plan;
 pub mod write;

@@ -5,12 +5,12 @@ ghost use lib.ListN.{length};
 ghost use Rattle.words.specs.Words.{put};
 ghost use Rattle.rules.specs.Station.{countR, countD, stationOf};
 ghost use Rattle.table.specs.Layout.{Laid};
-ghost use Rattle.planner.specs.Phases.{phaseWords};
+ghost use Rattle.order.specs.Phases.{phaseWords};
 ghost use Rattle.planner.specs.Plan.{ownWords, planWords, Apart};
-use crate::order::emit;
 use crate::own::Own;
 use crate::own::own_call;
 use crate::own::own_last;
+use order::emit;
 use rules::Entry;
 use rules::Request;
 

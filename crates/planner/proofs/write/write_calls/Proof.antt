@@ -4,7 +4,7 @@ use native.Mathlib.Omega.{arith}
 use Prim.Native.Nat.{_+_, _≤_}
 use lib.ListN.{length}
 use Rattle.rules.specs.Station.{stationOf}
-use Rattle.planner.specs.Phases.{phaseWords}
+use Rattle.order.specs.Phases.{phaseWords}
 use Rattle.planner.specs.Plan.{ownWords}
 use Rattle.planner.proofs.Run.{runs-fit, plan-last, plan-first, written}
 use borrow.Author.Needs.{needs}
