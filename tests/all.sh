@@ -6,8 +6,10 @@ passed=0
 failed=0
 
 step() {
+  local began=$SECONDS
   echo "== $*"
   if "$@"; then passed=$((passed + 1)); else failed=$((failed + 1)); echo "FAILED: $*"; fi
+  echo "-- $((SECONDS - began)) s"
 }
 
 # rt ci proves every crate from nothing, tries the must-fail edits and runs the programs

@@ -53,7 +53,7 @@ pub fn fresh_states() -> usize
 fn judge(table: &[u8], image: &[u8]) -> Verdict
     ensures { λ v. ⌜ v ≡ firstOf (tableVerdict 4 (now (table .entry)) ∷ []) (stateVerdict 4 (stationOf 4 (now (table .entry))) (now (image .entry))) ⌝ }
 {
-    let verdict = table::check::check_table(table);
+    let verdict = table::check_table(table);
     if !rules::passes(verdict) {
         return verdict;
     }

@@ -11,7 +11,7 @@ ghost use Rattle.rules.specs.Table.{tableVerdict};
 pub fn judged(table: &[u8]) -> u8
     ensures { λ r. ⌜ r ≡ numberOf (tableVerdict 4 (now (table .entry))) ⌝ }
 {
-    lines::answer(table::check::check_table(table))
+    lines::answer(table::check_table(table))
 }
 
 // A table of no resources and some bare devices: one line.
@@ -36,7 +36,7 @@ fn record(n: usize, d: usize) -> usize
     let bytes = station::table();
     lines::count(b"record ", d);
     lines::colon();
-    let part = table::check::record(&bytes[..n], d);
+    let part = table::record(&bytes[..n], d);
     lines::count(b" ", part.len());
     if part.len() <= 4096 {
         lines::count(b" ", lines::total(part));

@@ -8,7 +8,7 @@ ghost use Prim.Native.Nat.{_^_, _<_, _≤_};
 ghost use lib.ListN.{length, drop};
 ghost use Rattle.rules.specs.Station.{countR, stationOf};
 ghost use Rattle.planner.specs.Plan.{ownWords};
-ghost use Rattle.table.specs.Layout.{Laid};
+ghost use Rattle.fields.specs.Layout.{Laid};
 ghost use Rattle.checker.specs.Phases.{restOf, takeWords, walked};
 
 // The place after the own call's word, if there is one.

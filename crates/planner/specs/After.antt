@@ -13,7 +13,7 @@ use Rattle.rules.specs.Station.{Station, countD}
 use Rattle.rules.specs.Power.{needed}
 use Rattle.rules.specs.Status.{entriesOf}
 use Rattle.rules.specs.Outcomes.{planned, stateAfter}
-use Rattle.table.specs.Layout.{Laid}
+use Rattle.fields.specs.Layout.{Laid}
 use Rattle.request.specs.Stages.{stagesVerdict}
 use Rattle.image.specs.State.{withEntry}
 

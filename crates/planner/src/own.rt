@@ -4,14 +4,13 @@ ghost use mathlib.Core.List.{map};
 ghost use Prim.Native.Nat.{_<_, _≤_};
 ghost use Rattle.rules.specs.Station.{countD, stationOf};
 ghost use Rattle.rules.specs.Calls.{wordOf, methodFor, moveCall, wakeCall, ownLast};
-ghost use Rattle.table.specs.Layout.{Laid};
+ghost use Rattle.fields.specs.Layout.{Laid};
 ghost use Rattle.planner.specs.Plan.{ownWords, callsMethod, ownOf};
 use calls::word_of;
 use rules::Call;
 use rules::Entry;
 use rules::Request;
 use rules::Wake;
-use table::fields;
 
 // The word of the own call, or that there is none.
 pub enum Own {

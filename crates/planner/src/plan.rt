@@ -8,7 +8,7 @@ ghost use Prim.Native.Nat.{_<_, _≤_};
 ghost use lib.ListN.{length};
 ghost use Rattle.rules.specs.Station.{countD, stationOf};
 ghost use Rattle.rules.specs.Outcomes.{planWords};
-ghost use Rattle.table.specs.Layout.{Laid};
+ghost use Rattle.fields.specs.Layout.{Laid};
 ghost use Rattle.planner.specs.After.{afterOf, Asked, Carried};
 
 // The state after the request: the device's new entry, and exactly what is then needed on.

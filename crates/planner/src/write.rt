@@ -4,7 +4,7 @@ ghost use Prim.Native.Nat.{_+_, _^_, _<_, _≤_};
 ghost use lib.ListN.{length};
 ghost use Rattle.words.specs.Words.{put};
 ghost use Rattle.rules.specs.Station.{countR, countD, stationOf};
-ghost use Rattle.table.specs.Layout.{Laid};
+ghost use Rattle.fields.specs.Layout.{Laid};
 ghost use Rattle.order.specs.Phases.{phaseWords};
 ghost use Rattle.planner.specs.Plan.{ownWords, planWords, Apart};
 use crate::own::Own;

@@ -6,7 +6,7 @@ ghost use lib.Dec.{leb, ltb};
 ghost use Rattle.sets.specs.Sets.{member};
 ghost use Rattle.rules.specs.Station.{countR, countD, stationOf};
 ghost use Rattle.rules.specs.Power.{wakeFrom, wakePowered, wakeState, wakePair};
-ghost use Rattle.table.specs.Layout.{Laid};
+ghost use Rattle.fields.specs.Layout.{Laid};
 
 // `_PRW` exists, and x is not above its deepest state.
 pub fn wake_from(table: &[u8], d: usize, x: u8) -> bool
@@ -14,7 +14,7 @@ pub fn wake_from(table: &[u8], d: usize, x: u8) -> bool
     ensures { λ r. ⌜ r ≡ wakeFrom (stationOf 4 (now (table .entry))) d x ⌝ }
 {
     if crate::states::has_prw(table, d) {
-        return x <= table::fields::deepest(table, d);
+        return x <= fields::deepest(table, d);
     }
     false
 }
@@ -24,8 +24,8 @@ pub fn powered(table: &[u8], r: usize, x: u8) -> bool
     requires { ⌜ Laid (now table) ⌝ }
     ensures { λ b. ⌜ b ≡ (not (ltb r (countR (now (table .entry)))) || leb x (stationOf 4 (now (table .entry)) .resource r .level)) ⌝ }
 {
-    if r < table::fields::resources(table) {
-        return x <= table::fields::level(table, r);
+    if r < fields::resources(table) {
+        return x <= fields::level(table, r);
     }
     true
 }
@@ -43,7 +43,7 @@ pub fn wake_powered(table: &[u8], d: usize, x: u8) -> bool
     requires { ⌜ Laid (now table) × (d < countD (now table)) ⌝ }
     ensures { λ r. ⌜ r ≡ wakePowered (stationOf 4 (now (table .entry))) d x ⌝ }
 {
-    let mut rest = table::fields::set(table, d, 4);
+    let mut rest = fields::set(table, d, 4);
     while 0 < rest {
         let r = lowest(rest);
         rest = sets::without(rest, r);
@@ -60,8 +60,8 @@ pub fn wake_state(table: &[u8], d: usize, x: u8, y: u8) -> bool
     ensures { λ r. ⌜ r ≡ wakeState (stationOf 4 (now (table .entry))) d x y ⌝ }
 {
     if crate::states::supported(table, d, y) {
-        let sxd = table::fields::sxd(table, d, x as usize);
-        let sxw = table::fields::sxw(table, d, x as usize);
+        let sxd = fields::sxd(table, d, x as usize);
+        let sxw = fields::sxw(table, d, x as usize);
         return crate::range::wake_range(sxd, sxw, y);
     }
     false

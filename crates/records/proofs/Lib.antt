@@ -1,3 +1,1 @@
 pub mod OnBytes
-pub mod Bad
-pub mod NoneBad

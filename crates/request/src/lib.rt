@@ -12,7 +12,7 @@ ghost use Rattle.rules.specs.Station.{countD, stationOf};
 ghost use Rattle.rules.specs.Status.{entriesOf};
 ghost use Rattle.rules.specs.Request.{formGood, notShallowerOrD0, parentAllows, childBars, wakeAllows, moveVerdict, armVerdict, requestVerdict, newEntry};
 ghost use Rattle.request.specs.Form.{numbersGood};
-ghost use Rattle.table.specs.Layout.{Laid};
+ghost use Rattle.fields.specs.Layout.{Laid};
 ghost use Rattle.status.specs.Ready.{Ready};
 
 // 10: whether kind and numbers are in range and unused ones zero.
@@ -45,7 +45,7 @@ pub fn form_good(table: &[u8], q: Request) -> bool
     requires { ⌜ Laid (now table) ⌝ }
     ensures { λ r. ⌜ r ≡ formGood (stationOf 4 (now (table .entry))) q ⌝ }
 {
-    let n = table::fields::devices(table);
+    let n = fields::devices(table);
     if q.device as usize >= n {
         return false;
     }
@@ -57,7 +57,7 @@ fn parent_allows(table: &[u8], devices: &[u8], d: usize, x: u8) -> bool
     requires { ⌜ Ready (now table) (now devices) × (d < countD (now table)) ⌝ }
     ensures { λ r. ⌜ r ≡ parentAllows (stationOf 4 (now (table .entry))) (entriesOf 4 (now (devices .entry))) d x ⌝ }
 {
-    let p = table::fields::parent(table, d);
+    let p = fields::parent(table, d);
     if p == 255 {
         return true;
     }
@@ -70,7 +70,7 @@ fn child_bars(table: &[u8], devices: &[u8], d: usize, x: u8, c: usize) -> bool
     requires { ⌜ Ready (now table) (now devices) × (d < countD (now table)) × (c < countD (now table)) ⌝ }
     ensures { λ r. ⌜ r ≡ childBars (stationOf 4 (now (table .entry))) (entriesOf 4 (now (devices .entry))) d x c ⌝ }
 {
-    let p = table::fields::parent(table, c);
+    let p = fields::parent(table, c);
     if p as usize != d {
         return false;
     }
@@ -83,7 +83,7 @@ fn lowest_child(table: &[u8], devices: &[u8], d: usize, x: u8) -> usize
     requires { ⌜ Ready (now table) (now devices) × (d < countD (now table)) ⌝ }
     ensures { λ r. ⌜ r ≡ least (childBars (stationOf 4 (now (table .entry))) (entriesOf 4 (now (devices .entry))) d x) (countD (now (table .entry))) ⌝ }
 {
-    let n = table::fields::devices(table);
+    let n = fields::devices(table);
     let mut i = 0;
     while i < n {
         if child_bars(table, devices, d, x, i) {
@@ -107,10 +107,10 @@ fn move_verdict(table: &[u8], devices: &[u8], d: usize, x: u8) -> Verdict
         return Verdict::Shallower;
     }
     if !parent_allows(table, devices, d, x) {
-        return Verdict::ParentDeeper(table::fields::parent(table, d) as usize);
+        return Verdict::ParentDeeper(fields::parent(table, d) as usize);
     }
     let c = lowest_child(table, devices, d, x);
-    if c < table::fields::devices(table) {
+    if c < fields::devices(table) {
         return Verdict::ChildShallower(c);
     }
     if !wake_allows(e, x) {

@@ -8,7 +8,7 @@ ghost use Rattle.request.specs.Stages.{stagesVerdict};
 pub fn verdict(table: &[u8], state: &[u8], room: bool, q: Request) -> Verdict
     ensures { λ r. ⌜ r ≡ stagesVerdict room (now (table .entry)) (now (state .entry)) q ⌝ }
 {
-    let of_table = table::check::check_table(table);
+    let of_table = table::check_table(table);
     if !rules::passes(of_table) {
         return of_table;
     }

@@ -20,7 +20,7 @@ use Rattle.rules.specs.Power.{supported, needs, neededBelow, needed, wakePair}
 use Rattle.rules.specs.Status.{Status, entryAt, entriesOf, entryGood, entriesGood, underParent, wakeSound, consistentButPower, powered, consistent, consistencyVerdict}
 use Rattle.rules.proofs.Index.{every-at}
 use Rattle.laws.proofs.Tests.{both-true, or-cases}
-use Rattle.table.specs.Layout.{Laid}
+use Rattle.fields.specs.Layout.{Laid}
 use Rattle.status.specs.Ready.{Ready, statusWith}
 use Rattle.image.proofs.Held.{entry-in}
 use Rattle.status.proofs.Loops.{Looking, lowest-found, lowest-all}

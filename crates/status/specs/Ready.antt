@@ -7,7 +7,7 @@ use lib.ListN.{length}
 use Rattle.rules.specs.Station.{countD, stationOf}
 use Rattle.rules.specs.Table.{parentGood}
 use Rattle.rules.specs.Status.{Status, entriesOf, entriesGood}
-use Rattle.table.specs.Layout.{Laid}
+use Rattle.fields.specs.Layout.{Laid}
 
 pub record Ready (t b : List ℕ) : Type 0 where
   pub laid : Laid t

@@ -28,14 +28,14 @@ pub fn check_state(table: &[u8], image: &[u8]) -> rules::Verdict
 pub fn fresh(table: &[u8], state: &mut [u8]) -> rules::Verdict
     ensures { λ r. ⌜ (r ≡ fresh 4 (now (table .entry)) (now (state .entry)) .verdict) × (now (state .exit) ≡ fresh 4 (now (table .entry)) (now (state .entry)) .state) ⌝ }
 {
-    let verdict = table::check::check_table(table);
+    let verdict = table::check_table(table);
     if !rules::passes(verdict) {
         return verdict;
     }
     if state.len() != 132 {
         return rules::Verdict::BadState;
     }
-    let resources = table::fields::resources(table);
+    let resources = fields::resources(table);
     let made = image::fresh_state(resources as u32);
     image::store(made, state);
     rules::Verdict::Done(0)

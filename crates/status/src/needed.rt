@@ -5,14 +5,14 @@ ghost use lib.ListN.{length};
 ghost use Rattle.rules.specs.Station.{stationOf};
 ghost use Rattle.rules.specs.Power.{needed};
 ghost use Rattle.rules.specs.Status.{entriesOf};
-ghost use Rattle.table.specs.Layout.{Laid};
+ghost use Rattle.fields.specs.Layout.{Laid};
 
 // The union of what each device needs with its entry.
 pub fn needed(table: &[u8], devices: &[u8]) -> u32
     requires { ⌜ Laid (now table) × (128 ≤ length (now devices)) ⌝ }
     ensures { λ r. ⌜ r ≡ needed (stationOf 4 (now (table .entry))) (entriesOf 4 (now (devices .entry))) ⌝ }
 {
-    let n = table::fields::devices(table);
+    let n = fields::devices(table);
     let mut all: u32 = 0;
     let mut i = 0;
     while i < n {

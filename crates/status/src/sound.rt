@@ -6,7 +6,7 @@ ghost use lib.ListN.{length};
 ghost use Rattle.rules.specs.Station.{countD, stationOf};
 ghost use Rattle.rules.specs.Table.{parentGood};
 ghost use Rattle.rules.specs.Status.{entriesOf, underParent, wakeSound, consistentButPower, powered, consistent, consistencyVerdict};
-ghost use Rattle.table.specs.Layout.{Laid};
+ghost use Rattle.fields.specs.Layout.{Laid};
 ghost use Rattle.status.specs.Ready.{Ready, statusWith};
 
 // Device d is not shallower than its parent.
@@ -14,7 +14,7 @@ pub fn under_parent(table: &[u8], devices: &[u8], d: usize) -> bool
     requires { ⌜ Laid (now table) × (128 ≤ length (now devices)) × (d < countD (now table)) × (parentGood d (stationOf 4 (now table) .device d) ≡ true) ⌝ }
     ensures { λ r. ⌜ r ≡ underParent (stationOf 4 (now (table .entry))) (entriesOf 4 (now (devices .entry))) d ⌝ }
 {
-    let p = table::fields::parent(table, d);
+    let p = fields::parent(table, d);
     if p == 255 {
         return true;
     }
@@ -79,7 +79,7 @@ pub fn consistency(table: &[u8], devices: &[u8], on: u32) -> rules::Verdict
     requires { ⌜ Ready (now table) (now devices) ⌝ }
     ensures { λ r. ⌜ r ≡ consistencyVerdict (stationOf 4 (now (table .entry))) (statusWith (now (devices .entry)) on) ⌝ }
 {
-    let n = table::fields::devices(table);
+    let n = fields::devices(table);
     let mut i = 0;
     while i < n {
         let d = i;

@@ -7,7 +7,7 @@ ghost use lib.ListN.{length};
 ghost use Rattle.rules.specs.Index.{every};
 ghost use Rattle.rules.specs.Station.{stationOf};
 ghost use Rattle.rules.specs.Status.{entriesOf, entryGood, entryZero, entriesGood, onGood};
-ghost use Rattle.table.specs.Layout.{Laid};
+ghost use Rattle.fields.specs.Layout.{Laid};
 
 // Each number in its range, and no wake pair unless armed.
 pub fn entry_good(e: rules::Entry) -> bool
@@ -63,7 +63,7 @@ pub fn entries_good(table: &[u8], devices: &[u8]) -> bool
     requires { ⌜ Laid (now table) × (128 ≤ length (now devices)) ⌝ }
     ensures { λ r. ⌜ r ≡ entriesGood 32 (stationOf 4 (now (table .entry))) (entriesOf 4 (now (devices .entry))) ⌝ }
 {
-    let n = table::fields::devices(table);
+    let n = fields::devices(table);
     if !first_good(devices, n) {
         return false;
     }
@@ -75,5 +75,5 @@ pub fn on_good(table: &[u8], on: u32) -> bool
     requires { ⌜ Laid (now table) ⌝ }
     ensures { λ r. ⌜ r ≡ onGood (stationOf 4 (now (table .entry))) on ⌝ }
 {
-    sets::fits(on, table::fields::resources(table) as u32)
+    sets::fits(on, fields::resources(table) as u32)
 }

@@ -1,3 +1,173 @@
-// Reading a power table: its fields, and whether any bytes are one.
-pub mod check;
-pub mod fields;
+// Whether any bytes are a power table, answers 1 to 6, and the bytes of one device's record.
+use rules::Verdict;
+ghost use mathlib.Core.Path.{_≡_};
+ghost use mathlib.Core.Bool.{true, not};
+ghost use Prim.Native.Nat.{_<_, _≤_};
+ghost use lib.ListN.{length};
+ghost use Rattle.rules.specs.Index.{least};
+ghost use Rattle.rules.specs.Answers.{passes};
+ghost use Rattle.rules.specs.Station.{countR, countD};
+ghost use Rattle.rules.specs.Table.{headerGood, countsGood, lengthGood, resourceGood, fieldsGood, deviceGood, deviceRefusal, tableVerdict};
+ghost use Rattle.rules.specs.Outcomes.{recordPart};
+ghost use Rattle.fields.specs.Layout.{Laid};
+
+// 1: the 8 bytes, the mark, version 1 and a zero at byte 7.
+fn header_good(table: &[u8]) -> bool
+    ensures { λ b. ⌜ b ≡ headerGood (now (table .entry)) ⌝ }
+{
+    if table.len() < 8 {
+        return false;
+    }
+    let mark = b"PWT";
+    let version = words::read16(table, 4);
+    (table[0] == mark[0])
+        & (table[1] == mark[1])
+        & (table[2] == mark[2])
+        & (version == 1)
+        & (table[7] == 0)
+}
+
+// 2: at most 32 resources and devices.
+fn counts_good(table: &[u8]) -> bool
+    requires { ⌜ 8 ≤ length (now table) ⌝ }
+    ensures { λ b. ⌜ b ≡ countsGood 4 (now (table .entry)) ⌝ }
+{
+    (table[3] <= 32) & (table[6] <= 32)
+}
+
+// 3: the header, the resources and the devices take all bytes.
+fn length_good(table: &[u8]) -> bool
+    requires { ⌜ 8 ≤ length (now table) ⌝ }
+    ensures { λ b. ⌜ b ≡ lengthGood 4 (now (table .entry)) ⌝ }
+{
+    let resources = words::wide(table[3]) as usize;
+    let devices = words::wide(table[6]) as usize;
+    table.len() == 8 + 4 * resources + 40 * devices
+}
+
+// Whether resource r has a bad field.
+fn resource_bad(table: &[u8], r: usize) -> bool
+    requires { ⌜ Laid (now table) × (r < countR (now table)) ⌝ }
+    ensures { λ b. ⌜ b ≡ not (resourceGood (now (table .entry)) r) ⌝ }
+{
+    !badfield::resource_good(table, r)
+}
+
+// 4: the lowest bad resource, R if none is bad.
+fn lowest_resource(table: &[u8]) -> usize
+    requires { ⌜ Laid (now table) ⌝ }
+    ensures { λ r. ⌜ r ≡ least (λ i. not (resourceGood (now (table .entry)) i)) (countR (now (table .entry))) ⌝ }
+{
+    let n = fields::resources(table);
+    let mut i = 0;
+    while i < n {
+        let r = i;
+        i += 1;
+        if resource_bad(table, r) {
+            return r;
+        }
+    }
+    i
+}
+
+// Whether every field of device d is good, asked of a device that is refused.
+fn fields_good(table: &[u8], d: usize) -> bool
+    requires { ⌜ Laid (now table) × (d < countD (now table)) ⌝ }
+    ensures { λ b. ⌜ b ≡ fieldsGood 4 (now (table .entry)) d ⌝ }
+{
+    let at = fields::start(table, d);
+    badfield::bad_field(table, at, d, fields::resources(table)) == 40
+}
+
+// Whether device d has a bad field, or its objects do not agree.
+fn device_bad(table: &[u8], d: usize) -> bool
+    requires { ⌜ Laid (now table) × (d < countD (now table)) ⌝ }
+    ensures { λ b. ⌜ b ≡ not (deviceGood 4 (now (table .entry)) d) ⌝ }
+{
+    let at = fields::start(table, d);
+    if !quick::record_good(table, at, d, fields::resources(table)) {
+        return true;
+    }
+    !records::objects_good(table, at)
+}
+
+// 5 and 6: the lowest bad device, D if none is bad.
+fn lowest_device(table: &[u8]) -> usize
+    requires { ⌜ Laid (now table) ⌝ }
+    ensures { λ d. ⌜ d ≡ least (λ i. not (deviceGood 4 (now (table .entry)) i)) (countD (now (table .entry))) ⌝ }
+{
+    let n = fields::devices(table);
+    let mut i = 0;
+    while i < n {
+        let d = i;
+        i += 1;
+        if device_bad(table, d) {
+            return d;
+        }
+    }
+    i
+}
+
+// The answer for a bad device: 5 before 6.
+fn refusal(table: &[u8], d: usize) -> Verdict
+    requires { ⌜ Laid (now table) × (d < countD (now table)) ⌝ }
+    ensures { λ v. ⌜ v ≡ deviceRefusal 4 (now (table .entry)) d ⌝ }
+{
+    if fields_good(table, d) {
+        return Verdict::BadObjects(d);
+    }
+    Verdict::BadDevice(d)
+}
+
+// Answers 4 to 6 of bytes that pass 1 to 3.
+fn check_records(table: &[u8]) -> Verdict
+    requires { ⌜ Laid (now table) × (headerGood (now table) ≡ true) ⌝ }
+    ensures { λ v. ⌜ v ≡ tableVerdict 4 (now (table .entry)) ⌝ }
+{
+    let r = lowest_resource(table);
+    if r < fields::resources(table) {
+        return Verdict::BadResource(r);
+    }
+    let d = lowest_device(table);
+    if d < fields::devices(table) {
+        return refusal(table, d);
+    }
+    Verdict::Done(0)
+}
+
+// Answers 1 to 6 of any bytes, done with no calls if they are a power table.
+pub fn check_table(table: &[u8]) -> Verdict
+    ensures { λ v. ⌜ v ≡ tableVerdict 4 (now (table .entry)) ⌝ }
+{
+    if !header_good(table) {
+        return Verdict::NotATable;
+    }
+    if !counts_good(table) {
+        return Verdict::TooMany;
+    }
+    if !length_good(table) {
+        return Verdict::WrongLength;
+    }
+    check_records(table)
+}
+
+// Whether bytes are a power table.
+pub fn accepted(table: &[u8]) -> bool
+    ensures { λ b. ⌜ b ≡ passes (tableVerdict 4 (now (table .entry))) ⌝ }
+{
+    rules::passes(check_table(table))
+}
+
+// A device's own bytes of the table; empty if the table is refused or the number is not below D.
+pub fn record(table: &[u8], d: usize) -> &[u8]
+    ensures { λ r. ⌜ now r ≡ recordPart 4 (now (table .entry)) d ⌝ }
+{
+    if !accepted(table) {
+        return &table[..0];
+    }
+    if d >= fields::devices(table) {
+        return &table[..0];
+    }
+    let at = fields::start(table, d);
+    &table[at..at + 40]
+}

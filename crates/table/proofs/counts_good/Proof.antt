@@ -1,0 +1,8 @@
+-- The two tests are the rule. Assumes nothing.
+use Rattle.table.proofs.Verdicts.{table-tests}
+use borrow.Author.Needs.{needs}
+use Rattle.table.proofs.counts_good.Statement.{statement}
+use Rattle.table.proofs.counts_good.Tie as tie
+
+pub counts-good-spec : {M : Type 1} → statement M
+counts-good-spec = tie.close (tie.spec (λ c. search needs) (λ c. search needs) (λ c. search (needs, table-tests)))
