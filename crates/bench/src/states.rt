@@ -16,7 +16,7 @@ fn made(table: &[u8], state: &mut [u8]) -> usize
     requires { ⌜ length (now state) ≤ 133 ⌝ }
     ensures { λ r. ⌜ r ≡ 1 ⌝ }
 {
-    let verdict = status::answers::fresh(table, state);
+    let verdict = status::fresh(table, state);
     lines::answer(verdict);
     lines::count(b" ", rules::count(verdict));
     lines::count(b" sum ", lines::total(state));
@@ -57,7 +57,7 @@ fn judge(table: &[u8], image: &[u8]) -> Verdict
     if !rules::passes(verdict) {
         return verdict;
     }
-    status::answers::check_state(table, image)
+    status::check_state(table, image)
 }
 
 // Prints the answer for an image of the bench station, and gives its length.

@@ -20,8 +20,8 @@ pub fn conforming(table: &[u8], state: &[u8], q: Request, list: &[u32]) -> bool
     let after = planner::plan::next_state(table, before, d, request::new_entry(e, q));
     let on = sets::minus(after.on, before.on);
     let off = sets::minus(before.on, after.on);
-    let own = planner::own::own_call(table, e, q);
-    let last = planner::own::own_last(q);
+    let own = own::own_call(table, e, q);
+    let last = own::own_last(q);
     crate::walk::walk(table, own, last, on, off, list)
 }
 
@@ -30,7 +30,7 @@ pub fn check_words(table: &[u8], state: &[u8], q: Request, list: &[u32]) -> Verd
     ensures answer { λ r. ⌜ r ≡ checkWords 4 (now (table .entry)) (now (state .entry)) q (now (list .entry)) ⌝ }
     ensures demand { λ _. ⌜ Demand3 4 (now (table .entry)) (now (state .entry)) q (now (list .entry)) ⌝ }
 {
-    let v = request::stages::verdict(table, state, true, q);
+    let v = stages::verdict(table, state, true, q);
     if !rules::passes(v) {
         return v;
     }

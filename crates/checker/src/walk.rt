@@ -1,13 +1,13 @@
 // A whole list: the own call first or last, ONs and OFFs between, and nothing after.
 use crate::Taken;
-use planner::own::Own;
+use own::Own;
 ghost use mathlib.Core.Path.{_≡_};
 ghost use mathlib.Core.Bool.{cond};
 ghost use mathlib.Core.List.{[]};
 ghost use Prim.Native.Nat.{_^_, _<_, _≤_};
 ghost use lib.ListN.{length, drop};
 ghost use Rattle.rules.specs.Station.{countR, stationOf};
-ghost use Rattle.planner.specs.Plan.{ownWords};
+ghost use Rattle.own.specs.Own.{ownWords};
 ghost use Rattle.fields.specs.Layout.{Laid};
 ghost use Rattle.checker.specs.Phases.{restOf, takeWords, walked};
 

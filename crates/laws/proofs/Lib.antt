@@ -1,4 +1,5 @@
 pub mod Tests
+pub mod Every
 pub mod All
 pub mod Execution
 pub mod Accepted

@@ -30,9 +30,10 @@ use Rattle.table.proofs.Verdicts.{laid-of}
 use Rattle.image.specs.State.{stateOf, bytesOf, withEntry}
 use Rattle.image.proofs.Held.{entries-of}
 use Rattle.image.proofs.Written.{after-entries, after-image}
-use Rattle.request.specs.Stages.{stagesOf, stagesVerdict}
+use Rattle.stages.specs.Stages.{stagesOf, stagesVerdict}
 use Rattle.request.proofs.Rules.{form-small, form-device-below}
-use Rattle.planner.specs.Plan.{ownOf, planWords, Apart}
+use Rattle.own.specs.Own.{ownOf}
+use Rattle.planner.specs.Plan.{planWords, Apart}
 use Rattle.planner.specs.After.{afterOf, Asked, Carried}
 
 -- ---- what the checks have shown

@@ -14,7 +14,7 @@ use Rattle.rules.specs.Power.{needed}
 use Rattle.rules.specs.Status.{entriesOf}
 use Rattle.rules.specs.Outcomes.{planned, stateAfter}
 use Rattle.fields.specs.Layout.{Laid}
-use Rattle.request.specs.Stages.{stagesVerdict}
+use Rattle.stages.specs.Stages.{stagesVerdict}
 use Rattle.image.specs.State.{withEntry}
 
 -- with device d's entry e, and the needed set of these entries on

@@ -1,4 +1,3 @@
 // The planner: the calls of a request, in their order, as words of a lent plan.
-pub mod own;
 pub mod plan;
 pub mod write;

@@ -18,7 +18,7 @@ pub fn next_state(table: &[u8], before: State, d: usize, e: Entry) -> State
 {
     let entered = image::with_entry(before, d, e);
     let devices = entered.devices;
-    let on = status::needed::needed(table, &devices);
+    let on = sound::needed::needed(table, &devices);
     State { devices, on }
 }
 
@@ -43,7 +43,7 @@ pub fn plan_words(table: &[u8], state: &mut [u8], q: Request, plan: &mut [u32]) 
     ensures { λ r. ⌜ (r ≡ planWords 4 (now (table .entry)) (now (state .entry)) q (now (plan .entry)) .verdict) × (now (state .exit) ≡ planWords 4 (now (table .entry)) (now (state .entry)) q (now (plan .entry)) .state) × (now (plan .exit) ≡ planWords 4 (now (table .entry)) (now (state .entry)) q (now (plan .entry)) .plan) ⌝ }
 {
     let room = plan.len() >= 33;
-    let v = request::stages::verdict(table, state, room, q);
+    let v = stages::verdict(table, state, room, q);
     if !rules::passes(v) {
         return v;
     }

@@ -6,11 +6,12 @@ ghost use Rattle.words.specs.Words.{put};
 ghost use Rattle.rules.specs.Station.{countR, countD, stationOf};
 ghost use Rattle.fields.specs.Layout.{Laid};
 ghost use Rattle.order.specs.Phases.{phaseWords};
-ghost use Rattle.planner.specs.Plan.{ownWords, planWords, Apart};
-use crate::own::Own;
-use crate::own::own_call;
-use crate::own::own_last;
+ghost use Rattle.own.specs.Own.{ownWords};
+ghost use Rattle.planner.specs.Plan.{planWords, Apart};
 use order::emit;
+use own::Own;
+use own::own_call;
+use own::own_last;
 use rules::Entry;
 use rules::Request;
 

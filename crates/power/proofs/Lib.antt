@@ -1,5 +1,1 @@
-pub mod Every
-pub mod Members
-pub mod RangeLaws
 pub mod StateLaws
-pub mod WakeLaws

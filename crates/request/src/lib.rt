@@ -1,6 +1,4 @@
 // Requests: answers 10 to 18, and the entry that an accepted request gives its device. No rule here looks at the on-set.
-pub mod stages;
-
 use rules::Entry;
 use rules::Request;
 use rules::Verdict;
@@ -13,7 +11,7 @@ ghost use Rattle.rules.specs.Status.{entriesOf};
 ghost use Rattle.rules.specs.Request.{formGood, notShallowerOrD0, parentAllows, childBars, wakeAllows, moveVerdict, armVerdict, requestVerdict, newEntry};
 ghost use Rattle.request.specs.Form.{numbersGood};
 ghost use Rattle.fields.specs.Layout.{Laid};
-ghost use Rattle.status.specs.Ready.{Ready};
+ghost use Rattle.sound.specs.Ready.{Ready};
 
 // 10: whether kind and numbers are in range and unused ones zero.
 fn numbers_good(q: Request) -> bool
@@ -100,7 +98,7 @@ fn move_verdict(table: &[u8], devices: &[u8], d: usize, x: u8) -> Verdict
     ensures { λ r. ⌜ r ≡ moveVerdict (stationOf 4 (now (table .entry))) (entriesOf 4 (now (devices .entry))) d x ⌝ }
 {
     let e = image::entry(devices, d);
-    if !power::states::supported(table, d, x) {
+    if !power::supported(table, d, x) {
         return Verdict::Unsupported;
     }
     if !not_shallower_or_d0(e, x) {
@@ -144,13 +142,13 @@ fn arm_verdict(table: &[u8], devices: &[u8], d: usize, x: u8, y: u8) -> Verdict
     requires { ⌜ Ready (now table) (now devices) × (d < countD (now table)) × (x < 5) ⌝ }
     ensures { λ r. ⌜ r ≡ armVerdict (stationOf 4 (now (table .entry))) (entriesOf 4 (now (devices .entry))) d x y ⌝ }
 {
-    if !power::wake::wake_from(table, d, x) {
+    if !wake::wake_from(table, d, x) {
         return Verdict::NoWake;
     }
-    if !power::wake::wake_powered(table, d, x) {
+    if !wake::wake_powered(table, d, x) {
         return Verdict::WakeUnpowered;
     }
-    if !power::wake::wake_state(table, d, x, y) {
+    if !wake::wake_state(table, d, x, y) {
         return Verdict::BadWakeState;
     }
     let e = image::entry(devices, d);

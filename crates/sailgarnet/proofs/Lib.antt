@@ -1,4 +1,1 @@
-pub mod Long
-pub mod Copy
-pub mod Outer
 pub mod Numbers

@@ -1,6 +1,4 @@
 // The board's functions: numbers and byte slices in, one number out.
-pub mod bytes;
-
 use rules::Request;
 use rules::Verdict;
 ghost use mathlib.Core.Path.{_≡_};
@@ -26,7 +24,7 @@ pub extern "C" fn sailgarnet_fresh(table: &[u8], state: &mut [u8]) -> u64
     ensures answer { λ r. ⌜ (r ≡ packed (fresh 4 (now (table .entry)) (now (state .entry)) .verdict)) × Reads r (fresh 4 (now (table .entry)) (now (state .entry)) .verdict) ⌝ }
     ensures state { λ _. ⌜ now (state .exit) ≡ fresh 4 (now (table .entry)) (now (state .entry)) .state ⌝ }
 {
-    pack(status::answers::fresh(table, state))
+    pack(status::fresh(table, state))
 }
 
 #[no_mangle]
@@ -43,7 +41,7 @@ pub extern "C" fn sailgarnet_plan(
     ensures state { λ _. ⌜ now (state .exit) ≡ planBytes 4 (now (table .entry)) (now (state .entry)) (asked kind device a b) (now (plan .entry)) .state ⌝ }
     ensures plan { λ _. ⌜ now (plan .exit) ≡ planBytes 4 (now (table .entry)) (now (state .entry)) (asked kind device a b) (now (plan .entry)) .plan ⌝ }
 {
-    pack(bytes::plan_bytes(table, state, Request { kind, device, a, b }, plan))
+    pack(buffers::plan_bytes(table, state, Request { kind, device, a, b }, plan))
 }
 
 #[no_mangle]
@@ -59,5 +57,5 @@ pub extern "C" fn sailgarnet_check(
     ensures answer { λ r. ⌜ (r ≡ packed (checkBytes 4 (now (table .entry)) (now (state .entry)) (asked kind device a b) (now (list .entry)))) × Reads r (checkBytes 4 (now (table .entry)) (now (state .entry)) (asked kind device a b) (now (list .entry))) ⌝ }
     ensures demand { λ _. ⌜ Demand3Bytes 4 (now (table .entry)) (now (state .entry)) (asked kind device a b) (now (list .entry)) ⌝ }
 {
-    pack(bytes::check_bytes(table, state, Request { kind, device, a, b }, list))
+    pack(buffers::check_bytes(table, state, Request { kind, device, a, b }, list))
 }

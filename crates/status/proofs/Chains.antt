@@ -22,7 +22,7 @@ use Rattle.rules.proofs.Answers.{first-pass, first-stop, first-none, first-both
 use Rattle.laws.proofs.Accepted.{accepted}
 use Rattle.table.proofs.Verdicts.{laid-done, laid-told, accepted-is}
 use Rattle.image.specs.State.{bytesOf, freshState}
-use Rattle.status.specs.Ready.{Ready, statusWith}
+use Rattle.sound.specs.Ready.{Ready, statusWith}
 use Rattle.image.proofs.Held.{fresh-image}
 
 -- ---- a chain that passes comes to its last answer

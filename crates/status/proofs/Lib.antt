@@ -1,4 +1,1 @@
-pub mod Loops
-pub mod Ranges
-pub mod Keeps
 pub mod Chains

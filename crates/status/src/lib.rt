@@ -1,5 +1,42 @@
-// Whether a state image is good for a table, what its devices need, and a fresh one.
-pub mod answers;
-pub mod needed;
-pub mod sound;
-pub mod values;
+// Answers 7 and 8 of a lent image, and a fresh state written into lent bytes.
+ghost use mathlib.Core.Path.{_≡_};
+ghost use Rattle.rules.specs.declared.Verdict.the-variants.{Done};
+ghost use Rattle.rules.specs.Station.{stationOf};
+ghost use Rattle.rules.specs.Table.{tableVerdict};
+ghost use Rattle.rules.specs.Status.{stateVerdict};
+ghost use Rattle.rules.specs.Outcomes.{fresh};
+
+// Whether a state image is good for an accepted table.
+pub fn check_state(table: &[u8], image: &[u8]) -> rules::Verdict
+    requires { ⌜ tableVerdict 4 (now table) ≡ Done 0 ⌝ }
+    ensures { λ r. ⌜ r ≡ stateVerdict 4 (stationOf 4 (now (table .entry))) (now (image .entry)) ⌝ }
+{
+    if image.len() != 132 {
+        return rules::Verdict::BadState;
+    }
+    if !values::entries_good(table, image) {
+        return rules::Verdict::BadState;
+    }
+    let on = words::read32(image, 128);
+    if !values::on_good(table, on) {
+        return rules::Verdict::BadState;
+    }
+    sound::consistency(table, image, on)
+}
+
+// A fresh state for a table that is good, into bytes that are an image's; a refusal leaves every byte.
+pub fn fresh(table: &[u8], state: &mut [u8]) -> rules::Verdict
+    ensures { λ r. ⌜ (r ≡ fresh 4 (now (table .entry)) (now (state .entry)) .verdict) × (now (state .exit) ≡ fresh 4 (now (table .entry)) (now (state .entry)) .state) ⌝ }
+{
+    let verdict = table::check_table(table);
+    if !rules::passes(verdict) {
+        return verdict;
+    }
+    if state.len() != 132 {
+        return rules::Verdict::BadState;
+    }
+    let resources = fields::resources(table);
+    let made = image::fresh_state(resources as u32);
+    image::store(made, state);
+    rules::Verdict::Done(0)
+}

@@ -5,7 +5,7 @@ use Prim.Native.Nat.{_+_, _≤_}
 use lib.ListN.{length}
 use Rattle.rules.specs.Station.{stationOf}
 use Rattle.order.specs.Phases.{phaseWords}
-use Rattle.planner.specs.Plan.{ownWords}
+use Rattle.own.specs.Own.{ownWords}
 use Rattle.planner.proofs.Run.{runs-fit, plan-last, plan-first, written}
 use borrow.Author.Needs.{needs}
 use Rattle.planner.proofs.write.write_calls.Statement.{statement}

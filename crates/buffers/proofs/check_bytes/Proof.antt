@@ -1,0 +1,33 @@
+use mathlib.Core.Path.{refl}
+use native.Mathlib.Omega.{arith}
+use Rattle.rules.specs.Outcomes.{checkBytes}
+use Rattle.laws.proofs.Bytes.{demand3-bytes}
+use Rattle.planner.proofs.Whole.{asked-of}
+use Rattle.checker.proofs.Answer.{check-refused, check-19, check-done}
+use borrow.Author.Needs.{needs}
+use Rattle.buffers.proofs.check_bytes.Statement.{statement}
+use Rattle.buffers.proofs.check_bytes.Tie as tie
+
+returns : tie.Need-returns
+unfolding checkBytes
+returns c =
+    (check-refused _ _ _ _ _ (c .before .before .verdict .ensures) (c .before .passes .ensures) _ (c .if1 .taken), demand3-bytes 4 (omega arith) _ _ _ _)
+
+lawful-requires : tie.Need-lawful-requires
+lawful-requires c κs =
+    asked-of _ _ _ _ _ _ refl (c .before .before .verdict .ensures) (c .before .passes .ensures) (c .if1 .left)
+
+returns-2 : tie.Need-returns-2
+unfolding checkBytes
+returns-2 c =
+    (check-19 _ _ _ _ _ (c .before .before .before .before .verdict .ensures) (c .before .before .before .passes .ensures) _ (c .before .before .if1 .left) _ (c .before .lawful .ensures) (c .if2 .taken), demand3-bytes 4 (omega arith) _ _ _ _)
+
+returns-3 : tie.Need-returns-3
+unfolding checkBytes
+returns-3 c =
+    (check-done _ _ _ _ _ (c .before .before .before .before .verdict .ensures) (c .before .before .before .passes .ensures) _ (c .before .before .if1 .left) _ (c .before .lawful .ensures) (c .if2 .left), demand3-bytes 4 (omega arith) _ _ _ _)
+
+pub check-bytes-spec : {M : Type 1} → statement M
+check-bytes-spec =
+    tie.close
+    (tie.spec (λ c κs. search needs) (λ c κs. search needs) returns lawful-requires returns-2 returns-3)

@@ -1,0 +1,56 @@
+-- A loop that asks whether every number below n has a property, and stops at the first that has not; and what `every` is by its parts. Assumes nothing.
+use mathlib.Core.Path.{_≡_, refl, sym, ap, _∙_}
+use mathlib.Core.Bool.{Bool, true, false, not, _&&_}
+use mathlib.Core.Logic.{⊎-elim}
+use Prim.Native.Nat.{ℕ, _+_, _-_, _≤_, _<_}
+use native.Mathlib.Nat.{eq-or-lt-of-le}
+use native.Mathlib.Omega.{arith}
+use borrow.Author.Tests.{le-leb, lt-leb}
+use lib.Dec.{leb}
+use Rattle.rules.specs.Index.{leastFrom, every}
+use Rattle.laws.proofs.Tests.{both-true, and-true}
+use Rattle.rules.proofs.Index.{starts, found, next, done, every-at, every-of}
+
+-- every number from i to n - 1 has the property
+unfoldable pub everyFrom : (ℕ → Bool) → ℕ → ℕ → Bool
+everyFrom f i n = leb n (leastFrom (λ j. not (f j)) i (n - i))
+
+-- the loop is at i and is to answer v; b is what the test returned
+module _ (f : ℕ → Bool) where
+  pub every-starts : (n : ℕ) → everyFrom f 0 n ≡ every f n
+  unfolding everyFrom every
+  every-starts n = ap (leb n) (starts (λ j. not (f j)) n)
+
+  pub every-next : (i n : ℕ) (v b : Bool) → everyFrom f i n ≡ v → i < n → b ≡ f i → b ≡ true → everyFrom f (i + 1) n ≡ v
+  unfolding everyFrom
+  every-next i n v b inv h e t = ap (leb n) (next (λ j. not (f j)) i n _ (not b) refl h (ap not e) (ap not t)) ∙ inv
+
+  pub every-stops : (i n : ℕ) (v b : Bool) → everyFrom f i n ≡ v → i < n → b ≡ f i → b ≡ false → false ≡ v
+  unfolding everyFrom
+  every-stops i n v b inv h e t =
+      sym (lt-leb n i h) ∙ ap (leb n) (found (λ j. not (f j)) i n _ (not b) refl h (ap not e) (ap not t)) ∙ inv
+
+  pub every-done : (i n : ℕ) (v : Bool) → everyFrom f i n ≡ v → n ≤ i → true ≡ v
+  unfolding everyFrom
+  every-done i n v inv h = sym (le-leb n i h) ∙ ap (leb n) (done (λ j. not (f j)) i n _ refl h) ∙ inv
+
+-- two tests, each passed where the other is, are one
+pub same-test : (a b : Bool) → (a ≡ true → b ≡ true) → (b ≡ true → a ≡ true) → a ≡ b
+same-test true b f g = sym (f refl)
+same-test false true f g = g refl
+same-test false false f g = refl
+
+-- one number more
+pub every-suc : (f : ℕ → Bool) (n : ℕ) → every f (n + 1) ≡ every f n && f n
+every-suc f n =
+    same-test (every f (n + 1)) (every f n && f n)
+    (λ e. and-true (every f n) (f n) (every-of f n (λ i l. every-at f (n + 1) i e (omega arith))) (every-at f (n + 1) n e (omega arith)))
+    (λ e. let a = both-true (every f n) (f n) e in
+    every-of f (n + 1) (λ i l. ⊎-elim (λ q. rw q (a .1)) (λ m. every-at f n i (a .0) m) (eq-or-lt-of-le {n = i} {m = n} (omega arith))))
+
+-- what is the same below n
+pub every-ext : (f g : ℕ → Bool) (n : ℕ) → ((i : ℕ) → i < n → f i ≡ g i) → every f n ≡ every g n
+every-ext f g n h =
+    same-test (every f n) (every g n) (λ e. every-of g n (λ i l. sym (h i l) ∙ every-at f n i e l)) (λ e. every-of f n (λ i l. h i l ∙ every-at g n i e l))
+
+pub ruleset everyOf = (every-starts, every-next, every-stops, every-done)

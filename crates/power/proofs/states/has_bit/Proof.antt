@@ -1,8 +1,0 @@
--- The mask and the number are only widened. Assumes nothing.
-use borrow.Author.Needs.{needs}
-use Rattle.power.proofs.StateLaws.{bit-of}
-use Rattle.power.proofs.states.has_bit.Statement.{statement}
-use Rattle.power.proofs.states.has_bit.Tie as tie
-
-pub has-bit-spec : {M : Type 1} → statement M
-has-bit-spec = tie.close (tie.spec (λ c κs. search needs) (λ c κs. search needs) (λ c κs. search needs) (λ c. search (needs, bit-of)))

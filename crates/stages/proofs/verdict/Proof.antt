@@ -1,0 +1,22 @@
+use Rattle.stages.proofs.Chain.{in-turn, request-asks}
+use borrow.Author.Needs.{needs}
+use Rattle.stages.proofs.verdict.Statement.{statement}
+use Rattle.stages.proofs.verdict.Tie as tie
+
+request-verdict-requires : tie.Need-request-verdict-requires
+request-verdict-requires c κs =
+    request-asks _ _ (c .before .before .before .before .before .before .before .before .before .args .q) (c .before .before .before .before .before .before .before .before .before .args .room) _ _ (c .before .before .before .before .before .before .check-table .ensures) (c .before .before .before .before .before .passes .ensures) (c .before .before .before .before .if1 .left) _ _ (c .before .before .before .check-state .ensures) (c .before .before .passes2 .ensures) (c .before .if2 .left)
+
+pub verdict-spec : {M : Type 1} → statement M
+verdict-spec =
+    tie.close
+    (tie.spec
+    (λ c κs. search needs)
+    (λ c κs. search needs)
+    (λ c. search (needs, in-turn))
+    (λ c κs. search (needs, in-turn))
+    (λ c κs. search needs)
+    (λ c. search (needs, in-turn))
+    (λ c. search (needs, in-turn))
+    request-verdict-requires
+    (λ c. search (needs, in-turn)))
