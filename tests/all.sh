@@ -33,9 +33,9 @@ proofs() {
   rm -f "$log"
 }
 
-# the bench program's stored output is what an independent script works out from document 01
-bench_output() {
-  python3 tests/bench_expected.py | diff - crates/bench/stdout
+# a program's stored output is what an independent script works out from document 01
+stored_output() {
+  python3 tests/bench_expected.py "$1" | diff - "crates/$1/stdout"
 }
 
 # the host side over the proved library: the wrapper, the comparison with the independent reference, the command
@@ -76,7 +76,8 @@ pictures() {
 }
 
 step rt fmt --check
-step bench_output
+step stored_output damage
+step stored_output bench
 proofs
 step rt staticlib sailgarnet
 step header

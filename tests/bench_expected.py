@@ -1,5 +1,7 @@
 #!/usr/bin/env python3
-"""What the program `bench` must print, worked out from document 01 alone: the cases are the program's, the answers are not. `bench_expected.py > crates/bench/stdout` writes it anew."""
+"""What the programs `damage` and `bench` must print, worked out from document 01 alone: the cases are the programs', the answers are not.
+`bench_expected.py damage > crates/damage/stdout` writes the page of tables and states anew, `bench_expected.py bench > crates/bench/stdout` that of requests and lists."""
+import sys
 
 # ---- document 01, "Bench station"
 TABLE = bytes.fromhex(
@@ -476,7 +478,7 @@ def all_requests():
         lists(*row)
 
 
-def main():
+def tables_and_states():
     for _, rows in TABLES:
         for row in rows:
             text, t = changed(TABLE + b"\0", row)
@@ -503,8 +505,7 @@ def main():
         b = IMAGE[:132]
         answers = [check_state(TABLE, b[:at] + bytes([x]) + b[at + 1:]) for x in VALUES]
         print("image byte %d:" % at + "".join(" %d %d" % a for a in answers))
-    all_requests()
 
 
 if __name__ == "__main__":
-    main()
+    {"damage": tables_and_states, "bench": all_requests}[sys.argv[1]]()

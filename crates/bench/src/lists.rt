@@ -1,9 +1,9 @@
 // Lists that the checker is given: the planner's own, and others. A line has the request, the list, and number, place and count of the
 // answer; then number and place of the checker of words on the whole words of the list, up to 33.
-use crate::lines;
 use crate::plans;
 use crate::requests;
-use crate::station;
+use cases::lines;
+use cases::station;
 use rules::Request;
 ghost use mathlib.Core.Path.{_≡_};
 ghost use Prim.Native.Nat.{_/_, _≤_, min};
@@ -18,7 +18,7 @@ fn worded(table: &[u8], state: &[u8], q: Request, list: &[u8]) -> u8
     ensures { λ r. ⌜ r ≡ numberOf (checkWords 4 (now (table .entry)) (now (state .entry)) q (byteWords (min (length (now (list .entry)) / 4) 33) (now (list .entry)))) ⌝ }
 {
     let n = lines::within(list.len() / 4, 33);
-    let calls = sailgarnet::bytes::read_words(list, n);
+    let calls = buffers::read_words(list, n);
     plans::check(table, state, q, &calls[..n])
 }
 

@@ -1,25 +1,10 @@
-// Runs the checks of tables and states on document 01's bench station, whole and damaged; then requests and call lists on it and on a table of our own.
-mod damage;
-mod lines;
+// Runs requests and call lists through the exported functions, on document 01's bench station and on a table of our own.
 mod lists;
 mod plans;
 mod requests;
 mod runs;
-mod states;
-mod station;
-mod tables;
 
 fn main() {
-    damage::all_tables();
-    tables::bare(32);
-    tables::bare(33);
-    damage::sweep(false, 0, 140);
-    tables::records();
-    states::fresh_states();
-    damage::images();
-    damage::held_images();
-    damage::sweep(true, 0, 16);
-    damage::sweep(true, 124, 132);
     runs::worked();
     runs::further();
     runs::own();

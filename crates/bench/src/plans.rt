@@ -1,7 +1,7 @@
 // Plans of words, and plans that are a little too short, just long enough, and longer.
-use crate::lines;
 use crate::requests;
-use crate::station;
+use cases::lines;
+use cases::station;
 use rules::Request;
 ghost use mathlib.Core.Path.{_≡_};
 ghost use Prim.Native.Nat.{_≤_};

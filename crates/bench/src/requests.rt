@@ -1,8 +1,8 @@
 // Requests through the board's functions, one after another. A line has the request; number, place and count; the calls; how many bytes
 // past them are as they were lent; the first four entries, the on-set and the sum of the state afterwards; and number, place and count of
 // the checker on the planner's own list, given the state as it was before.
-use crate::lines;
-use crate::station;
+use cases::lines;
+use cases::station;
 use rules::Request;
 ghost use mathlib.Core.Path.{_≡_};
 ghost use Prim.Native.Nat.{_+_, _*_, _/_, _%_, _<_, _≤_, min};
@@ -10,7 +10,8 @@ ghost use lib.ListN.{length, take};
 ghost use Rattle.rules.specs.Rows.{blank, benchTable};
 ghost use Rattle.rules.specs.Outcomes.{fresh, planBytes, checkBytes};
 ghost use Rattle.sailgarnet.specs.Packed.{packed};
-ghost use Rattle.bench.specs.Chain.{requestAt, chained, ownTable};
+ghost use Rattle.cases.specs.Own.{ownTable};
+ghost use Rattle.bench.specs.Chain.{requestAt, chained};
 
 // A state image.
 pub type Image = [u8; 132];

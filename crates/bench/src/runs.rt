@@ -1,6 +1,6 @@
 // The requests that are run, each as four digits: kind, device, a, b.
 use crate::requests;
-use crate::station;
+use cases::station;
 use rules::Request;
 ghost use mathlib.Core.Path.{_≡_};
 ghost use Prim.Native.Nat.{_+_, _*_, _≤_};
@@ -8,7 +8,7 @@ ghost use lib.ListN.{length};
 ghost use Rattle.rules.specs.Rows.{blank};
 ghost use Rattle.rules.specs.Outcomes.{planBytes};
 ghost use Rattle.sailgarnet.specs.Packed.{asked};
-ghost use Rattle.bench.specs.Chain.{ownTable};
+ghost use Rattle.cases.specs.Own.{ownTable};
 
 // Document 01's worked rows; answers how many requests.
 pub fn worked() -> usize

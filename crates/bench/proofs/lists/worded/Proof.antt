@@ -1,5 +1,5 @@
 -- The words that are lent are those of the bytes. Assumes nothing.
-use Rattle.bench.proofs.Parts.{part-long}
+use Rattle.cases.proofs.Parts.{part-long}
 use borrow.Author.Needs.{needs}
 use Rattle.bench.proofs.lists.worded.Statement.{statement}
 use Rattle.bench.proofs.lists.worded.Tie as tie

@@ -1,0 +1,24 @@
+-- The part that is lent has the length that its slice says. Assumes nothing.
+use borrow.Author.Needs.{needs}
+use Rattle.cases.proofs.Parts.{parts}
+use Rattle.damage.proofs.tables.record.Statement.{statement}
+use Rattle.damage.proofs.tables.record.Tie as tie
+
+pub record-spec : {M : Type 1} → statement M
+record-spec =
+    tie.close
+    (tie.spec
+    (λ c κs. search needs)
+    (λ c. search needs)
+    (λ c κs. search needs)
+    (λ c κs. search needs)
+    (λ c. search needs)
+    (λ c. search (needs, parts))
+    (λ c κs. search needs)
+    (λ c. search needs)
+    (λ c κs. search needs)
+    (λ c. search needs)
+    (λ c κs. search needs)
+    (λ c κs. search needs)
+    (λ c κs. search needs)
+    (λ c. search needs))
