@@ -47,8 +47,11 @@ pub fn read_words(from: &[u8], n: usize) -> Calls
 pub fn plan_bytes(table: &[u8], state: &mut [u8], q: Request, plan: &mut [u8]) -> Verdict
     ensures { λ r. ⌜ (r ≡ planBytes 4 (now (table .entry)) (now (state .entry)) q (now (plan .entry)) .verdict) × (now (state .exit) ≡ planBytes 4 (now (table .entry)) (now (state .entry)) q (now (plan .entry)) .state) × (now (plan .exit) ≡ planBytes 4 (now (table .entry)) (now (state .entry)) q (now (plan .entry)) .plan) ⌝ }
 {
+    if !table::header_good(table) {
+        return Verdict::NotATable;
+    }
     let room = plan.len() >= 132;
-    let v = stages::verdict(table, state, room, q);
+    let v = stages::past_header(table, state, room, q);
     if !rules::passes(v) {
         return v;
     }
@@ -79,7 +82,10 @@ pub fn check_bytes(table: &[u8], state: &[u8], q: Request, list: &[u8]) -> Verdi
     ensures answer { λ r. ⌜ r ≡ checkBytes 4 (now (table .entry)) (now (state .entry)) q (now (list .entry)) ⌝ }
     ensures demand { λ _. ⌜ Demand3Bytes 4 (now (table .entry)) (now (state .entry)) q (now (list .entry)) ⌝ }
 {
-    let v = stages::verdict(table, state, true, q);
+    if !table::header_good(table) {
+        return Verdict::NotATable;
+    }
+    let v = stages::past_header(table, state, true, q);
     if !rules::passes(v) {
         return v;
     }

@@ -9,17 +9,17 @@ use lib.ListN.{length}
 use Rattle.rules.specs.declared.Entry.{Entry}
 use Rattle.rules.specs.declared.Request.{Request}
 use Rattle.rules.specs.declared.Verdict.{Verdict}
-use Rattle.rules.specs.declared.Verdict.the-variants.{Done, NoRoom}
+use Rattle.rules.specs.declared.Verdict.the-variants.{Done, NotATable, NoRoom}
 use Rattle.rules.specs.Answers.{passes, firstOf, unless}
 use Rattle.rules.specs.Station.{Station, stationOf}
-use Rattle.rules.specs.Table.{tableVerdict}
+use Rattle.rules.specs.Table.{headerGood, tableVerdict}
 use Rattle.rules.specs.Status.{statusOf, entriesOf, stateVerdict}
 use Rattle.rules.specs.Request.{requestVerdict}
 use Rattle.rules.specs.Outcomes.{requestStage}
 use Rattle.rules.proofs.Answers.{first-pass, first-stop, first-none, first-through, first-alone, unless-of, unless-stop}
 use Rattle.laws.proofs.Accepted.{accepted}
 use Rattle.laws.proofs.States.{sound-of}
-use Rattle.table.proofs.Verdicts.{laid-of}
+use Rattle.table.proofs.Verdicts.{laid-of, no-table}
 use Rattle.sound.specs.Ready.{Ready}
 use Rattle.stages.specs.Stages.{stagesOf, stagesVerdict}
 
@@ -78,5 +78,10 @@ module _ (t b : List ℕ) (q : Request) (room : Bool) (v : Verdict) (p : Bool) (
             k ∙ sym (first-pass (tableVerdict 4 t) _ (Done 0) on-table ∙ first-pass (stateVerdict 4 (stationOf 4 t) b) _ (Done 0) on-state
             ∙ rw (unless-of room NoRoom (not-false room n)) (first-pass (Done 0) _ (Done 0) (unfold passes in refl))
             ∙ request-alone (stationOf 4 t) (entriesOf 4 b) q)
+
+-- h: whether the header is good
+pub stop-header : (t b : List ℕ) (q : Request) (room h : Bool) → h ≡ headerGood t → not h ≡ true → NotATable ≡ stagesVerdict room t b q
+unfolding passes
+stop-header t b q room h e n = stop-table t b q room NotATable false (no-table t h e n) refl refl
 
 pub ruleset in-turn = (stop-table, state-asks, stop-state, request-asks, stop-room, last-request)

@@ -78,20 +78,19 @@ from-none f n m e = rw (sub-zero n, e) refl
 pub ruleset lowest-bad = (from-none, found, next, done)
 
 -- ---- what the first three checks show
-long-of : (t : List ℕ) → headerGood t ≡ true → 8 ≤ length t
+pub long-of : (t : List ℕ) → headerGood t ≡ true → 8 ≤ length t
 unfolding headerGood
 long-of t h =
     let mark = both-true _ _ (both-true _ _ (both-true _ _ h .0) .0) .0 in
     leb-true 8 (length t) (both-true _ _ (both-true _ _ mark .0) .0)
 
-pub long-enough : (t : List ℕ) (b : Bool) → b ≡ headerGood t → not b ≡ false → 8 ≤ length t
-long-enough t b e p = long-of t (sym e ∙ not-false b p)
+pub header-passed : (t : List ℕ) (b : Bool) → b ≡ headerGood t → not b ≡ false → headerGood t ≡ true
+header-passed t b e p = sym e ∙ not-false b p
 
-pub laid-by : (t : List ℕ) (h c l : Bool) → h ≡ headerGood t → not h ≡ false → c ≡ countsGood 4 t → not c ≡ false → l ≡ lengthGood 4 t → not l ≡ false
+pub laid-by : (t : List ℕ) (c l : Bool) → headerGood t ≡ true → c ≡ countsGood 4 t → not c ≡ false → l ≡ lengthGood 4 t → not l ≡ false
     → Laid t × (headerGood t ≡ true)
 unfolding countsGood lengthGood
-laid-by t h c l a x b y d z =
-    let header = sym a ∙ not-false h x in
+laid-by t c l header b y d z =
     let counts = both-true _ _ (sym b ∙ not-false c y) in
     (record { head = long-of t header; resources = leb-true _ _ (counts .0); devices = leb-true _ _ (counts .1); long = eqb-true _ _ (sym d ∙ not-false l z) }, header)
 
@@ -147,15 +146,13 @@ module _ (t : List ℕ) where
   unfolding tableVerdict passes
   no-table b e p = unless-refused _ _ (headerGood t) NotATable refl (sym e ∙ not-true b p)
 
-  pub too-many : (h b : Bool) → h ≡ headerGood t → not h ≡ false → b ≡ countsGood 4 t → not b ≡ true → TooMany ≡ tableVerdict 4 t
+  pub too-many : (b : Bool) → headerGood t ≡ true → b ≡ countsGood 4 t → not b ≡ true → TooMany ≡ tableVerdict 4 t
   unfolding passes
-  too-many h b a x e p = unless-refused _ _ (countsGood 4 t) TooMany refl (sym e ∙ not-true b p) ∙ past-header (sym a ∙ not-false h x)
+  too-many b h e p = unless-refused _ _ (countsGood 4 t) TooMany refl (sym e ∙ not-true b p) ∙ past-header h
 
-  pub wrong-length : (h c b : Bool) → h ≡ headerGood t → not h ≡ false → c ≡ countsGood 4 t → not c ≡ false → b ≡ lengthGood 4 t → not b ≡ true
-      → WrongLength ≡ tableVerdict 4 t
+  pub wrong-length : (c b : Bool) → headerGood t ≡ true → c ≡ countsGood 4 t → not c ≡ false → b ≡ lengthGood 4 t → not b ≡ true → WrongLength ≡ tableVerdict 4 t
   unfolding passes
-  wrong-length h c b a x f y e p =
-      unless-refused _ _ (lengthGood 4 t) WrongLength refl (sym e ∙ not-true b p) ∙ past-counts (sym a ∙ not-false h x) (sym f ∙ not-false c y)
+  wrong-length c b h f y e p = unless-refused _ _ (lengthGood 4 t) WrongLength refl (sym e ∙ not-true b p) ∙ past-counts h (sym f ∙ not-false c y)
 
   -- from here on the first three have passed
   module _ (laid : Laid t) (h : headerGood t ≡ true) (r m : ℕ) (e : r ≡ least (λ i. not (resourceGood t i)) (countR t)) (f : m ≡ countR t) where
@@ -179,7 +176,7 @@ module _ (t : List ℕ) where
       pub all-pass : n ≤ q → Done 0 ≡ tableVerdict 4 t
       all-pass u = sym (lowest-passed _ _ _ (countD t) n q (deviceRefusal 4 t) g k u ∙ first-none (Done 0)) ∙ past-resources
 
-pub ruleset table-answers = (long-enough, no-table, too-many, wrong-length, bad-resource, bad-device, all-pass)
+pub ruleset table-answers = (long-of, header-passed, no-table, too-many, wrong-length, bad-resource, bad-device, all-pass)
 
 -- ---- what an accepted table is known to have: from the rules, and from what a caller knows of the answer v of the check, and b whether it passes
 pub laid-of : (t : List ℕ) → passes (tableVerdict 4 t) ≡ true → Laid t

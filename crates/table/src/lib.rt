@@ -12,7 +12,7 @@ ghost use Rattle.rules.specs.Outcomes.{recordPart};
 ghost use Rattle.fields.specs.Layout.{Laid};
 
 // 1: the 8 bytes, the mark, version 1 and a zero at byte 7.
-fn header_good(table: &[u8]) -> bool
+pub fn header_good(table: &[u8]) -> bool
     ensures { λ b. ⌜ b ≡ headerGood (now (table .entry)) ⌝ }
 {
     if table.len() < 8 {
@@ -135,13 +135,11 @@ fn check_records(table: &[u8]) -> Verdict
     Verdict::Done(0)
 }
 
-// Answers 1 to 6 of any bytes, done with no calls if they are a power table.
-pub fn check_table(table: &[u8]) -> Verdict
+// Answers 2 to 6 of bytes whose header is good.
+pub fn check_past_header(table: &[u8]) -> Verdict
+    requires { ⌜ headerGood (now table) ≡ true ⌝ }
     ensures { λ v. ⌜ v ≡ tableVerdict 4 (now (table .entry)) ⌝ }
 {
-    if !header_good(table) {
-        return Verdict::NotATable;
-    }
     if !counts_good(table) {
         return Verdict::TooMany;
     }
@@ -149,6 +147,16 @@ pub fn check_table(table: &[u8]) -> Verdict
         return Verdict::WrongLength;
     }
     check_records(table)
+}
+
+// Answers 1 to 6 of any bytes, done with no calls if they are a power table.
+pub fn check_table(table: &[u8]) -> Verdict
+    ensures { λ v. ⌜ v ≡ tableVerdict 4 (now (table .entry)) ⌝ }
+{
+    if !header_good(table) {
+        return Verdict::NotATable;
+    }
+    check_past_header(table)
 }
 
 // Whether bytes are a power table.
