@@ -64,10 +64,6 @@ pub entries-of : (b : List ℕ) → entriesOf 4 (stateOf b .devices) ≡ statusO
 unfolding stateOf statusOf
 entries-of b = entries-front b
 
-pub status-of : (b : List ℕ) → statusIn (stateOf b) ≡ statusOf 4 b
-unfolding statusIn stateOf statusOf
-status-of b = rw (entries-front b) refl
-
 -- a loop that copied 128 bytes, and the number after them
 pub loaded : (b ds₀ ds : List ℕ) (i on : ℕ) → Emitted ds₀ 0 (take i b) ds i → length ds₀ ≡ 128 → length b ≡ 132 → 128 ≤ i → i ≤ 128 → on ≡ readLE 4 b 128
     → record { devices = ds; on = on } ≡ stateOf b
@@ -79,15 +75,6 @@ loaded b ds₀ ds i on e l m g h r =
     rw (same, r) refl
 
 -- ---- what is stored
-
-pub bytes-back : (b : List ℕ) → length b ≡ 132 → ((i : ℕ) → getD b i 0 < 256) → bytesOf (stateOf b) ≡ b
-unfolding bytesOf stateOf
-bytes-back b l h =
-    rw (← read-drop 4 b 128 0, bytes-read 4 (drop 128 b) (length-drop 128 b ∙ omega arith) (below-drop 256 128 b h)) (take-append-drop 128 b)
-
-pub bytes-long : (st : State) → length (st .devices) ≡ 128 → length (bytesOf st) ≡ 132
-unfolding bytesOf
-bytes-long st l = length-append (st .devices) (bytesLE 4 (st .on)) ∙ omega (arith, bytes-length 4 (st .on))
 
 -- a loop that copied the 128 bytes, and the number written after them
 pub stored : (st : State) (b l m : List ℕ) (i : ℕ) → Emitted b 0 (take i (st .devices)) l i → m ≡ put l 128 (bytesLE 4 (st .on)) → length (st .devices) ≡ 128

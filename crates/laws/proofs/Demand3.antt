@@ -48,10 +48,6 @@ pub number-passes : (v : Verdict) → numberOf v ≡ 0 → passes v ≡ true
 unfolding passes
 number-passes v e = eq-eqb (numberOf v) 0 e
 
-pub passes-number : (v : Verdict) → passes v ≡ true → numberOf v ≡ 0
-unfolding passes
-passes-number v e = eqb-true (numberOf v) 0 e
-
 -- ---- what a permitted request has passed
 pub permitted-stages : (w : ℕ) (t b : List ℕ) (q : Request) → passes (permittedVerdict w t b q) ≡ true → Stages w t b q
 unfolding permittedVerdict requestStage

@@ -124,8 +124,3 @@ module _ (word : ℕ → ℕ) (after : ℕ → ℕ → Bool) where
         let some = ne-eqb todo 0 (λ z. true≢false (sym h ∙ ap (λ (x : ℕ). member x r) z ∙ member-none r)) in
         let ih = take-of l (minus todo (single r)) false r rest (minus-lt n todo (single r) u) (once-cons todo r l h .1 o) (f .1) in
         take-one todo first last (word r) _ some (may-of todo first last r below h (f .0)) ∙ rw (index r below) ih
-
-    pub take-iff : (ws : List ℕ) (todo : ℕ) (first : Bool) (last : ℕ) (rest : List ℕ) → todo < 2 ^ n
-        → (takeSet word after todo first last ws ≡ left rest) ↔ Taken word after todo first last ws rest
-    take-iff ws todo first last rest u =
-        (take-at ws todo first last rest, λ t. rw (t .whole) (take-of (t .list) todo first last rest u (t .once) (t .chain)))

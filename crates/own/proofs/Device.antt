@@ -107,8 +107,3 @@ module _ (q : Request) where
   last-none k l = simp ne-eqb
 
 pub ruleset owning = (own-moves, own-wakes, last-arms, last-moves, last-none)
-
--- the rules take the entry from all entries, and look at no other
-pub own-at : (s : Station) (entries : ℕ → Entry) (q : Request) → ownCall s entries q ≡ ownOf s (entries (q .device)) q
-unfolding ownOf ownCall
-own-at s entries q = refl

@@ -145,11 +145,6 @@ written t e q on off d xs ys w h k n a b =
 
 -- ---- the planner's list is the plan of the sets that the rules give, and these have no resource in common
 
-pub calls-are : (s : Station) (st : Status) (q : Request)
-    → map wordOf (calls s st q) ≡ planWords s (st .entries (q .device)) q (toTurnOn s st q) (toTurnOff s st q)
-unfolding calls turnOn turnOff planWords ownOf ownCall
-calls-are s st q = refl
-
 pub switches-apart : (s : Station) (st : Status) (q : Request) → Apart (toTurnOn s st q) (toTurnOff s st q)
 unfolding Apart toTurnOn toTurnOff
 switches-apart s st q r =

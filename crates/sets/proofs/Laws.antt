@@ -77,10 +77,6 @@ pub minus-lt : (w a b : ℕ) → a < 2 ^ w → minus a b < 2 ^ w
 unfolding minus
 minus-lt w a b h = xor-lt w a (bitAnd a b) h (lt-of-le-of-lt (and-le-l a b) h)
 
-pub single-lt : (w r : ℕ) → r < w → single r < 2 ^ w
-unfolding single
-single-lt w r h = pow-lt h
-
 pub firstN-lt : (w n : ℕ) → n ≤ w → firstN n < 2 ^ w
 unfolding firstN
 firstN-lt w n h = omega (arith, pow-pos n, pow-mono h)

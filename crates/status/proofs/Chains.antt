@@ -25,20 +25,6 @@ use Rattle.image.specs.State.{bytesOf, freshState}
 use Rattle.sound.specs.Ready.{Ready, statusWith}
 use Rattle.image.proofs.Held.{fresh-image}
 
--- ---- a chain that passes comes to its last answer
-first-done : (vs : List Verdict) (last : Verdict) → passes (firstOf vs last) ≡ true → firstOf vs last ≡ last
-first-done [] last e = first-none last
-first-done (v ∷ vs) last e = let a = first-both v vs last e in first-pass v vs last (a .0) ∙ first-done vs last (a .1)
-
--- so for a caller: v is what the check answered, p whether that passes
-pub table-done : (t : List ℕ) (v : Verdict) (p : Bool) → v ≡ tableVerdict 4 t → p ≡ passes v → not p ≡ false → tableVerdict 4 t ≡ Done 0
-unfolding tableVerdict
-table-done t v p e f n = first-done _ (Done 0) (ap passes (sym e) ∙ sym f ∙ not-false p n)
-
-pub state-done : (s : Station) (b : List ℕ) (v : Verdict) (p : Bool) → v ≡ stateVerdict 4 s b → p ≡ passes v → not p ≡ false → stateVerdict 4 s b ≡ Done 0
-unfolding stateVerdict
-state-done s b v p e f n = first-done _ (Done 0) (ap passes (sym e) ∙ sym f ∙ not-false p n)
-
 -- ---- what an accepted table and good entries give; g is what the test of the entries returned
 pub ready-by : (t b : List ℕ) (g : Bool) → tableVerdict 4 t ≡ Done 0 → length b ≡ 132 → g ≡ entriesGood 32 (stationOf 4 t) (entriesOf 4 b) → not g ≡ false → Ready t b
 unfolding passes

@@ -188,17 +188,11 @@ pub laid-done : (t : List ℕ) (n : ℕ) → tableVerdict 4 t ≡ Done n → Lai
 unfolding passes
 laid-done t n e = laid-of t (ap passes e)
 
-pub laid-matched : (t : List ℕ) (v : Verdict) (n : ℕ) → v ≡ tableVerdict 4 t → v ≡ Done n → Laid t
-laid-matched t v n e f = laid-done t n (sym e ∙ f)
-
 pub accepted-is : (t : List ℕ) (v : Verdict) (b : Bool) → v ≡ tableVerdict 4 t → b ≡ passes v → b ≡ passes (tableVerdict 4 t)
 accepted-is t v b e f = f ∙ ap passes e
 
 pub laid-told : (t : List ℕ) (b : Bool) → b ≡ passes (tableVerdict 4 t) → not b ≡ false → Laid t
 laid-told t b e p = laid-of t (sym e ∙ not-false b p)
-
-pub laid-passed : (t : List ℕ) (v : Verdict) (b : Bool) → v ≡ tableVerdict 4 t → b ≡ passes v → not b ≡ false → Laid t
-laid-passed t v b e f p = laid-told t b (accepted-is t v b e f) p
 
 -- ---- a device's record
 module _ (t : List ℕ) (d : ℕ) (b : Bool) (e : b ≡ passes (tableVerdict 4 t)) where

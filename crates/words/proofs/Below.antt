@@ -21,9 +21,3 @@ below-take b (suc n) (a ∷ s) h = below-cons b a (take n s) (h 0) (below-take b
 
 pub below-drop : (b n : ℕ) (s : List ℕ) → ((i : ℕ) → getD s i 0 < b) → (i : ℕ) → getD (drop n s) i 0 < b
 below-drop b n s h i = rw (getD-drop n s i 0) (h (n + i))
-
-pub below-put : (b : ℕ) (d : List ℕ) (at : ℕ) (ws : List ℕ) → ((i : ℕ) → getD d i 0 < b) → ((i : ℕ) → getD ws i 0 < b) → (i : ℕ) → getD (put d at ws) i 0 < b
-unfolding put
-below-put b d at ws hd hw =
-    let n = at + length ws in
-    below-append b (take at d ++ ws) (drop n d) (below-append b (take at d) ws (below-take b at d hd) hw) (below-drop b n d hd)

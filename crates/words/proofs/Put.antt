@@ -91,9 +91,6 @@ pub record Going (all d : List ℕ) (at : ℕ) (l rest : List ℕ) (p : ℕ) : T
 pub going-start : (all d : List ℕ) (at : ℕ) → Going all d at d all at
 going-start all d at = record { list = refl; place = refl; long = refl }
 
-pub going-same : {all d l rest : List ℕ} {at p : ℕ} (next : List ℕ) → Going all d at l rest p → rest ≡ next → Going all d at l next p
-going-same next g e = rw e at g
-
 -- a run more, as a call's `ensures` gives it
 pub going-run : {all d l l′ rest : List ℕ} {at p r : ℕ} (vs next : List ℕ) → Going all d at l rest p → rest ≡ vs ++ next
     → (r ≡ p + length vs) × (l′ ≡ put l p vs) → at + length all ≤ length d → Going all d at l′ next r
