@@ -6,7 +6,7 @@ use cases::station;
 use rules::Request;
 ghost use mathlib.Core.Path.{_≡_};
 ghost use Prim.Native.Nat.{_+_, _*_, _/_, _%_, _<_, _≤_, min};
-ghost use lib.ListN.{length, take};
+ghost use lib.ListN.{length};
 ghost use Rattle.rules.specs.Rows.{blank, benchTable};
 ghost use Rattle.rules.specs.Outcomes.{fresh, planBytes, checkBytes};
 ghost use Rattle.sailgarnet.specs.Packed.{packed};

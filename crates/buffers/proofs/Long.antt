@@ -1,8 +1,8 @@
 -- A list that conforms has at most R + 1 words: each phase has as many as its set has members, and no resource is in both sets. Assumes nothing.
-use mathlib.Core.Path.{_≡_, refl, sym, ap, _∙_}
-use mathlib.Core.Bool.{Bool, true, false, cond}
-use mathlib.Core.List.{List, [], _∷_, _++_, map}
-use Prim.Native.Nat.{ℕ, suc, _+_, _^_, _≤_, _<_}
+use mathlib.Core.Path.{_≡_, sym, ap, _∙_}
+use mathlib.Core.Bool.{Bool, true, false}
+use mathlib.Core.List.{List, map}
+use Prim.Native.Nat.{ℕ, _+_, _^_, _≤_, _<_}
 use native.Mathlib.Omega.{arith}
 use lib.ListN.{length, length-append, length-map}
 use Rattle.sets.proofs.Laws.{decide}
@@ -12,8 +12,8 @@ use Rattle.rules.specs.declared.Call.{Call}
 use Rattle.rules.specs.Station.{Station}
 use Rattle.rules.specs.Status.{Status}
 use Rattle.rules.specs.Request.{isMove, isArm}
-use Rattle.rules.specs.Calls.{earlier, sort, orderIn, rising, wordOf, only, moveCall, wakeCall, ownCall, ownLast, arrange, toTurnOn, toTurnOff}
-use Rattle.rules.specs.Conforms.{times, EachOnce, Conforms}
+use Rattle.rules.specs.Calls.{earlier, sort, orderIn, rising, wordOf, only, moveCall, wakeCall, ownCall, ownLast, toTurnOn, toTurnOff}
+use Rattle.rules.specs.Conforms.{EachOnce, Conforms}
 use Rattle.rules.specs.Check.{onWord, offWord, ownFirstCalls, ownLastCalls}
 use Rattle.laws.proofs.Sort.{times-sort, length-sort, sort-sorted, unique}
 use Rattle.laws.proofs.Order.{earlier-order, rising-sorted, rising-once}

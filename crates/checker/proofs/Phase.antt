@@ -1,8 +1,8 @@
 -- One phase of the checker: what each test of a word says of `mayCome`, and how a turn of the loop shortens `takeSet`. Assumes nothing.
 use mathlib.Core.Path.{_≡_, refl, sym, ap, _∙_}
 use mathlib.Core.Bool.{Bool, true, false, not, _&&_, _||_}
-use mathlib.Core.List.{List, [], _∷_}
-use Prim.Native.Nat.{ℕ, _+_, _*_, _^_, _≤_, _<_}
+use mathlib.Core.List.{List}
+use Prim.Native.Nat.{ℕ, _+_, _^_, _≤_, _<_}
 use native.Mathlib.Numerals.{add-one}
 use native.Mathlib.Omega.{arith}
 use borrow.Author.Tests.{eq-eqb, ne-eqb, not-true, not-false}
@@ -10,13 +10,11 @@ use lib.Dec.{eqb, leb}
 use lib.ListN.{length, getD, drop, drop-of-length-le}
 use lib.Seq.{drop-cons}
 use Rattle.sets.specs.Sets.{member, minus, single}
-use Rattle.sets.proofs.Laws.{member-below, minus-lt}
+use Rattle.sets.proofs.Laws.{member-below}
 use Rattle.rules.specs.Station.{Station}
 use Rattle.rules.specs.Check.{Rest, left, refused, resourceIn, mayCome, takeSet}
 use Rattle.laws.proofs.Tests.{both-true}
 use Rattle.laws.proofs.Take.{take-stop, take-short, take-bad, take-one}
-use Rattle.checker.specs.declared.Taken.{Taken}
-use Rattle.calls.specs.Switch.{switchWord}
 use Rattle.checker.specs.Phases.{restOf, follows}
 
 -- ---- the order of two resources

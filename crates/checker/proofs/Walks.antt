@@ -2,18 +2,18 @@
 use mathlib.Core.Path.{_≡_, refl, sym, ap, _∙_}
 use mathlib.Core.Bool.{Bool, true, false, not, cond}
 use mathlib.Core.List.{List, [], _∷_, map}
-use Prim.Native.Nat.{ℕ, zero, suc, _+_, _-_, _≤_, _<_}
+use Prim.Native.Nat.{ℕ, _+_, _≤_, _<_}
 use native.Mathlib.Numerals.{add-one}
 use native.Mathlib.Omega.{arith}
 use borrow.Author.Tests.{eq-eqb, ne-eqb, not-true, not-false, eqb-true, eqb-false}
 use lib.Dec.{eqb}
-use lib.ListN.{length, getD, drop, drop-of-length-le, length-drop}
+use lib.ListN.{length, getD, drop, drop-of-length-le}
 use lib.Seq.{drop-cons}
 use Rattle.sets.proofs.Laws.{decide}
 use Rattle.rules.specs.declared.Call.{Call}
 use Rattle.rules.specs.Station.{Station}
 use Rattle.rules.specs.Calls.{wordOf}
-use Rattle.rules.specs.Check.{Rest, left, refused, andThen, takeCalls, takeSet, isEnd}
+use Rattle.rules.specs.Check.{left, refused, andThen, takeCalls, takeSet, isEnd}
 use Rattle.checker.specs.declared.Taken.{Taken}
 use Rattle.calls.specs.Switch.{switchWord}
 use Rattle.checker.specs.Phases.{restOf, follows, takeWords, walked}

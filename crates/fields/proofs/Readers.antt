@@ -1,15 +1,15 @@
 -- Each field of the station, from the byte at which its record starts: what the readers of a table cite. Assumes nothing.
-use mathlib.Core.Path.{_≡_, refl, sym, ap, _∙_}
-use mathlib.Core.Bool.{true, false, cond}
+use mathlib.Core.Path.{_≡_, refl, _∙_}
+use mathlib.Core.Bool.{cond}
 use mathlib.Core.List.{List}
 use Prim.Native.Nat.{ℕ, _+_, _*_, _<_}
 use native.Mathlib.Omega.{arith}
-use borrow.Author.Tests.{eq-eqb, ne-eqb}
+use borrow.Author.Tests.{ne-eqb}
 use lib.Dec.{eqb}
 use lib.ListN.{getD}
 use Rattle.words.specs.Words.{readLE}
 use Rattle.rules.specs.Index.{below}
-use Rattle.rules.specs.Station.{absent, countR, countD, resourceStart, deviceStart, resourceAt, deviceAt, stationOf}
+use Rattle.rules.specs.Station.{absent, countR, countD, deviceStart, resourceAt, deviceAt, stationOf}
 use Rattle.rules.proofs.Index.{below-in}
 use Rattle.laws.proofs.Accepted.{resource-at, device-at}
 

@@ -7,17 +7,15 @@ use native.Mathlib.Numerals.{towards-suc}
 use native.Mathlib.Omega.{arith}
 use borrow.Author.Tests.{ltb-true, ltb-false}
 use lib.Dec.{ltb}
-use lib.ListN.{length, getD, take, drop, replicate, length-append, length-drop, length-replicate, getD-replicate, take-append-drop, drop-of-length-le}
+use lib.ListN.{length, getD, take, drop, replicate, length-append, length-replicate, getD-replicate, drop-of-length-le}
 use lib.Seq.{length-take-le, take-all, getD-take, drop-cons}
 use Rattle.sets.specs.Sets.{firstN}
 use Rattle.sets.proofs.Laws.{decide}
 use Rattle.words.specs.Words.{readLE, bytesLE, put}
-use Rattle.words.proofs.Laws.{read-drop, bytes-read, bytes-length}
-use Rattle.words.proofs.Below.{below-drop}
+use Rattle.words.proofs.Laws.{bytes-length}
 use Rattle.words.proofs.Put.{Emitted, emitted-run, put-all}
 use Rattle.rules.specs.declared.State.{State}
 use Rattle.rules.specs.declared.Entry.{Entry}
-use Rattle.rules.specs.Index.{below}
 use Rattle.rules.specs.Station.{Station}
 use Rattle.rules.specs.Status.{noEntry, entryAt, entryBytes, entriesOf, statusOf, entriesBytes, imageOf, freshStatus}
 use Rattle.rules.proofs.Index.{below-in, below-out}

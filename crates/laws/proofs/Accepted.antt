@@ -1,21 +1,20 @@
 -- What an accepted table gives: its counts and length, and of each resource and device every rule of document 01's table, read off the station.
 -- Assumes nothing.
-use mathlib.Core.Path.{_≡_, refl, sym, ap, _∙_}
-use mathlib.Core.Bool.{Bool, true, false, not, _&&_, _||_, true≢false}
+use mathlib.Core.Path.{_≡_, refl, sym, _∙_}
+use mathlib.Core.Bool.{true, false}
 use mathlib.Core.List.{List, [], _∷_, _++_}
-use Prim.Native.Nat.{ℕ, zero, suc, _+_, _*_, _^_, _≤_, _<_}
+use Prim.Native.Nat.{ℕ, _+_, _*_, _≤_, _<_}
 use native.Mathlib.Omega.{arith}
 use native.Mathlib.Nat.{lt-irrefl}
 use borrow.Author.Tests.{eqb-true, leb-true, ltb-true, not-false}
-use lib.Dec.{eqb, ltb, leb}
-use lib.ListN.{length, getD}
+use lib.Dec.{eqb}
+use lib.ListN.{length}
 use Rattle.sets.proofs.Laws.{decide}
-use Rattle.rules.specs.declared.Verdict.{Verdict}
-use Rattle.rules.specs.declared.Verdict.the-variants.{Done, NotATable, TooMany, WrongLength, BadResource}
+use Rattle.rules.specs.declared.Verdict.the-variants.{TooMany, WrongLength, BadResource}
 use Rattle.rules.specs.Index.{eachFrom}
-use Rattle.rules.specs.Answers.{numberOf, passes, firstOf, unless, lowest}
-use Rattle.rules.specs.Station.{Device, Station, recordSize, countR, countD, resourceStart, deviceStart, resourceAt, deviceAt, stationOf}
-use Rattle.rules.specs.Table.{headerGood, countsGood, lengthGood, Field, field, firstBad, resourceFields, resourceGood, parentGood, setGood, sxdGood, sxwGood, deepestGood, headFields, setFields, sxdFields, sxwFields, lastFields, deviceFields, badField, fieldsGood, objectsGood, deviceRefusal, deviceGood, tableVerdict}
+use Rattle.rules.specs.Answers.{numberOf, passes}
+use Rattle.rules.specs.Station.{Device, recordSize, countR, countD, resourceStart, deviceStart, resourceAt, deviceAt, stationOf}
+use Rattle.rules.specs.Table.{countsGood, lengthGood, Field, field, firstBad, resourceFields, resourceGood, parentGood, setGood, sxdGood, sxwGood, deepestGood, headFields, setFields, sxdFields, sxwFields, lastFields, deviceFields, badField, fieldsGood, objectsGood, deviceRefusal, deviceGood, tableVerdict}
 use Rattle.rules.proofs.Index.{below-in}
 use Rattle.rules.proofs.Answers.{first-both, unless-at, lowest-at}
 use Rattle.laws.specs.Carried.{All}

@@ -1,31 +1,26 @@
 -- A list that conforms is arranged: own call, ONs, OFFs, own call, from the on-set to the needed set after the request. So the execution theorem holds of it.
 -- Assumes nothing.
-use mathlib.Core.Path.{_≡_, refl, sym, ap, _∙_}
-use mathlib.Core.Bool.{Bool, true, false, not, cond, _&&_, _||_, true≢false}
-use mathlib.Core.List.{List, [], _∷_, _++_, map, append-assoc, append-nil}
-use Prim.Native.Nat.{ℕ, zero, suc, _+_, _*_, _%_, _^_, _≤_, _<_}
+use mathlib.Core.Path.{_≡_, refl, sym, _∙_}
+use mathlib.Core.Bool.{Bool, true, false, cond}
+use mathlib.Core.List.{List, [], _∷_, map, append-assoc, append-nil}
+use Prim.Native.Nat.{ℕ, _+_, _^_, _≤_, _<_}
 use native.Mathlib.Omega.{arith}
-use native.Mathlib.Nat.{zero-add}
-use borrow.Author.Tests.{lt-ltb, eq-eqb, ltb-true, ltb-false}
-use lib.Dec.{eqb, ltb}
-use lib.ListN.{length}
-use Rattle.sets.specs.Sets.{member, minus}
+use borrow.Author.Tests.{lt-ltb, eq-eqb, ltb-true}
+use lib.Dec.{eqb}
+use Rattle.sets.specs.Sets.{member}
 use Rattle.sets.proofs.Laws.{member-below, decide, member-minus, minus-lt}
 use Rattle.rules.specs.declared.Request.{Request}
-use Rattle.rules.specs.declared.Wake.{Wake}
 use Rattle.rules.specs.declared.Wake.the-variants.{Enable, Disable}
 use Rattle.rules.specs.declared.Call.{Call}
-use Rattle.rules.specs.declared.Call.the-variants.{ResourceOn, ResourceOff, SetState, SetWake}
-use Rattle.rules.specs.Station.{Station, hasPS, hasDSW}
+use Rattle.rules.specs.declared.Call.the-variants.{SetState, SetWake}
+use Rattle.rules.specs.Station.{Station}
 use Rattle.rules.specs.declared.Entry.{Entry}
-use Rattle.rules.specs.Power.{isArmed}
 use Rattle.rules.specs.Status.{Status}
 use Rattle.rules.specs.Request.{isMove, isArm}
-use Rattle.rules.specs.Calls.{wordOf, wakeWord, only, methodFor, moveCall, wakeCall, ownCall, ownLast, endSet, toTurnOn, toTurnOff, arrange}
+use Rattle.rules.specs.Calls.{wordOf, only, methodFor, moveCall, wakeCall, ownCall, ownLast, endSet, toTurnOn, toTurnOff, arrange}
 use Rattle.rules.specs.Conforms.{times, EachOnce, Conforms}
-use Rattle.rules.specs.Check.{onWord, offWord, ownFirstCalls, ownLastCalls}
+use Rattle.rules.specs.Check.{ownFirstCalls, ownLastCalls}
 use Rattle.laws.specs.Carried.{All, Other, hasIn, listed, Arranged, Carried}
-use Rattle.laws.proofs.All.{all-map, all-imp}
 use Rattle.laws.proofs.Execution.{carried}
 use Rattle.laws.proofs.Conform.{by-phase}
 

@@ -1,34 +1,33 @@
 -- Demand 3 of byte lists: their words get the same answer, a length that is no multiple of four never passes, and the planner's own bytes pass, since each of
 -- its words fits four bytes. Assumes nothing.
-use mathlib.Core.Path.{_≡_, refl, sym, ap, _∙_}
-use mathlib.Core.Bool.{Bool, true, false, cond}
-use mathlib.Core.List.{List, [], _∷_, _++_, map}
+use mathlib.Core.Path.{_≡_, refl, ap, _∙_}
+use mathlib.Core.Bool.{Bool, true, false}
+use mathlib.Core.List.{List, _++_, map}
 use mathlib.Core.Logic.{⊎-elim}
 use Prim.Native.Nat.{ℕ, _+_, _*_, _/_, _%_, _^_, _≤_, _<_}
 use native.Mathlib.Omega.{arith}
-use native.Mathlib.Nat.{lt-of-lt-of-le}
 use borrow.Author.Tests.{eqb-true, eq-eqb, leb-true, ltb-true, ltb-false}
 use lib.Dec.{eqb, leb, ltb}
 use lib.ListN.{length, getD, take, List·getD-eq-default}
 use Rattle.sets.proofs.Laws.{decide, minus-lt}
-use Rattle.words.specs.Words.{put, wordBytes, byteWords}
+use Rattle.words.specs.Words.{wordBytes, byteWords}
 use Rattle.words.proofs.Put.{take-put}
 use Rattle.words.proofs.Laws.{word-bytes-length, words-of-bytes}
 use Rattle.rules.specs.declared.Request.{Request}
 use Rattle.rules.specs.declared.Wake.the-variants.{Enable, Disable}
 use Rattle.rules.specs.declared.Call.{Call}
 use Rattle.rules.specs.declared.Call.the-variants.{SetState, SetWake}
-use Rattle.rules.specs.declared.Verdict.the-variants.{Done, NotConforming, BadRequest}
+use Rattle.rules.specs.declared.Verdict.the-variants.{NotConforming, BadRequest}
 use Rattle.rules.specs.Answers.{numberOf, countOf, passes}
 use Rattle.rules.specs.Station.{Station, stationOf}
 use Rattle.rules.specs.declared.Entry.{Entry}
 use Rattle.rules.specs.Status.{statusOf}
-use Rattle.rules.specs.Request.{isMove, isArm, formGood, requestVerdict}
+use Rattle.rules.specs.Request.{formGood, requestVerdict}
 use Rattle.rules.specs.Calls.{wordOf, only, methodFor, moveCall, wakeCall, ownCall, ownLast, toTurnOn, toTurnOff, calls}
 use Rattle.rules.specs.Check.{onWord, offWord, ownFirstCalls, ownLastCalls}
 use Rattle.rules.specs.Outcomes.{outcome, planRoom, planned, planBytes, checkWords, checkBytes}
 use Rattle.rules.proofs.Answers.{first-both, unless-at}
-use Rattle.laws.specs.Carried.{All, listed}
+use Rattle.laws.specs.Carried.{All}
 use Rattle.laws.specs.Demand3.{Demand3Bytes}
 use Rattle.laws.proofs.Tests.{both-true}
 use Rattle.laws.proofs.All.{all-append, all-at, all-map, all-imp}

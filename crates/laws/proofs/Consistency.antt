@@ -1,25 +1,20 @@
 -- Consistency is kept: from a status in which every device is consistent, an accepted request leads to one in which every device is, with exactly the
 -- needed set on. Over a station whose parents have lower numbers and whose sets have no bit at or above R. Assumes nothing.
-use mathlib.Core.Path.{_≡_, refl, sym, ap, _∙_}
-use mathlib.Core.Bool.{Bool, true, false, not, _&&_, _||_, cond, true≢false}
-use mathlib.Core.Logic.{_⊎_, inl, inr, ⊎-elim}
-use Prim.Native.Nat.{ℕ, _^_, _≤_, _<_}
-use native.Mathlib.Omega.{arith}
-use borrow.Author.Tests.{eqb-true, eqb-false, eq-eqb, ne-eqb, ltb-true, ltb-false, leb-true, le-leb, not-true, not-false}
-use lib.Dec.{eqb, ltb, leb}
-use Rattle.sets.proofs.Laws.{decide}
+use mathlib.Core.Path.{_≡_, refl}
+use mathlib.Core.Bool.{true, false}
+use Prim.Native.Nat.{ℕ, _<_}
+use borrow.Author.Tests.{eq-eqb, ne-eqb}
+use lib.Dec.{leb}
 use Rattle.rules.specs.declared.Request.{Request}
-use Rattle.rules.specs.declared.Verdict.the-variants.{BadRequest, Unsupported, Shallower, ParentDeeper, ChildShallower, TooDeepToWake, NoWake, WakeUnpowered, BadWakeState}
+use Rattle.rules.specs.declared.Verdict.the-variants.{Unsupported, Shallower, ParentDeeper, ChildShallower, TooDeepToWake, NoWake, WakeUnpowered, BadWakeState}
 use Rattle.rules.specs.Answers.{passes}
-use Rattle.rules.specs.Station.{Station, absent}
+use Rattle.rules.specs.Station.{Station}
 use Rattle.rules.specs.declared.Entry.{Entry}
-use Rattle.rules.specs.Power.{isArmed, supported, wakeFrom, wakePowered, wakeState, wakePair, needed}
-use Rattle.rules.specs.Status.{Status, underParent, wakeSound, consistentButPower, powered, consistent}
-use Rattle.rules.specs.Request.{isMove, isArm, isDisarm, formGood, notShallowerOrD0, parentAllows, childBars, wakeAllows, moveVerdict, armVerdict, kindVerdict, requestVerdict, newEntry, entriesAfter}
-use Rattle.rules.specs.Calls.{endSet, statusAfter}
+use Rattle.rules.specs.Power.{supported, wakeFrom, wakePowered, wakeState}
+use Rattle.rules.specs.Status.{underParent, wakeSound, consistentButPower, powered}
+use Rattle.rules.specs.Request.{notShallowerOrD0, parentAllows, childBars, wakeAllows, moveVerdict, armVerdict, newEntry, entriesAfter}
 use Rattle.rules.proofs.Answers.{first-both, unless-at, lowest-at}
-use Rattle.laws.proofs.Tests.{both-true, and-true, or-cases, or-left, or-right}
-use Rattle.laws.proofs.Needed.{all-powered}
+use Rattle.laws.proofs.Tests.{both-true}
 
 -- ---- what an accepted request has passed
 

@@ -1,43 +1,38 @@
 -- Demand 3 holds of every list: from the equivalence of test and definition, the execution theorem, and what accepted tables and states give.
 -- Assumes nothing.
-use mathlib.Core.Path.{_≡_, refl, sym, ap, _∙_}
-use mathlib.Core.Bool.{Bool, true, false, not, cond, _&&_, _||_, true≢false}
+use mathlib.Core.Path.{_≡_, refl, ap, _∙_}
+use mathlib.Core.Bool.{Bool, true, false}
 use mathlib.Core.List.{List, [], _∷_, _++_, map, append-nil}
 use mathlib.Core.Logic.{_↔_, ⊎-elim}
-use Prim.Native.Nat.{ℕ, zero, suc, _+_, _*_, _/_, _%_, _^_, _≤_, _<_}
+use Prim.Native.Nat.{ℕ, _+_, _^_, _≤_, _<_}
 use native.Mathlib.Omega.{arith}
-use native.Mathlib.Nat.{lt-of-lt-of-le, le-trans}
-use borrow.Author.Tests.{eqb-true, eq-eqb, ne-eqb, leb-true, ltb-true, lt-ltb, ltb-false}
-use lib.Dec.{eqb, leb, ltb}
+use borrow.Author.Tests.{eq-eqb}
+use lib.Dec.{leb}
 use lib.ListN.{length, getD, take}
-use lib.Pow.{pow-mono}
-use Rattle.sets.specs.Sets.{member, minus, subset}
+use Rattle.sets.specs.Sets.{member}
 use Rattle.sets.proofs.Laws.{decide, minus-lt, subset-at}
-use Rattle.words.specs.Words.{put, wordBytes, byteWords}
 use Rattle.words.proofs.Put.{take-put}
 use Rattle.rules.specs.declared.Request.{Request}
 use Rattle.rules.specs.declared.Call.{Call}
 use Rattle.rules.specs.declared.Verdict.{Verdict}
-use Rattle.rules.specs.declared.Verdict.the-variants.{Done, NoRoom, NotConforming, BadRequest}
-use Rattle.rules.specs.Answers.{numberOf, countOf, passes, firstOf, unless}
-use Rattle.rules.specs.Station.{Station, countR, stationOf}
-use Rattle.rules.specs.Table.{tableVerdict}
+use Rattle.rules.specs.declared.Verdict.the-variants.{Done, NotConforming, BadRequest}
+use Rattle.rules.specs.Answers.{numberOf, countOf, passes, firstOf}
+use Rattle.rules.specs.Station.{Station, stationOf}
 use Rattle.rules.specs.declared.Entry.{Entry}
-use Rattle.rules.specs.Power.{needs, needed, neededBelow}
-use Rattle.rules.specs.Status.{Status, statusOf, stateVerdict}
-use Rattle.rules.specs.Request.{formGood, requestVerdict, entriesAfter}
-use Rattle.rules.specs.Calls.{wordOf, calls, ownCall, ownLast, endSet, toTurnOn, toTurnOff}
+use Rattle.rules.specs.Power.{needs, needed}
+use Rattle.rules.specs.Status.{statusOf}
+use Rattle.rules.specs.Request.{requestVerdict, entriesAfter}
+use Rattle.rules.specs.Calls.{wordOf, ownCall, ownLast, endSet, toTurnOn, toTurnOff}
 use Rattle.rules.specs.Conforms.{Conforms}
 use Rattle.rules.specs.Check.{conforming, ownFirstCalls, ownLastCalls, onWord, offWord}
 use Rattle.rules.specs.Execution.{execution}
-use Rattle.rules.specs.Outcomes.{Outcome, outcome, planRoom, planned, planVerdict, requestStage, permittedVerdict, planWords, checkWords, stateAfter}
+use Rattle.rules.specs.Outcomes.{outcome, planRoom, planned, planVerdict, requestStage, permittedVerdict, planWords, checkWords}
 use Rattle.rules.proofs.Answers.{first-both, first-pass, first-none, unless-at, unless-of}
 use Rattle.laws.specs.Carried.{All, Other, listed, Carried}
-use Rattle.laws.specs.Demand3.{Permitted, Passed, neededBefore, neededAfter, ownNeeds, onAfter, Demand3}
-use Rattle.laws.proofs.Accepted.{Accepted, accepted}
+use Rattle.laws.specs.Demand3.{Passed, neededBefore, neededAfter, ownNeeds, onAfter, Demand3}
+use Rattle.laws.proofs.Accepted.{accepted}
 use Rattle.laws.proofs.Needed.{needed-of, needed-by, needed-lt}
-use Rattle.laws.proofs.Kept.{StationRules}
-use Rattle.laws.proofs.States.{Sound, sound-of, station-rules, form-device}
+use Rattle.laws.proofs.States.{sound-of, station-rules, form-device}
 use Rattle.laws.proofs.Runs.{Stages, plan-stages}
 use Rattle.laws.proofs.Conform.{conforming-iff, planner-conforms}
 use Rattle.laws.proofs.Place.{other-place}

@@ -1,11 +1,11 @@
 -- An accepted request keeps every device consistent, and the entries' values good. Over a station whose parents have lower numbers and whose sets have no
 -- bit at or above R, as an accepted table's station has. Assumes nothing.
-use mathlib.Core.Path.{_≡_, refl, sym, ap, _∙_}
-use mathlib.Core.Bool.{Bool, true, false, not, _&&_, _||_, cond, true≢false}
+use mathlib.Core.Path.{_≡_, refl}
+use mathlib.Core.Bool.{Bool, true, false, not, _&&_, _||_}
 use mathlib.Core.Logic.{_⊎_, inl, inr, ⊎-elim}
-use Prim.Native.Nat.{ℕ, _^_, _≤_, _<_}
+use Prim.Native.Nat.{ℕ, _^_, _<_}
 use native.Mathlib.Omega.{arith}
-use borrow.Author.Tests.{eqb-true, eqb-false, eq-eqb, ne-eqb, ltb-true, ltb-false, leb-true, le-leb, not-true}
+use borrow.Author.Tests.{eqb-true, eqb-false, ltb-true, ltb-false, le-leb}
 use lib.Dec.{eqb, ltb, leb}
 use Rattle.sets.proofs.Laws.{decide}
 use Rattle.rules.specs.declared.Request.{Request}
@@ -14,14 +14,12 @@ use Rattle.rules.specs.Answers.{passes}
 use Rattle.rules.specs.Station.{Station, absent}
 use Rattle.rules.specs.Table.{parentGood}
 use Rattle.rules.specs.declared.Entry.{Entry}
-use Rattle.rules.specs.Power.{isArmed, supported, wakePair, needed}
-use Rattle.rules.specs.Status.{Status, underParent, wakeSound, consistentButPower, powered, consistent}
-use Rattle.rules.specs.Request.{isMove, isArm, formGood, parentAllows, childBars, wakeAllows, moveVerdict, armVerdict, kindVerdict, requestVerdict, newEntry, entriesAfter}
-use Rattle.rules.specs.Calls.{endSet, statusAfter}
+use Rattle.rules.specs.Power.{isArmed, wakePair}
+use Rattle.rules.specs.Status.{underParent, wakeSound, powered}
+use Rattle.rules.specs.Request.{isMove, isArm, formGood, parentAllows, childBars, wakeAllows, kindVerdict, requestVerdict, newEntry, entriesAfter}
 use Rattle.rules.proofs.Answers.{first-both, unless-at}
-use Rattle.laws.proofs.Tests.{both-true, and-true, or-cases, or-left, or-right}
-use Rattle.laws.proofs.Needed.{all-powered}
-use Rattle.laws.proofs.Consistency.{Moves, moves, Arms, arms, Apart, apart-of, apart-is, after-same, after-other}
+use Rattle.laws.proofs.Tests.{both-true, and-true, or-cases, or-right}
+use Rattle.laws.proofs.Consistency.{Moves, moves, Arms, arms, Apart, after-same, after-other}
 
 pub record StationRules (s : Station) : Type 0 where
   pub parents : (d : ℕ) → d < s .devices → parentGood d (s .device d) ≡ true

@@ -1,14 +1,14 @@
 -- The needed set by its law: a resource is needed exactly if some device below D needs it. And its bound: where every set of the table has no bit at
 -- or above R, neither has what a device needs, nor the needed set. Assumes nothing.
-use mathlib.Core.Path.{_≡_, refl, sym, ap, _∙_}
-use mathlib.Core.Bool.{Bool, true, false, not, _&&_, _||_, cond, true≢false, or-true}
-use mathlib.Core.Logic.{_⊎_, inl, inr, ⊎-elim}
-use Prim.Native.Nat.{ℕ, zero, suc, _^_, _≤_, _<_}
+use mathlib.Core.Path.{_≡_, refl, sym, _∙_}
+use mathlib.Core.Bool.{Bool, true, false, _&&_, cond, true≢false, or-true}
+use mathlib.Core.Logic.{_⊎_, ⊎-elim}
+use Prim.Native.Nat.{ℕ, zero, suc, _^_, _<_}
 use native.Mathlib.Omega.{arith}
-use borrow.Author.Tests.{eqb-true, eqb-false, ltb-true, lt-ltb}
+use borrow.Author.Tests.{eqb-true, eqb-false, ltb-true}
 use lib.Dec.{eqb, ltb}
 use lib.Pow.{pow-pos}
-use Rattle.sets.specs.Sets.{member, union, subset}
+use Rattle.sets.specs.Sets.{member, subset}
 use Rattle.sets.proofs.Laws.{decide, member-union, member-none, union-lt, subset-of}
 use Rattle.rules.specs.Station.{Device, Station, hasPR, hasPRW}
 use Rattle.laws.proofs.Tests.{or-cases}

@@ -1,24 +1,22 @@
 -- The state image along requests: a fresh one is consistent, an accepted request leaves a consistent one with exactly the needed set on, and so after
 -- any run of requests from fresh, refused ones among them, it is consistent. Assumes nothing.
-use mathlib.Core.Path.{_≡_, refl, sym, ap, _∙_}
-use mathlib.Core.Bool.{Bool, true, false, not, _&&_, _||_, cond, true≢false}
-use mathlib.Core.List.{List, [], _∷_}
+use mathlib.Core.Path.{_≡_, refl, sym, _∙_}
+use mathlib.Core.Bool.{Bool, true, false, _&&_, _||_, true≢false}
+use mathlib.Core.List.{List}
 use mathlib.Core.Logic.{_⊎_, inl, inr, ⊎-elim}
 use Prim.Native.Nat.{ℕ, _*_, _^_, _≤_, _<_}
 use native.Mathlib.Omega.{arith}
 use native.Mathlib.Nat.{lt-of-lt-of-le}
-use borrow.Author.Tests.{eqb-true, eqb-false, eq-eqb, ltb-true, lt-ltb, leb-true, not-false}
+use borrow.Author.Tests.{eqb-true, eqb-false, eq-eqb, ltb-true, lt-ltb, not-false}
 use lib.Dec.{eqb, ltb, leb}
 use lib.ListN.{length}
 use lib.Pow.{pow-mono}
-use Rattle.sets.specs.Sets.{member, subset, firstN}
+use Rattle.sets.specs.Sets.{subset, firstN}
 use Rattle.sets.proofs.Laws.{decide, firstN-lt, member-firstN, subset-of}
-use Rattle.words.specs.Words.{readLE}
 use Rattle.rules.specs.declared.Request.{Request}
 use Rattle.rules.specs.declared.Verdict.the-variants.{Done, BadRequest, BadState, Inconsistent}
-use Rattle.rules.specs.Answers.{passes, firstOf, unless}
-use Rattle.rules.specs.Index.{every}
-use Rattle.rules.specs.Station.{Station, absent, countR, countD, stationOf}
+use Rattle.rules.specs.Answers.{passes, firstOf}
+use Rattle.rules.specs.Station.{Station, absent, stationOf}
 use Rattle.rules.specs.Table.{tableVerdict, setGood}
 use Rattle.rules.specs.declared.Entry.{Entry}
 use Rattle.rules.specs.Power.{supported, needs, needed}
@@ -27,8 +25,8 @@ use Rattle.rules.specs.Request.{isMove, isArm, isDisarm, formGood, requestVerdi
 use Rattle.rules.specs.Calls.{endSet, statusAfter}
 use Rattle.rules.specs.Outcomes.{stateAfter}
 use Rattle.rules.proofs.Index.{every-at, every-of, below-out}
-use Rattle.rules.proofs.Answers.{first-both, first-pass, unless-at, unless-of, lowest-at, lowest-of}
-use Rattle.laws.proofs.Tests.{both-true, and-true, or-cases, or-left, or-right}
+use Rattle.rules.proofs.Answers.{first-both, unless-at, unless-of, lowest-at, lowest-of}
+use Rattle.laws.proofs.Tests.{both-true, or-cases, or-right}
 use Rattle.laws.proofs.Accepted.{Accepted, accepted}
 use Rattle.laws.proofs.Needed.{needs-lt, needed-lt, all-powered}
 use Rattle.laws.proofs.Image.{image-length, status-image}

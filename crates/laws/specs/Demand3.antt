@@ -1,5 +1,5 @@
 -- Demand 3 as one statement, over table bytes, state bytes, a request and any list of words. Assumes nothing.
-use Prim.Native.Nat.{ℕ, _+_, _*_, _/_, _%_, _<_}
+use Prim.Native.Nat.{ℕ, _*_, _/_, _%_, _<_}
 use mathlib.Core.Path.{_≡_}
 use mathlib.Core.Bool.{Bool, true, cond}
 use mathlib.Core.List.{List, [], _∷_}
@@ -10,15 +10,14 @@ use Rattle.words.specs.Words.{byteWords}
 use Rattle.rules.specs.declared.Request.{Request}
 use Rattle.rules.specs.declared.Call.{Call}
 use Rattle.rules.specs.Answers.{numberOf, countOf}
-use Rattle.rules.specs.Station.{Station, stationOf}
-use Rattle.rules.specs.declared.Entry.{Entry}
+use Rattle.rules.specs.Station.{stationOf}
 use Rattle.rules.specs.Power.{needs, needed}
 use Rattle.rules.specs.Status.{statusOf}
 use Rattle.rules.specs.Request.{entriesAfter}
 use Rattle.rules.specs.Calls.{wordOf, ownCall, ownLast, endSet}
 use Rattle.rules.specs.Conforms.{Conforms}
 use Rattle.rules.specs.Execution.{execution}
-use Rattle.rules.specs.Outcomes.{Outcome, permittedVerdict, planWords, planBytes, checkWords, checkBytes}
+use Rattle.rules.specs.Outcomes.{permittedVerdict, planWords, planBytes, checkWords, checkBytes}
 
 -- by the rules, the checker owes the request no answer but 0 or 19
 abbrev pub Permitted : ℕ → List ℕ → List ℕ → Request → Type 0

@@ -17,7 +17,7 @@ use Rattle.rules.specs.declared.Request.{Request}
 use Rattle.rules.specs.declared.Call.{Call}
 use Rattle.rules.specs.Status.{Status}
 use Rattle.rules.specs.Request.{isMove, isArm}
-use Rattle.rules.specs.Calls.{wordOf, only, moveCall, wakeCall, ownCall, ownLast, endSet, toTurnOn, toTurnOff, turnOn, turnOff, calls, membersFrom, earlier, orderIn, rising, arrange}
+use Rattle.rules.specs.Calls.{wordOf, only, moveCall, wakeCall, ownCall, ownLast, endSet, toTurnOn, toTurnOff, membersFrom, earlier, orderIn, rising, arrange}
 use Rattle.rules.specs.Check.{onWord, offWord}
 use Rattle.laws.proofs.Sort.{length-sort}
 use Rattle.own.specs.declared.Own.{Own}

@@ -2,7 +2,7 @@
 use mathlib.Core.Path.{_≡_, refl, sym, ap, _∙_}
 use mathlib.Core.Bool.{Bool, true, false, not, _&&_, _||_, or-false}
 use mathlib.Core.Logic.{⊎-elim}
-use mathlib.Core.List.{List, [], _∷_}
+use mathlib.Core.List.{List}
 use Prim.Native.Nat.{ℕ, _-_, _<_, _≤_}
 use native.Mathlib.Omega.{arith}
 use borrow.Author.Tests.{eqb-true, leb-true, eq-eqb, ne-eqb, le-leb, lt-leb, lt-ltb, le-ltb, not-true, not-false}
@@ -12,10 +12,9 @@ use Rattle.rules.specs.declared.Request.{Request}
 use Rattle.rules.specs.declared.Verdict.{Verdict}
 use Rattle.rules.specs.declared.Verdict.the-variants.{Done, BadRequest, Unsupported, Shallower, ParentDeeper, ChildShallower, TooDeepToWake, NoWake, WakeUnpowered, BadWakeState}
 use Rattle.rules.specs.Index.{leastFrom, least}
-use Rattle.rules.specs.Answers.{passes, firstOf, unless, lowest}
-use Rattle.rules.specs.Station.{Station, absent, countD, stationOf}
+use Rattle.rules.specs.Answers.{passes, firstOf, unless}
+use Rattle.rules.specs.Station.{Station, countD, stationOf}
 use Rattle.rules.specs.Power.{supported, wakeFrom, wakePowered, wakeState}
-use Rattle.rules.specs.Table.{parentGood}
 use Rattle.rules.specs.Request.{isMove, isArm, isDisarm, formGood, notShallowerOrD0, parentAllows, childBars, wakeAllows, moveVerdict, armVerdict, kindVerdict, requestVerdict, newEntry}
 use Rattle.rules.proofs.Index.{starts, found, next, done}
 use Rattle.rules.proofs.Answers.{lowest-stop, lowest-none, first-pass, first-alone}

@@ -1,6 +1,6 @@
 -- The laws of chains of checks: an answer passes exactly if each check does, and each check is what it tests. Assumes nothing.
 use mathlib.Core.Path.{_≡_, refl, sym, ap, _∙_}
-use mathlib.Core.Bool.{Bool, true, false, not, cond, true≢false}
+use mathlib.Core.Bool.{Bool, true, false, true≢false}
 use mathlib.Core.List.{List, [], _∷_}
 use Prim.Native.Nat.{ℕ, _<_, _≤_}
 use native.Mathlib.Omega.{arith}
@@ -10,7 +10,7 @@ use Rattle.rules.specs.declared.Verdict.{Verdict}
 use Rattle.rules.specs.declared.Verdict.the-variants.{Done}
 use Rattle.rules.specs.Index.{least}
 use Rattle.rules.specs.Answers.{numberOf, passes, firstOf, unless, lowest}
-use Rattle.rules.proofs.Index.{at-most, hit, none-below, no-hit}
+use Rattle.rules.proofs.Index.{none-below, no-hit}
 
 -- ---- a check that passes is left behind, and a refusal is the answer
 pub first-pass : (v : Verdict) (vs : List Verdict) (last : Verdict) → passes v ≡ true → firstOf (v ∷ vs) last ≡ firstOf vs last

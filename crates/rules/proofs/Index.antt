@@ -2,15 +2,13 @@
 -- Assumes nothing.
 use mathlib.Core.Path.{_≡_, refl, sym, ap, _∙_}
 use mathlib.Core.Logic.{_⊎_, inl, inr}
-use mathlib.Core.Bool.{Bool, true, false, not, cond}
-use mathlib.Core.List.{List, [], _∷_}
+use mathlib.Core.Bool.{Bool, true, false, not}
 use Prim.Native.Nat.{ℕ, zero, suc, _+_, _-_, _≤_, _<_}
-use native.Mathlib.Nat.{sub-eq-zero-of-le, sub-zero, eq-or-lt-of-le, suc-add}
+use native.Mathlib.Nat.{sub-eq-zero-of-le, sub-zero, eq-or-lt-of-le}
 use native.Mathlib.Numerals.{add-one}
 use native.Mathlib.Omega.{arith}
-use borrow.Author.Tests.{leb-true, le-leb, lt-ltb, le-ltb, not-true, not-false}
-use lib.ListN.{length, getD}
-use Rattle.rules.specs.Index.{leastFrom, least, every, below, eachFrom, each}
+use borrow.Author.Tests.{leb-true, le-leb, lt-ltb, le-ltb, not-false}
+use Rattle.rules.specs.Index.{leastFrom, least, every, below}
 
 module _ (f : ℕ → Bool) where
   stops : (i k : ℕ) → f i ≡ true → leastFrom f i (suc k) ≡ i

@@ -1,6 +1,6 @@
 -- Document 01, "Requests and calls": a call as a word, the calls of a request and their order, and the planner's list. Assumes nothing.
 use Prim.Native.Nat.{ℕ, zero, suc, _+_, _-_, _*_, _/_, _%_}
-use mathlib.Core.Bool.{Bool, true, false, _&&_, _||_, not, cond}
+use mathlib.Core.Bool.{Bool, _&&_, _||_, not, cond}
 use mathlib.Core.List.{List, [], _∷_, _++_, map, reverse}
 use lib.Dec.{eqb, leb, ltb}
 use Rattle.sets.specs.Sets.{member, minus}
@@ -15,7 +15,7 @@ use Rattle.rules.specs.Station.{Station, hasPS, hasDSW}
 use Rattle.rules.specs.declared.Entry.{Entry}
 use Rattle.rules.specs.Power.{isArmed, needed}
 use Rattle.rules.specs.Status.{Status}
-use Rattle.rules.specs.Request.{isMove, isArm, isDisarm, newEntry, entriesAfter}
+use Rattle.rules.specs.Request.{isMove, isArm, entriesAfter}
 
 -- the word with these bytes, lowest first
 abbrev pub word4 : ℕ → ℕ → ℕ → ℕ → ℕ

@@ -2,7 +2,7 @@
 -- That it says what `Conforms` says is proved in crates/laws. Assumes nothing.
 use Prim.Native.Nat.{ℕ, _/_, _%_}
 use mathlib.Core.Bool.{Bool, true, false, _&&_, _||_, cond}
-use mathlib.Core.List.{List, [], _∷_, map}
+use mathlib.Core.List.{List, [], _∷_}
 use lib.Dec.{eqb, leb}
 use Rattle.sets.specs.Sets.{member, minus, single}
 use Rattle.rules.specs.declared.Call.{Call}

@@ -1,7 +1,7 @@
 -- What the rules say of numbered things, such as resources, devices and bytes: the lowest with a property, all of them, a list of them. Assumes nothing.
 use Prim.Native.Nat.{ℕ, zero, suc}
 use mathlib.Core.Bool.{Bool, true, false, not, cond}
-use mathlib.Core.List.{List, [], _∷_, _++_}
+use mathlib.Core.List.{List, [], _∷_}
 use lib.Dec.{leb, ltb}
 
 -- the lowest of the k numbers from i on with a property, else their end

@@ -1,6 +1,6 @@
 -- Document 01, the functions that the board calls: fresh, plan, check and a device's record, each as a total function of all that it is lent. Assumes nothing.
 use Prim.Native.Nat.{ℕ, _+_, _*_, _/_, _%_}
-use mathlib.Core.Bool.{Bool, true, false, cond, _&&_}
+use mathlib.Core.Bool.{Bool, cond, _&&_}
 use mathlib.Core.List.{List, [], _∷_, map}
 use lib.ListN.{length, take, drop}
 use lib.Dec.{eqb, leb, ltb}
@@ -9,9 +9,9 @@ use Rattle.rules.specs.declared.Request.{Request}
 use Rattle.rules.specs.declared.Verdict.{Verdict}
 use Rattle.rules.specs.declared.Verdict.the-variants.{Done, BadState, NoRoom, NotConforming}
 use Rattle.rules.specs.Answers.{passes, firstOf, unless}
-use Rattle.rules.specs.Station.{Station, recordSize, countD, deviceStart, stationOf}
+use Rattle.rules.specs.Station.{recordSize, countD, deviceStart, stationOf}
 use Rattle.rules.specs.Table.{tableVerdict}
-use Rattle.rules.specs.Status.{Status, statusOf, imageOf, imageSize, freshStatus, stateVerdict}
+use Rattle.rules.specs.Status.{statusOf, imageOf, imageSize, freshStatus, stateVerdict}
 use Rattle.rules.specs.Request.{requestVerdict}
 use Rattle.rules.specs.Calls.{wordOf, calls, statusAfter}
 use Rattle.rules.specs.Check.{conforming}

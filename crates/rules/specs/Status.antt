@@ -1,6 +1,6 @@
 -- Document 01, "State image" and "Sound": the image's bytes as a status, which are good, and answers 7 and 8. Assumes nothing.
 use Prim.Native.Nat.{ℕ, zero, suc, _+_, _*_, _^_}
-use mathlib.Core.Bool.{Bool, true, false, _&&_, _||_, not}
+use mathlib.Core.Bool.{Bool, _&&_, _||_, not}
 use mathlib.Core.List.{List, [], _∷_, _++_}
 use lib.ListN.{length, getD}
 use lib.Dec.{eqb, leb, ltb}
@@ -8,7 +8,7 @@ use Rattle.sets.specs.Sets.{subset, firstN}
 use Rattle.words.specs.Words.{readLE, bytesLE}
 use Rattle.rules.specs.declared.Verdict.{Verdict}
 use Rattle.rules.specs.declared.Verdict.the-variants.{Done, BadState, Inconsistent}
-use Rattle.rules.specs.Index.{every, below, eachFrom, each}
+use Rattle.rules.specs.Index.{every, below}
 use Rattle.rules.specs.Answers.{firstOf, unless, lowest}
 use Rattle.rules.specs.Station.{Station, absent}
 use Rattle.rules.specs.declared.Entry.{Entry}

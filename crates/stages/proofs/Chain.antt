@@ -2,21 +2,20 @@
 use mathlib.Core.Path.{_≡_, refl, sym, ap, _∙_}
 use mathlib.Core.Bool.{Bool, true, false, not}
 use mathlib.Core.List.{List, [], _∷_}
-use Prim.Native.Nat.{ℕ, _≤_, _<_}
+use Prim.Native.Nat.{ℕ}
 use native.Mathlib.Omega.{arith}
 use borrow.Author.Tests.{not-true, not-false}
-use lib.ListN.{length}
 use Rattle.rules.specs.declared.Entry.{Entry}
 use Rattle.rules.specs.declared.Request.{Request}
 use Rattle.rules.specs.declared.Verdict.{Verdict}
 use Rattle.rules.specs.declared.Verdict.the-variants.{Done, NotATable, NoRoom}
-use Rattle.rules.specs.Answers.{passes, firstOf, unless}
+use Rattle.rules.specs.Answers.{passes, firstOf}
 use Rattle.rules.specs.Station.{Station, stationOf}
 use Rattle.rules.specs.Table.{headerGood, tableVerdict}
 use Rattle.rules.specs.Status.{statusOf, entriesOf, stateVerdict}
 use Rattle.rules.specs.Request.{requestVerdict}
 use Rattle.rules.specs.Outcomes.{requestStage}
-use Rattle.rules.proofs.Answers.{first-pass, first-stop, first-none, first-through, first-alone, unless-of, unless-stop}
+use Rattle.rules.proofs.Answers.{first-pass, first-stop, first-through, first-alone, unless-of, unless-stop}
 use Rattle.laws.proofs.Accepted.{accepted}
 use Rattle.laws.proofs.States.{sound-of}
 use Rattle.table.proofs.Verdicts.{laid-of, no-table}

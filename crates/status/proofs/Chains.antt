@@ -18,7 +18,7 @@ use Rattle.rules.specs.Station.{Station, countR, stationOf}
 use Rattle.rules.specs.Table.{tableVerdict}
 use Rattle.rules.specs.Status.{entriesOf, statusOf, entriesGood, onGood, valuesGood, consistencyVerdict, stateVerdict}
 use Rattle.rules.specs.Outcomes.{outcome, freshVerdict, fresh}
-use Rattle.rules.proofs.Answers.{first-pass, first-stop, first-none, first-both, unless-of}
+use Rattle.rules.proofs.Answers.{first-pass, first-stop, unless-of}
 use Rattle.laws.proofs.Accepted.{accepted}
 use Rattle.table.proofs.Verdicts.{laid-done, laid-told, accepted-is}
 use Rattle.image.specs.State.{bytesOf, freshState}

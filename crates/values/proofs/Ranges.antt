@@ -9,7 +9,6 @@ use borrow.Author.Tests.{ltb-true, lt-ltb, le-ltb, le-leb, eqb-true, eqb-false, 
 use lib.Arith.{bin-ind}
 use lib.Bits.{bitOr, or-step}
 use lib.Dec.{eqb, ltb}
-use lib.ListN.{getD}
 use Rattle.sets.specs.Sets.{union}
 use Rattle.sets.proofs.Laws.{decide}
 use Rattle.words.specs.Words.{readLE}

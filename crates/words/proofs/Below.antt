@@ -2,9 +2,8 @@
 use mathlib.Core.List.{List, [], _∷_, _++_}
 use Prim.Native.Nat.{ℕ, zero, suc, _+_, _<_}
 use native.Mathlib.Omega.{arith}
-use lib.ListN.{length, getD, take, drop}
+use lib.ListN.{getD, take, drop}
 use lib.Seq.{getD-drop}
-use Rattle.words.specs.Words.{put}
 
 pub below-cons : (b a : ℕ) (s : List ℕ) → a < b → ((i : ℕ) → getD s i 0 < b) → (i : ℕ) → getD (a ∷ s) i 0 < b
 below-cons b a s ha hs zero = ha

@@ -1,8 +1,7 @@
-use mathlib.Core.Path.{_≡_}
 use Prim.Native.Nat.{_*_, _-_, _≤_}
 use native.Mathlib.Omega.{arith}
 use borrow.Author.Needs.{needs}
-use lib.ListN.{length, take, length-set}
+use lib.ListN.{take}
 use Rattle.words.specs.Words.{wordBytes}
 use Rattle.words.proofs.Put.{Emitted}
 use Rattle.buffers.proofs.Copy.{write-starts, write-next, write-done}

@@ -1,5 +1,5 @@
 -- The part that is lent is the table of the definition. Assumes nothing.
-use Rattle.bench.proofs.Parts.{parts, on-station}
+use Rattle.bench.proofs.Parts.{on-station}
 use borrow.Author.Needs.{needs}
 use Rattle.bench.proofs.requests.on_station.Statement.{statement}
 use Rattle.bench.proofs.requests.on_station.Tie as tie

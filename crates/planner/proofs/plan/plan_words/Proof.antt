@@ -1,4 +1,3 @@
-use mathlib.Core.Path.{refl}
 use borrow.Author.Tests.{leb-true}
 use Rattle.planner.proofs.Whole.{asked-of, room-passed, plan-refused, plan-done}
 use borrow.Author.Needs.{needs}
