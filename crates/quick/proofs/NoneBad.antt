@@ -1,9 +1,9 @@
 -- Whether no field is bad, as one test: of fields one after the other, of the five sets, of zeros read as one number, and of a device's parts.
 -- Where the code asks another function, that function's answer comes as b, with what it says. Assumes nothing.
 use mathlib.Core.Path.{_≡_, refl, sym, ap, _∙_}
-use mathlib.Core.Bool.{Bool, true, false, not, _&&_, _||_, and-assoc, and-true, and-false, true≢false}
+use mathlib.Core.Bool.{Bool, true, false, not, _&&_, _||_, and-assoc, and-true, and-false, or-true, true≢false}
 use mathlib.Core.List.{List, _∷_, _++_}
-use Prim.Native.Nat.{ℕ, zero, suc, _+_, _*_, _^_, _≤_, _<_}
+use Prim.Native.Nat.{ℕ, zero, suc, _+_, _*_, _%_, _^_, _≤_, _<_}
 use native.Mathlib.Omega.{arith}
 use borrow.Author.Tests.{eqb-true, eqb-false, eq-eqb, ne-eqb, ltb-true, ltb-false, lt-ltb, le-ltb, not-true, not-false}
 use lib.Bits.{bitOr, and-le-l, and-le-r, or-lt, or-add-and}
@@ -14,13 +14,13 @@ use Rattle.sets.proofs.Laws.{decide}
 use Rattle.words.specs.Words.{readLE}
 use Rattle.rules.specs.Index.{eachFrom, each}
 use Rattle.rules.specs.Station.{Device, deviceAt}
-use Rattle.rules.specs.Table.{Field, field, firstBad, parentGood, present, setGood, sxdGood, sxwGood, deepestGood, headFields, setFields, sxdFields, sxwFields, lastFields, deviceFields}
+use Rattle.rules.specs.Table.{Field, field, firstBad, parentGood, present, setGood, sxdGood, sxwGood, deepestGood, headFields, setFields, sxdFields, sxwFields, lastFields, deviceFields, objectsGood}
 use Rattle.laws.specs.Carried.{All}
 use Rattle.laws.proofs.All.{all-each, each-at}
 use Rattle.laws.proofs.Accepted.{field-good, field-bad, no-bad}
 use Rattle.laws.proofs.Tests.{both-true}
 use Rattle.quick.specs.Good.{noneBad, fitFields, absentSet, absentFields}
-use Rattle.records.proofs.OnBytes.{sets-at}
+use Rattle.records.proofs.OnBytes.{sets-at, objects-test}
 use Rattle.badfield.proofs.Bad.{join-stop, join-pass, sxdField, sxwField, zeroField, deepest-bad, zeros-left, head-in, sets-in, sxd-in, sxw-in, from-sxw, from-sxd, from-sets, whole}
 
 -- ---- a field, then others; and two lists joined
@@ -268,6 +268,19 @@ module _ (resources : ℕ) (t : List ℕ) (d at : ℕ) where
   last-decides h f a x w b p q r s u v hh ff aa xx ww =
       v ∙ rw (sym p ∙ not-false h hh, sym q ∙ not-false f ff, sym r ∙ not-false a aa, sym s ∙ not-false x xx, sym u ∙ not-false w ww) at all-parts
 
-pub ruleset quick-tests = (head-test, limits-test, states-test, none-where-there, set-where-absent, absent-test, all-there, fit-test, last-bad, last-test)
+-- ---- where the masks are the same and have bits 0 and 3, `_DSW` decides
+module _ (t : List ℕ) (at : ℕ) (ps0 ps3 : Bool) (a : ps0 ≡ member (getD t (at + 1) 0) 0) (b : ps3 ≡ member (getD t (at + 1) 0) 3) where
+  pub alike-agree : (dsw prw : Bool) → dsw ≡ member (getD t (at + 3) 0) 1 → prw ≡ member (getD t (at + 3) 0) 0
+      → eqb (getD t (at + 1) 0) (getD t (at + 2) 0) && ps0 && ps3 ≡ true → not dsw || prw ≡ objectsGood (deviceAt 4 t at)
+  alike-agree dsw prw d e h =
+      let both = both-true _ _ h in
+      let first = both-true _ _ (both .0) in
+      let same = eqb-true _ _ (first .0) in
+      let zero-bit : true ≡ member (getD t (at + 2) 0) 0 = sym (first .1) ∙ a ∙ ap (λ (m : ℕ). member m 0) same in
+      let low : eqb (getD t (at + 1) 0 % 8) (getD t (at + 2) 0 % 8) ≡ true = eq-eqb _ _ (ap (λ (m : ℕ). m % 8) same) in
+      rw (or-true, or-true, low, or-true) at
+      (objects-test t at true true true dsw prw (sym (first .1) ∙ a) (sym (both .1) ∙ b) zero-bit d e)
+
+pub ruleset quick-tests = (head-test, limits-test, states-test, none-where-there, set-where-absent, absent-test, all-there, fit-test, last-bad, last-test, alike-agree)
 
 pub ruleset quick-parts = (head-stops, fit-stops, absent-stops, states-stop, limits-stop, last-decides)

@@ -4,7 +4,7 @@ ghost use mathlib.Core.Path.{_≡_};
 ghost use Prim.Native.Nat.{_+_, _<_, _≤_};
 ghost use lib.ListN.{length};
 ghost use Rattle.rules.specs.Station.{deviceAt};
-ghost use Rattle.rules.specs.Table.{headFields, sxdFields, sxwFields, lastFields, deviceFields};
+ghost use Rattle.rules.specs.Table.{headFields, sxdFields, sxwFields, lastFields, deviceFields, objectsGood};
 ghost use Rattle.quick.specs.Good.{noneBad, fitFields, absentSet, absentFields};
 
 // Bytes 0 to 3.
@@ -119,4 +119,17 @@ pub fn record_good(table: &[u8], at: usize, d: usize, resources: usize) -> bool
         return false;
     }
     last_good(table, at)
+}
+
+// Whether the objects agree. Where the states with `_PS` are those with `_PR`, D0 and D3hot among them, only `_DSW` is left to ask; any other device is held to the whole rule.
+pub fn objects_agree(table: &[u8], at: usize) -> bool
+    requires { ⌜ at + 40 ≤ length (now table) ⌝ }
+    ensures { λ b. ⌜ b ≡ objectsGood (deviceAt 4 (now (table .entry)) at) ⌝ }
+{
+    let ps = table[at + 1];
+    let flags = table[at + 3];
+    if (ps == table[at + 2]) & records::bit(ps, 0) & records::bit(ps, 3) {
+        return !records::bit(flags, 1) | records::bit(flags, 0);
+    }
+    records::objects_good(table, at)
 }

@@ -17,7 +17,7 @@ pub fn parent_good(table: &[u8], at: usize, d: usize) -> bool
 }
 
 // Bit x of a mask.
-fn bit(mask: u8, x: u32) -> bool
+pub fn bit(mask: u8, x: u32) -> bool
     ensures { λ b. ⌜ b ≡ member mask x ⌝ }
 {
     sets::has(words::wide(mask), x)

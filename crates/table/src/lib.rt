@@ -88,7 +88,7 @@ fn device_bad(table: &[u8], d: usize) -> bool
     if !quick::record_good(table, at, d, fields::resources(table)) {
         return true;
     }
-    !records::objects_good(table, at)
+    !quick::objects_agree(table, at)
 }
 
 // 5 and 6: the lowest bad device, D if none is bad.
