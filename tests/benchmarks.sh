@@ -35,8 +35,8 @@ where there is one: the answer number says at which stage. The inputs are in \`h
 
 $(cat target/bench.md)
 
-What is above 0.8 on the full table: plans of 25 calls, whose instructions are below 0.8 of the reference's but whose 24 keys are sorted by insertion, with a branch for each that the processor cannot
-foresee, where the reference's sort of that many has few; and what comes after the table's check, where every entry and every child is looked at one by one as in the reference.
+Requests with 25 calls have the highest ratios of the full table, about 0.8: the planner sorts 24 keys by insertion, with a branch for each key that the processor cannot foresee, and the checker looks at each
+word. On the bench station the table is small, and the call itself, the state and the own call weigh more.
 
 ## Instructions
 

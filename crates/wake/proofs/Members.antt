@@ -4,13 +4,13 @@ use mathlib.Core.Bool.{Bool, true, false, not, _||_, true≢false}
 use Prim.Native.Nat.{ℕ, zero, suc, _/_, _%_, _^_, _≤_, _<_}
 use native.Mathlib.Nat.{pow-suc}
 use native.Mathlib.Omega.{arith}
-use borrow.Author.Tests.{eqb-true, eqb-false, ltb-true, lt-ltb, not-true, not-false}
+use borrow.Author.Tests.{eqb-true, eqb-false, ltb-true, ltb-false, lt-ltb, not-true, not-false}
 use lib.Count.{trailingZeros}
 use lib.Dec.{eqb, ltb}
 use Rattle.sets.specs.Sets.{member, minus, single}
 use Rattle.sets.proofs.Laws.{decide, member-zero, member-suc, member-none, member-below, minus-single-same, minus-single-other, minus-single-lt}
-use Rattle.rules.specs.Index.{every}
-use Rattle.rules.proofs.Index.{every-at, every-of}
+use Rattle.rules.specs.Index.{least, every}
+use Rattle.rules.proofs.Index.{hit, none-below, every-at, every-of}
 use Rattle.laws.proofs.Every.{every-ext}
 
 -- ---- the place of the lowest bit that is 1 is a member
@@ -25,12 +25,33 @@ trailing-member (suc w) s n h =
     let even : s % 2 ≡ 0 = omega arith in
     rw even (member-suc s (trailingZeros w (s / 2)) ∙ trailing-member w (s / 2) (omega arith) (omega (arith, pow-suc 2 w))))
 
+-- and none below it is
+trailing-none : (w s j : ℕ) → j < trailingZeros w s → member s j ≡ false
+unfolding trailingZeros
+trailing-none zero s j h = absurd (omega arith)
+trailing-none (suc w) s zero h =
+    decide (eqb (s % 2) 1) (λ e. let odd : s % 2 ≡ 1 = eqb-true (s % 2) 1 e in let l = rw odd at h in absurd (omega (arith, l))) (λ e. member-zero s ∙ e)
+trailing-none (suc w) s (suc j) h =
+    decide (eqb (s % 2) 1) (λ e. let odd : s % 2 ≡ 1 = eqb-true (s % 2) 1 e in let l = rw odd at h in absurd (omega (arith, l)))
+    (λ e. let no = eqb-false (s % 2) 1 e in
+    let even : s % 2 ≡ 0 = omega arith in
+    let l = rw even at h in
+    member-suc s j ∙ trailing-none w (s / 2) j (omega (arith, l)))
+
 module _ (s : ℕ) (n : 0 < s) (h : s < 2 ^ 32) where
   pub trailing-in : member s (trailingZeros 32 s) ≡ true
   trailing-in = trailing-member 32 s n h
 
   pub trailing-lt : trailingZeros 32 s < 32
   trailing-lt = member-below 32 s (trailingZeros 32 s) h trailing-in
+
+  pub trailing-least : trailingZeros 32 s ≡ least (member s) 32
+  trailing-least =
+      let k = trailingZeros 32 s in
+      let l = least (member s) 32 in
+      decide (ltb k l) (λ e. absurd (true≢false (sym trailing-in ∙ none-below (member s) 0 32 k (omega arith) (ltb-true k l e))))
+      (λ e. decide (ltb l k) (λ f. absurd (true≢false (sym (hit (member s) 0 32 (omega (arith, ltb-true l k f, trailing-lt))) ∙ trailing-none 32 s l (ltb-true l k f))))
+      (λ f. omega (arith, ltb-false k l e, ltb-false l k f)))
 
 -- ---- the loop
 
@@ -76,6 +97,6 @@ module _ (f : ℕ → Bool) (n : ℕ) (v : Bool) where
 pub in-less : (set r rest : ℕ) → member set r ≡ true → rest ≡ minus set (single r) → rest < set
 in-less set r rest m e = rw e (minus-single-lt set r m)
 
-pub ruleset trailing-laws = (trailing-in, trailing-lt)
+pub ruleset trailing-laws = (trailing-in, trailing-lt, trailing-least)
 
 pub ruleset everyIn-laws = (in-less, in-done, in-stops, in-next)

@@ -4,6 +4,7 @@ ghost use mathlib.Core.Bool.{_||_, not, true};
 ghost use Prim.Native.Nat.{_<_};
 ghost use lib.Dec.{leb, ltb};
 ghost use Rattle.sets.specs.Sets.{member};
+ghost use Rattle.rules.specs.Index.{least};
 ghost use Rattle.rules.specs.Station.{countR, countD, stationOf};
 ghost use Rattle.rules.specs.Power.{wakeFrom, wakePowered, wakeRange, wakeState, wakePair};
 ghost use Rattle.fields.specs.Layout.{Laid};
@@ -30,10 +31,10 @@ pub fn powered(table: &[u8], r: usize, x: u8) -> bool
     true
 }
 
-// A member of a set that has one, the lowest, found by the machine and not by a loop.
+// The lowest member of a set that has one, found by the machine and not by a loop.
 fn lowest(set: u32) -> u32
     requires { ⌜ 0 < set ⌝ }
-    ensures { λ r. ⌜ (member set r ≡ true) × (r < 32) ⌝ }
+    ensures { λ r. ⌜ (r ≡ least (member set) 32) × (member set r ≡ true) × (r < 32) ⌝ }
 {
     u32::trailing_zeros(set)
 }

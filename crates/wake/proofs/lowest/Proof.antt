@@ -1,4 +1,4 @@
--- The place of the lowest bit that is 1 is a member. Assumes nothing.
+-- The place of the lowest bit that is 1 is the lowest member. Assumes nothing.
 use borrow.Author.Needs.{needs}
 use Rattle.wake.proofs.Members.{trailing-laws}
 use Rattle.wake.proofs.lowest.Statement.{statement}
