@@ -11,6 +11,7 @@ ghost use Rattle.rules.specs.Rows.{blank, benchTable};
 ghost use Rattle.rules.specs.Outcomes.{fresh, planBytes, checkBytes};
 ghost use Rattle.sailgarnet.specs.Packed.{packed};
 ghost use Rattle.cases.specs.Own.{ownTable};
+ghost use Rattle.cases.specs.Sums.{totalOf, keptOf};
 ghost use Rattle.bench.specs.Chain.{requestAt, chained};
 
 // A state image.
@@ -39,7 +40,7 @@ pub fn told(answer: u64) -> usize
 
 // How many of the bytes hold A5, which lent bytes hold before.
 fn kept(bytes: &[u8]) -> usize
-    ensures { λ r. ⌜ r ≤ length (now (bytes .entry)) ⌝ }
+    ensures { λ r. ⌜ r ≡ keptOf (now (bytes .entry)) ⌝ }
 {
     let mut n = 0;
     let mut i = 0;
@@ -67,7 +68,7 @@ fn calls(plan: &[u8], count: usize) -> usize
 // Prints the first four entries of a state, its on-set and its sum, and answers the sum.
 pub fn held(state: &[u8]) -> usize
     requires { ⌜ length (now state) ≡ 132 ⌝ }
-    ensures { λ r. ⌜ r ≤ 255 * 132 ⌝ }
+    ensures { λ r. ⌜ r ≡ totalOf (now (state .entry)) ⌝ }
 {
     lines::text(b" state");
     lines::hex(&state[..16]);

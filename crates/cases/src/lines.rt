@@ -5,6 +5,7 @@ ghost use mathlib.Core.Path.{_≡_};
 ghost use Prim.Native.Nat.{_*_, _%_, _<_, _≤_, min};
 ghost use lib.ListN.{length, set};
 ghost use Rattle.rules.specs.Answers.{numberOf};
+ghost use Rattle.cases.specs.Sums.{totalOf};
 
 // A table or an image, with room for a byte more than a table.
 pub type Bytes = [u8; 141];
@@ -90,7 +91,7 @@ pub fn change(bytes: Bytes, at: usize, x: u8) -> Bytes
 // The sum of some bytes.
 pub fn total(bytes: &[u8]) -> usize
     requires { ⌜ length (now bytes) ≤ 4096 ⌝ }
-    ensures { λ r. ⌜ r ≤ 255 * length (now (bytes .entry)) ⌝ }
+    ensures { λ r. ⌜ (r ≡ totalOf (now (bytes .entry))) × (r ≤ 255 * length (now (bytes .entry))) ⌝ }
 {
     let mut sum = 0;
     let mut i = 0;

@@ -2,7 +2,7 @@
 ghost use mathlib.Core.Path.{_≡_};
 ghost use mathlib.Core.List.{[], _∷_, _++_};
 ghost use Prim.Native.Nat.{_+_, _*_, _≤_};
-ghost use lib.ListN.{length};
+ghost use lib.ListN.{length, set, replicate};
 ghost use Rattle.rules.specs.Rows.{benchTable, bytes};
 ghost use Rattle.cases.specs.Own.{ownTable};
 
@@ -83,7 +83,7 @@ pub fn many(resources: u8, devices: u8, device: &[u8]) -> Large
 
 // The fresh state's image, resources 0 to 2 on, and zeros past it.
 pub fn image() -> crate::lines::Bytes
-    ensures { λ r. ⌜ length r ≡ 141 ⌝ }
+    ensures { λ r. ⌜ (length r ≡ 141) × (r ≡ set (replicate 141 0) 128 7) ⌝ }
 {
     let mut bytes = [0u8; 141];
     bytes[128] = 7;

@@ -7,8 +7,9 @@ use cases::lines::Bytes;
 use cases::station;
 ghost use mathlib.Core.Path.{_≡_};
 ghost use mathlib.Core.Bool.{cond};
-ghost use Prim.Native.Nat.{_+_, _/_, _<_, _≤_};
+ghost use Prim.Native.Nat.{_+_, _/_, _<_, _≤_, min};
 ghost use lib.ListN.{length};
+ghost use Rattle.damage.specs.Rows.{numberAt, wholeOf, changedBy};
 
 // Prints which of the two a line is about, and answers how many letters that takes.
 fn what(image: bool) -> usize
@@ -22,7 +23,7 @@ fn what(image: bool) -> usize
 
 // The bytes before they are damaged, with zeros past them.
 fn whole(image: bool) -> Bytes
-    ensures { λ r. ⌜ length r ≡ 141 ⌝ }
+    ensures { λ r. ⌜ (length r ≡ 141) × (r ≡ wholeOf image) ⌝ }
 {
     if image {
         return station::image();
@@ -44,7 +45,7 @@ fn judged(image: bool, bytes: &[u8]) -> usize
 // The number that three digits make.
 fn number(rows: &[u8], at: usize) -> usize
     requires { ⌜ at + 3 ≤ length (now rows) ⌝ }
-    ensures { λ r. ⌜ r < 2000 ⌝ }
+    ensures { λ r. ⌜ (r ≡ numberAt (now (rows .entry)) at) × (r < 2000) ⌝ }
 {
     let hundreds = lines::digit(rows[at]) as usize;
     let tens = lines::digit(rows[at + 1]) as usize;
@@ -55,7 +56,7 @@ fn number(rows: &[u8], at: usize) -> usize
 // Bytes with the change that a row has in two numbers; a place past the bytes changes nothing.
 fn changed(bytes: Bytes, rows: &[u8], at: usize) -> Bytes
     requires { ⌜ (length bytes ≡ 141) × (at + 7 ≤ length (now rows)) ⌝ }
-    ensures { λ r. ⌜ length r ≡ 141 ⌝ }
+    ensures { λ r. ⌜ (length r ≡ 141) × (r ≡ changedBy bytes (now (rows .entry)) at) ⌝ }
 {
     let place = number(rows, at);
     if place < 141 {
@@ -67,7 +68,7 @@ fn changed(bytes: Bytes, rows: &[u8], at: usize) -> Bytes
 // A row: one line. Answers the length.
 fn row(image: bool, rows: &[u8], at: usize) -> usize
     requires { ⌜ at + 20 ≤ length (now rows) ⌝ }
-    ensures { λ r. ⌜ r ≤ 141 ⌝ }
+    ensures { λ r. ⌜ r ≡ min (numberAt (now (rows .entry)) at) 141 ⌝ }
 {
     what(image);
     let n = lines::within(number(rows, at), 141);
