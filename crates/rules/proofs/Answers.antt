@@ -5,11 +5,12 @@ use mathlib.Core.List.{List, [], _∷_}
 use Prim.Native.Nat.{ℕ, _<_, _≤_}
 use native.Mathlib.Omega.{arith}
 use borrow.Author.Tests.{ltb-true, ltb-false, lt-ltb, le-ltb}
-use lib.Dec.{eqb, ltb}
+use lib.Dec.{ltb}
 use Rattle.rules.specs.declared.Verdict.{Verdict}
-use Rattle.rules.specs.declared.Verdict.the-variants.{Done}
+use Rattle.rules.specs.declared.Verdict.the-variants.{Done, Refused}
+use Rattle.rules.specs.declared.Reason.{Reason}
 use Rattle.rules.specs.Index.{least}
-use Rattle.rules.specs.Answers.{numberOf, passes, firstOf, unless, lowest}
+use Rattle.rules.specs.Answers.{passes, firstOf, unless, lowest}
 use Rattle.rules.proofs.Index.{none-below, no-hit}
 
 -- ---- a check that passes is left behind, and a refusal is the answer
@@ -55,18 +56,18 @@ first-alone vs = go (passes (firstOf vs (Done 0))) refl
     go false p = first-stop (firstOf vs (Done 0)) [] (Done 0) p
 
 -- ---- one check
-pub unless-of : (good : Bool) (refusal : Verdict) → good ≡ true → unless good refusal ≡ Done 0
+pub unless-of : (good : Bool) (why : Reason) (at : ℕ) → good ≡ true → unless good why at ≡ Done 0
 unfolding unless
-unless-of good refusal e = rw e
+unless-of good why at e = rw e
 
-pub unless-stop : (good : Bool) (refusal : Verdict) → good ≡ false → unless good refusal ≡ refusal
+pub unless-stop : (good : Bool) (why : Reason) (at : ℕ) → good ≡ false → unless good why at ≡ Refused why at
 unfolding unless
-unless-stop good refusal e = rw e
+unless-stop good why at e = rw e
 
-pub unless-at : (good : Bool) (refusal : Verdict) → eqb (numberOf refusal) 0 ≡ false → passes (unless good refusal) ≡ true → good ≡ true
+pub unless-at : (good : Bool) (why : Reason) (at : ℕ) → passes (unless good why at) ≡ true → good ≡ true
 unfolding passes
-unless-at true refusal p e = refl
-unless-at false refusal p e = absurd (true≢false (sym e ∙ ap passes (unless-stop false refusal refl) ∙ p))
+unless-at true why at e = refl
+unless-at false why at e = absurd (true≢false (sym e ∙ ap passes (unless-stop false why at refl)))
 
 -- ---- a check of the numbers below n
 pub lowest-of : (bad : ℕ → Bool) (n : ℕ) (refusal : ℕ → Verdict) → ((i : ℕ) → i < n → bad i ≡ false) → lowest bad n refusal ≡ Done 0
@@ -81,9 +82,8 @@ pub lowest-none : (bad : ℕ → Bool) (n i : ℕ) (refusal : ℕ → Verdict) �
 unfolding lowest
 lowest-none bad n i refusal e h = rw (← e, le-ltb i n h)
 
-pub lowest-at : (bad : ℕ → Bool) (n : ℕ) (refusal : ℕ → Verdict) → ((i : ℕ) → eqb (numberOf (refusal i)) 0 ≡ false)
+pub lowest-at : (bad : ℕ → Bool) (n : ℕ) (refusal : ℕ → Verdict) → ((i : ℕ) → passes (refusal i) ≡ false)
     → passes (lowest bad n refusal) ≡ true → (i : ℕ) → i < n → bad i ≡ false
-unfolding passes
 lowest-at bad n refusal p e i h = go (ltb (least bad n) n) refl
   where
     go : (b : Bool) → ltb (least bad n) n ≡ b → bad i ≡ false

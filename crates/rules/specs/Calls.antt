@@ -9,8 +9,8 @@ use Rattle.rules.specs.declared.Wake.{Wake}
 use Rattle.rules.specs.declared.Wake.the-variants.{Enable, Disable}
 use Rattle.rules.specs.declared.Call.{Call}
 use Rattle.rules.specs.declared.Call.the-variants.{ResourceOn, ResourceOff, SetState, SetWake}
-use Rattle.rules.specs.declared.Word.{Word}
-use Rattle.rules.specs.declared.Word.the-variants.{Is, NoCall}
+use Rattle.rules.specs.declared.OptionalCall.{OptionalCall}
+use Rattle.rules.specs.declared.OptionalCall.the-variants.{Is, NoCall}
 use Rattle.rules.specs.Station.{Station, hasPS, hasDSW}
 use Rattle.rules.specs.declared.Entry.{Entry}
 use Rattle.rules.specs.Power.{isArmed, needed}
@@ -33,19 +33,19 @@ wordOf (SetState d x) = word4 3 d x 0
 wordOf (SetWake d k) = wakeWord d k
 
 -- `_DSW`'s last two bytes: S and 128 + D, or two zeros
-unfoldable pub wakeOf : ℕ → ℕ → ℕ → Word
+unfoldable pub wakeOf : ℕ → ℕ → ℕ → OptionalCall
 wakeOf d x y =
     cond (eqb x 0 && eqb y 0) (Is (SetWake d Disable)) (cond (leb x 4 && leb 128 y && leb y 132) (Is (SetWake d (Enable x (y - 128)))) NoCall)
 
 -- the call with these bytes, if there is one
-unfoldable pub callOfBytes : ℕ → ℕ → ℕ → ℕ → Word
+unfoldable pub callOfBytes : ℕ → ℕ → ℕ → ℕ → OptionalCall
 callOfBytes a b c d =
     cond (eqb a 1 && eqb c 0 && eqb d 0) (Is (ResourceOn b))
     (cond (eqb a 2 && eqb c 0 && eqb d 0) (Is (ResourceOff b))
     (cond (eqb a 3 && leb c 3 && eqb d 0) (Is (SetState b c))
     (cond (eqb a 4) (wakeOf b c d) NoCall)))
 
-unfoldable pub callOf : ℕ → Word
+unfoldable pub callOf : ℕ → OptionalCall
 callOf w = callOfBytes (w % 0x100) (w / 0x100 % 0x100) (w / 0x1_0000 % 0x100) (w / 0x100_0000)
 
 -- a call or none
@@ -56,10 +56,13 @@ only b c = cond b (c ∷ []) []
 unfoldable pub methodFor : ℕ → ℕ
 methodFor x = cond (eqb x 4) 3 x
 
--- `_PSx` if that method exists and the state changes, but none from D3hot to D3cold
+-- a move from a state to x calls a method, if it exists: the state changes, and not from D3hot to D3cold
+unfoldable pub callsMethod : ℕ → ℕ → Bool
+callsMethod state x = not (eqb x state) && not (eqb state 3 && eqb x 4)
+
+-- `_PSx` if the move calls a method and that method exists
 unfoldable pub moveCall : Station → Entry → ℕ → ℕ → List Call
-moveCall s e d x =
-    only (not (eqb x (e .state)) && not (eqb (e .state) 3 && eqb x 4) && hasPS (s .device d) (methodFor x)) (SetState d (methodFor x))
+moveCall s e d x = only (callsMethod (e .state) x && hasPS (s .device d) (methodFor x)) (SetState d (methodFor x))
 
 -- on arming, `_DSW` on if present; on disarming, `_DSW` off if present and it was armed
 unfoldable pub wakeCall : Station → Entry → Request → List Call
@@ -67,9 +70,9 @@ wakeCall s e q =
     cond (isArm q) (only (hasDSW (s .device (q .device))) (SetWake (q .device) (Enable (q .a) (q .b))))
     (only (hasDSW (s .device (q .device)) && isArmed e) (SetWake (q .device) Disable))
 
--- the device's own call
-unfoldable pub ownCall : Station → (ℕ → Entry) → Request → List Call
-ownCall s entries q = cond (isMove q) (moveCall s (entries (q .device)) (q .device) (q .a)) (wakeCall s (entries (q .device)) q)
+-- the own call of the request's device, whose entry is e
+unfoldable pub ownCall : Station → Entry → Request → List Call
+ownCall s e q = cond (isMove q) (moveCall s e (q .device) (q .a)) (wakeCall s e q)
 
 -- moving to D0, or arming: the own call comes last; moving deeper, or disarming: first
 unfoldable pub ownLast : Request → Bool
@@ -122,7 +125,7 @@ arrange last own ons offs = cond last (map ResourceOn ons ++ map ResourceOff off
 
 -- the planner's list
 unfoldable pub calls : Station → Status → Request → List Call
-calls s st q = arrange (ownLast q) (ownCall s (st .entries) q) (turnOn s st q) (turnOff s st q)
+calls s st q = arrange (ownLast q) (ownCall s (st .entries (q .device)) q) (turnOn s st q) (turnOff s st q)
 
 -- the status after an accepted request: the new entry, the others as before, and exactly the needed set on
 unfoldable pub statusAfter : Station → Status → Request → Status

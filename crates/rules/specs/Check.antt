@@ -63,10 +63,10 @@ notHigher s last r = leb (orderIn s r) (orderIn s last)
 
 -- the own call where it stands first or last, none elsewhere
 unfoldable pub ownFirstCalls : Station → Status → Request → List Call
-ownFirstCalls s st q = cond (ownLast q) [] (ownCall s (st .entries) q)
+ownFirstCalls s st q = cond (ownLast q) [] (ownCall s (st .entries (q .device)) q)
 
 unfoldable pub ownLastCalls : Station → Status → Request → List Call
-ownLastCalls s st q = cond (ownLast q) (ownCall s (st .entries) q) []
+ownLastCalls s st q = cond (ownLast q) (ownCall s (st .entries (q .device)) q) []
 
 unfoldable pub isEnd : Rest → Bool
 isEnd (left []) = true

@@ -1,17 +1,18 @@
 -- Document 01, the functions that the board calls: fresh, plan, check and a device's record, each as a total function of all that it is lent. Assumes nothing.
 use Prim.Native.Nat.{ℕ, _+_, _*_, _/_, _%_}
-use mathlib.Core.Bool.{Bool, cond, _&&_}
+use mathlib.Core.Bool.{Bool, true, cond, _&&_}
 use mathlib.Core.List.{List, [], _∷_, map}
 use lib.ListN.{length, take, drop}
 use lib.Dec.{eqb, leb, ltb}
 use Rattle.words.specs.Words.{put, wordBytes, byteWords}
 use Rattle.rules.specs.declared.Request.{Request}
 use Rattle.rules.specs.declared.Verdict.{Verdict}
-use Rattle.rules.specs.declared.Verdict.the-variants.{Done, BadState, NoRoom, NotConforming}
+use Rattle.rules.specs.declared.Verdict.the-variants.{Done}
+use Rattle.rules.specs.declared.Reason.the-variants.{BadState, NoRoom, NotConforming}
 use Rattle.rules.specs.Answers.{passes, firstOf, unless}
-use Rattle.rules.specs.Station.{recordSize, countD, deviceStart, stationOf}
+use Rattle.rules.specs.Station.{width, limit, recordSize, countD, deviceStart, station}
 use Rattle.rules.specs.Table.{tableVerdict}
-use Rattle.rules.specs.Status.{statusOf, imageOf, imageSize, freshStatus, stateVerdict}
+use Rattle.rules.specs.Status.{entries, status, imageOf, imageSize, freshStatus, stateVerdict}
 use Rattle.rules.specs.Request.{requestVerdict}
 use Rattle.rules.specs.Calls.{wordOf, calls, statusAfter}
 use Rattle.rules.specs.Check.{conforming}
@@ -26,59 +27,62 @@ pub record Outcome : Type 0 where
 unfoldable pub outcome : Verdict → List ℕ → List ℕ → List ℕ → List ℕ → Outcome
 outcome v state plan state′ plan′ = record { verdict = v; state = cond (passes v) state′ state; plan = cond (passes v) plan′ plan }
 
--- a fresh state: 1 to 6, then 7 if the buffer is not 33w bytes
-unfoldable pub freshVerdict : ℕ → List ℕ → List ℕ → Verdict
-freshVerdict w t b = firstOf (tableVerdict w t ∷ unless (eqb (length b) (imageSize w)) BadState ∷ []) (Done 0)
+-- a fresh state: 1 to 6, then 7 if the buffer has not an image's size
+unfoldable pub freshVerdict : List ℕ → List ℕ → Verdict
+freshVerdict t b = firstOf (tableVerdict t ∷ unless (eqb (length b) (imageSize (width t))) BadState 0 ∷ []) (Done 0)
 
-unfoldable pub fresh : ℕ → List ℕ → List ℕ → Outcome
-fresh w t b = outcome (freshVerdict w t b) b [] (imageOf w (freshStatus (stationOf w t))) []
+unfoldable pub fresh : List ℕ → List ℕ → Outcome
+fresh t b = outcome (freshVerdict t b) b [] (imageOf (width t) (freshStatus (station t))) []
 
 -- 10 to 18 of the request, on the bytes
-unfoldable pub requestStage : ℕ → List ℕ → List ℕ → Request → Verdict
-requestStage w t b q = requestVerdict (stationOf w t) (statusOf w b .entries) q
+unfoldable pub requestStage : List ℕ → List ℕ → Request → Verdict
+requestStage t b q = requestVerdict (station t) (entries t b) q
 
--- a plan has 8w + 1 words
+-- the checks that planner and checker share, in their order: 1 to 8; 9 without room, which only the planner needs; 10 to 18
+unfoldable pub stagesVerdict : Bool → List ℕ → List ℕ → Request → Verdict
+stagesVerdict room t b q = firstOf (tableVerdict t ∷ stateVerdict t b ∷ unless room NoRoom 0 ∷ requestStage t b q ∷ []) (Done 0)
+
+-- the words of a plan: one for each resource, and the own call
 abbrev pub planRoom : ℕ → ℕ
-planRoom w = 8 * w + 1
+planRoom w = limit w + 1
 
 -- the words of the planner's list
-unfoldable pub planned : ℕ → List ℕ → List ℕ → Request → List ℕ
-planned w t b q = map wordOf (calls (stationOf w t) (statusOf w b) q)
+unfoldable pub planned : List ℕ → List ℕ → Request → List ℕ
+planned t b q = map wordOf (calls (station t) (status t b) q)
 
--- 1 to 8, 9 for too little room, 10 to 18, else done with the count of calls
-unfoldable pub planVerdict : ℕ → Bool → List ℕ → List ℕ → Request → Verdict
-planVerdict w room t b q =
-    firstOf (tableVerdict w t ∷ stateVerdict w (stationOf w t) b ∷ unless room NoRoom ∷ requestStage w t b q ∷ []) (Done (length (planned w t b q)))
+-- the stages, else done with the count of calls
+unfoldable pub planVerdict : Bool → List ℕ → List ℕ → Request → Verdict
+planVerdict room t b q = firstOf (stagesVerdict room t b q ∷ []) (Done (length (planned t b q)))
 
 -- the state image after an accepted request
-unfoldable pub stateAfter : ℕ → List ℕ → List ℕ → Request → List ℕ
-stateAfter w t b q = imageOf w (statusAfter (stationOf w t) (statusOf w b) q)
+unfoldable pub stateAfter : List ℕ → List ℕ → Request → List ℕ
+stateAfter t b q = imageOf (width t) (statusAfter (station t) (status t b) q)
 
 -- the planner on a plan of words, and on one of bytes, four a word
-unfoldable pub planWords : ℕ → List ℕ → List ℕ → Request → List ℕ → Outcome
-planWords w t b q plan =
-    outcome (planVerdict w (leb (planRoom w) (length plan)) t b q) b plan (stateAfter w t b q) (put plan 0 (planned w t b q))
+unfoldable pub planWords : List ℕ → List ℕ → Request → List ℕ → Outcome
+planWords t b q plan =
+    outcome (planVerdict (leb (planRoom (width t)) (length plan)) t b q) b plan (stateAfter t b q) (put plan 0 (planned t b q))
 
-unfoldable pub planBytes : ℕ → List ℕ → List ℕ → Request → List ℕ → Outcome
-planBytes w t b q plan =
-    outcome (planVerdict w (leb (4 * planRoom w) (length plan)) t b q) b plan (stateAfter w t b q) (put plan 0 (wordBytes (planned w t b q)))
+unfoldable pub planBytes : List ℕ → List ℕ → Request → List ℕ → Outcome
+planBytes t b q plan =
+    outcome (planVerdict (leb (4 * planRoom (width t)) (length plan)) t b q) b plan (stateAfter t b q) (put plan 0 (wordBytes (planned t b q)))
 
 -- passes exactly if the request is permitted: the checker owes it no answer but 0 or 19
-unfoldable pub permittedVerdict : ℕ → List ℕ → List ℕ → Request → Verdict
-permittedVerdict w t b q = firstOf (tableVerdict w t ∷ stateVerdict w (stationOf w t) b ∷ requestStage w t b q ∷ []) (Done 0)
+abbrev pub permittedVerdict : List ℕ → List ℕ → Request → Verdict
+permittedVerdict t b q = stagesVerdict true t b q
 
 -- 1 to 8, 10 to 18, then 19 for a list that does not conform; a list of bytes is a list of words if its length is a multiple of four
-unfoldable pub checkWords : ℕ → List ℕ → List ℕ → Request → List ℕ → Verdict
-checkWords w t b q list = firstOf (permittedVerdict w t b q ∷ unless (conforming (stationOf w t) (statusOf w b) q list) NotConforming ∷ []) (Done 0)
+unfoldable pub checkWords : List ℕ → List ℕ → Request → List ℕ → Verdict
+checkWords t b q list = firstOf (permittedVerdict t b q ∷ unless (conforming (station t) (status t b) q list) NotConforming 0 ∷ []) (Done 0)
 
-unfoldable pub checkBytes : ℕ → List ℕ → List ℕ → Request → List ℕ → Verdict
-checkBytes w t b q list =
+unfoldable pub checkBytes : List ℕ → List ℕ → Request → List ℕ → Verdict
+checkBytes t b q list =
     firstOf
-    (permittedVerdict w t b q
-    ∷ unless (eqb (length list % 4) 0 && conforming (stationOf w t) (statusOf w b) q (byteWords (length list / 4) list)) NotConforming
+    (permittedVerdict t b q
+    ∷ unless (eqb (length list % 4) 0 && conforming (station t) (status t b) q (byteWords (length list / 4) list)) NotConforming 0
     ∷ [])
     (Done 0)
 
 -- a device's own bytes of the table; empty if the table is refused or the number is not below D
-unfoldable pub recordPart : ℕ → List ℕ → ℕ → List ℕ
-recordPart w t d = cond (passes (tableVerdict w t) && ltb d (countD t)) (take (recordSize w) (drop (deviceStart w t d) t)) []
+unfoldable pub recordPart : List ℕ → ℕ → List ℕ
+recordPart t d = cond (passes (tableVerdict t) && ltb d (countD t)) (take (recordSize (width t)) (drop (deviceStart (width t) t d) t)) []

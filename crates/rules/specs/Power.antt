@@ -46,10 +46,12 @@ neededBelow s entries (suc n) = union (neededBelow s entries n) (needs s n (entr
 unfoldable pub needed : Station → (ℕ → Entry) → ℕ
 needed s entries = neededBelow s entries (s .devices)
 
--- the wake range: `_SxD` to `_SxW`; only `_SxD`, that state alone; only `_SxW`, 0 to it; neither, empty
+-- the wake range: `_SxD` to `_SxW`; only `_SxD`, that state alone; only `_SxW`, 0 to it; neither, empty.
+-- It is empty too for an `_SxD` or `_SxW` that no table holds, and no state above 4 is in it
 unfoldable pub wakeRange : ℕ → ℕ → ℕ → Bool
 wakeRange sxd sxw x =
-    cond (eqb sxd absent) (cond (eqb sxw absent) false (leb x sxw)) (cond (eqb sxw absent) (eqb x sxd) (leb sxd x && leb x sxw))
+    cond (eqb sxd absent) (cond (eqb sxw absent) false (leb sxw 4 && leb x sxw))
+    (leb sxd 3 && cond (eqb sxw absent) (eqb x sxd) (leb sxw 4 && leb sxd x && leb x sxw))
 
 -- `_PRW` exists and S is not above its deepest state
 unfoldable pub wakeFrom : Station → ℕ → ℕ → Bool

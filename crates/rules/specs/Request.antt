@@ -6,11 +6,13 @@ use mathlib.Core.List.{[], _∷_}
 use lib.Dec.{eqb, leb, ltb}
 use Rattle.rules.specs.declared.Request.{Request}
 use Rattle.rules.specs.declared.Verdict.{Verdict}
-use Rattle.rules.specs.declared.Verdict.the-variants.{Done, BadRequest, Unsupported, Shallower, ParentDeeper, ChildShallower, TooDeepToWake, NoWake, WakeUnpowered, BadWakeState}
+use Rattle.rules.specs.declared.Verdict.the-variants.{Done, Refused}
+use Rattle.rules.specs.declared.Reason.the-variants.{BadRequest, Unsupported, Shallower, ParentDeeper, ChildShallower, TooDeepToWake, NoWake, WakeUnpowered, BadWakeState}
 use Rattle.rules.specs.Answers.{firstOf, unless, lowest}
-use Rattle.rules.specs.Station.{Station, absent}
+use Rattle.rules.specs.Station.{Station}
 use Rattle.rules.specs.declared.Entry.{Entry}
 use Rattle.rules.specs.Power.{isArmed, supported, wakeFrom, wakePowered, wakeState}
+use Rattle.rules.specs.Status.{parentAllows}
 
 -- kind 1 moves to state a; kind 2 arms for S = a, D = b; kind 3 disarms
 abbrev pub isMove : Request → Bool
@@ -22,19 +24,17 @@ isArm q = eqb (q .kind) 2
 abbrev pub isDisarm : Request → Bool
 isDisarm q = eqb (q .kind) 3
 
+-- kind and numbers in range, unused ones zero
+unfoldable pub numbersGood : Request → Bool
+numbersGood q = isMove q && leb (q .a) 4 && eqb (q .b) 0 || isArm q && leb (q .a) 4 && leb (q .b) 4 || isDisarm q && eqb (q .a) 0 && eqb (q .b) 0
+
 -- 10: kind, device and numbers in range, unused ones zero
 unfoldable pub formGood : Station → Request → Bool
-formGood s q =
-    ltb (q .device) (s .devices)
-    && (isMove q && leb (q .a) 4 && eqb (q .b) 0 || isArm q && leb (q .a) 4 && leb (q .b) 4 || isDisarm q && eqb (q .a) 0 && eqb (q .b) 0)
+formGood s q = ltb (q .device) (s .devices) && numbersGood q
 
 -- 12: the target is not shallower than the present state, or D0
 unfoldable pub notShallowerOrD0 : Entry → ℕ → Bool
 notShallowerOrD0 e x = eqb x 0 || leb (e .state) x
-
--- 13: the parent, if there is one, is not deeper than the target
-unfoldable pub parentAllows : Station → (ℕ → Entry) → ℕ → ℕ → Bool
-parentAllows s entries d x = eqb (s .device d .parent) absent || leb (entries (s .device d .parent) .state) x
 
 -- 14: c is a child of d and shallower than the target
 unfoldable pub childBars : Station → (ℕ → Entry) → ℕ → ℕ → ℕ → Bool
@@ -44,15 +44,15 @@ childBars s entries d x c = eqb (s .device c .parent) d && ltb (entries c .state
 unfoldable pub wakeAllows : Entry → ℕ → Bool
 wakeAllows e x = not (isArmed e) || leb x (e .wake)
 
--- 11 to 15: device d to state x
+-- 11 to 15: device d to state x; 13 is a parent that is deeper than x
 unfoldable pub moveVerdict : Station → (ℕ → Entry) → ℕ → ℕ → Verdict
 moveVerdict s entries d x =
     firstOf
-    (unless (supported s d x) Unsupported
-    ∷ unless (notShallowerOrD0 (entries d) x) Shallower
-    ∷ unless (parentAllows s entries d x) (ParentDeeper (s .device d .parent))
-    ∷ lowest (childBars s entries d x) (s .devices) ChildShallower
-    ∷ unless (wakeAllows (entries d) x) TooDeepToWake
+    (unless (supported s d x) Unsupported 0
+    ∷ unless (notShallowerOrD0 (entries d) x) Shallower 0
+    ∷ unless (parentAllows s entries d x) ParentDeeper (s .device d .parent)
+    ∷ lowest (childBars s entries d x) (s .devices) (Refused ChildShallower)
+    ∷ unless (wakeAllows (entries d) x) TooDeepToWake 0
     ∷ [])
     (Done 0)
 
@@ -60,9 +60,9 @@ moveVerdict s entries d x =
 unfoldable pub armVerdict : Station → (ℕ → Entry) → ℕ → ℕ → ℕ → Verdict
 armVerdict s entries d x y =
     firstOf
-    (unless (wakeFrom s d x) NoWake
-    ∷ unless (wakePowered s d x) WakeUnpowered
-    ∷ unless (wakeState s d x y && leb (entries d .state) y) BadWakeState
+    (unless (wakeFrom s d x) NoWake 0
+    ∷ unless (wakePowered s d x) WakeUnpowered 0
+    ∷ unless (wakeState s d x y && leb (entries d .state) y) BadWakeState 0
     ∷ [])
     (Done 0)
 
@@ -73,7 +73,7 @@ kindVerdict s entries q =
 
 -- 10 to 18
 unfoldable pub requestVerdict : Station → (ℕ → Entry) → Request → Verdict
-requestVerdict s entries q = firstOf (unless (formGood s q) BadRequest ∷ kindVerdict s entries q ∷ []) (Done 0)
+requestVerdict s entries q = firstOf (unless (formGood s q) BadRequest 0 ∷ kindVerdict s entries q ∷ []) (Done 0)
 
 -- a move changes the state, arming writes the pair, disarming zeroes it
 unfoldable pub newEntry : Entry → Request → Entry

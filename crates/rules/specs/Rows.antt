@@ -100,7 +100,7 @@ blank n = replicate n 0xa5
 -- the state after requests that are all accepted; an empty list if one is not
 unfoldable pub stateOf : List ℕ → List Request → List ℕ
 stateOf b [] = b
-stateOf b (q ∷ qs) = let o = planBytes 4 benchTable b q (blank 132) in stateOf (cond (eqb (numberOf (o .verdict)) 0) (o .state) []) qs
+stateOf b (q ∷ qs) = let o = planBytes benchTable b q (blank 132) in stateOf (cond (eqb (numberOf (o .verdict)) 0) (o .state) []) qs
 
 -- the outcome of the last request, from state b, is what the row says: number, place, count, every byte of plan and state; and the checker, given the
 -- row's calls, answers the same number and place with count 0
@@ -111,12 +111,12 @@ agrees r b o =
     && eqb (countOf (o .verdict)) (length (r .calls) / 4)
     && same (o .plan) (r .calls ++ lib.ListN.drop (length (r .calls)) (blank 132))
     && same (o .state) (r .entries ++ replicate 116 0 ++ r .on ∷ 0 ∷ 0 ∷ 0 ∷ [])
-    && eqb (numberOf (checkBytes 4 benchTable b (r .last) (r .calls))) (r .number)
-    && eqb (placeOf (checkBytes 4 benchTable b (r .last) (r .calls))) (r .place)
-    && eqb (countOf (checkBytes 4 benchTable b (r .last) (r .calls))) 0
+    && eqb (numberOf (checkBytes benchTable b (r .last) (r .calls))) (r .number)
+    && eqb (placeOf (checkBytes benchTable b (r .last) (r .calls))) (r .place)
+    && eqb (countOf (checkBytes benchTable b (r .last) (r .calls))) 0
 
 unfoldable pub holds : Row → Bool
-holds r = let b = stateOf (fresh 4 benchTable (blank 132) .state) (r .before) in agrees r b (planBytes 4 benchTable b (r .last) (blank 132))
+holds r = let b = stateOf (fresh benchTable (blank 132) .state) (r .before) in agrees r b (planBytes benchTable b (r .last) (blank 132))
 
 -- the places, counted from i, of the rows that fail
 unfoldable pub wrong : ℕ → List Row → List ℕ

@@ -1,7 +1,8 @@
 -- Document 01, "Power table", first part: what the bytes of a table say, as a station of numbered resources and devices.
--- Sets take w bytes each; w = 4 gives document 01's layout. The rules of Power, Request and Calls
+-- Sets take w bytes each, and w fixes all sizes; the table says its own w. The rules of Power, Request and Calls
 -- speak of the station alone, of no bytes and no widths. Assumes nothing.
-use Prim.Native.Nat.{ℕ, _+_, _*_}
+use Prim.Native.Nat.{ℕ, _+_, _*_, _%_, _≤_}
+use mathlib.Core.Path.{_≡_}
 use mathlib.Core.Bool.{Bool, cond}
 use mathlib.Core.List.{List}
 use lib.ListN.{getD}
@@ -42,6 +43,20 @@ pub record Station : Type 0 where
 abbrev pub absent : ℕ
 absent = 255
 
+-- the bytes of a set in a table: 4, for at most 32 resources
+unfoldable pub width : List ℕ → ℕ
+width t = 4
+
+-- a width that a table can have, 4 or 8, in facts that add up
+pub record Wide (w : ℕ) : Type 0 where
+  pub low : 4 ≤ w
+  pub high : w ≤ 8
+  pub fours : w % 4 ≡ 0
+
+-- at most 8w resources and devices, 32 for w = 4
+abbrev pub limit : ℕ → ℕ
+limit w = 8 * w
+
 -- header, 8 bytes; then R records of 4 bytes; then D records of 16 + 6w bytes, 40 for w = 4
 abbrev pub recordSize : ℕ → ℕ
 recordSize w = 16 + 6 * w
@@ -55,7 +70,7 @@ countD t = getD t 6 0
 abbrev pub resourceStart : ℕ → ℕ
 resourceStart r = 8 + 4 * r
 
-abbrev pub deviceStart : ℕ → List ℕ → ℕ → ℕ
+unfoldable pub deviceStart : ℕ → List ℕ → ℕ → ℕ
 deviceStart w t d = 8 + 4 * countR t + recordSize w * d
 
 unfoldable pub resourceAt : List ℕ → ℕ → Resource
@@ -90,6 +105,10 @@ stationOf w t =
       resource = below (countR t) noResource (λ r. resourceAt t (resourceStart r));
       device = below (countD t) noDevice (λ d. deviceAt w t (deviceStart w t d));
     }
+
+-- the station that a table says, read with its own width
+abbrev pub station : List ℕ → Station
+station t = stationOf (width t) t
 
 -- bit x of a mask
 abbrev pub hasPS : Device → ℕ → Bool

@@ -7,10 +7,11 @@ use lib.Dec.{eqb, leb, ltb}
 use Rattle.sets.specs.Sets.{subset, firstN}
 use Rattle.words.specs.Words.{readLE, bytesLE}
 use Rattle.rules.specs.declared.Verdict.{Verdict}
-use Rattle.rules.specs.declared.Verdict.the-variants.{Done, BadState, Inconsistent}
+use Rattle.rules.specs.declared.Verdict.the-variants.{Done, Refused}
+use Rattle.rules.specs.declared.Reason.the-variants.{BadState, Inconsistent}
 use Rattle.rules.specs.Index.{every, below}
 use Rattle.rules.specs.Answers.{firstOf, unless, lowest}
-use Rattle.rules.specs.Station.{Station, absent}
+use Rattle.rules.specs.Station.{Station, absent, width, limit, station}
 use Rattle.rules.specs.declared.Entry.{Entry}
 use Rattle.rules.specs.Power.{isArmed, supported, needs, wakePair}
 
@@ -30,15 +31,25 @@ entryAt b at = record { state = getD b at 0; armed = getD b (at + 1) 0; sleep = 
 unfoldable pub entryBytes : Entry → List ℕ
 entryBytes e = e .state ∷ e .armed ∷ e .sleep ∷ e .wake ∷ []
 
--- four bytes a device for 8w devices, then the on-set; 33w bytes, 132 for w = 4
+-- four bytes a device for 8w devices, 128 for w = 4, then the on-set; 132 bytes in all
+abbrev pub entriesSize : ℕ → ℕ
+entriesSize w = 32 * w
+
 abbrev pub imageSize : ℕ → ℕ
 imageSize w = 33 * w
 
 unfoldable pub entriesOf : ℕ → List ℕ → ℕ → Entry
-entriesOf w b = below (8 * w) noEntry (λ k. entryAt b (4 * k))
+entriesOf w b = below (limit w) noEntry (λ k. entryAt b (4 * k))
 
 unfoldable pub statusOf : ℕ → List ℕ → Status
-statusOf w b = record { entries = entriesOf w b; on = readLE w b (32 * w) }
+statusOf w b = record { entries = entriesOf w b; on = readLE w b (entriesSize w) }
+
+-- the entries and the whole status that an image says of a table's station
+abbrev pub entries : List ℕ → List ℕ → ℕ → Entry
+entries t b = entriesOf (width t) b
+
+abbrev pub status : List ℕ → List ℕ → Status
+status t b = statusOf (width t) b
 
 -- the bytes of the k entries from i on
 unfoldable pub entriesBytes : (ℕ → Entry) → ℕ → ℕ → List ℕ
@@ -47,7 +58,7 @@ entriesBytes entries i (suc k) = entryBytes (entries i) ++ entriesBytes entries 
 
 -- the image of a status
 unfoldable pub imageOf : ℕ → Status → List ℕ
-imageOf w s = entriesBytes (s .entries) 0 (8 * w) ++ bytesLE w (s .on)
+imageOf w s = entriesBytes (s .entries) 0 (limit w) ++ bytesLE w (s .on)
 
 -- every device in D0, none armed, all R resources on
 unfoldable pub freshStatus : Station → Status
@@ -69,17 +80,17 @@ entriesGood n s entries = every (λ k. entryGood (entries k) && (ltb k (s .devic
 unfoldable pub onGood : Station → ℕ → Bool
 onGood s on = ltb on (2 ^ s .resources)
 
--- d is not shallower than its parent
-unfoldable pub underParent : Station → (ℕ → Entry) → ℕ → Bool
-underParent s entries d = eqb (s .device d .parent) absent || leb (entries (s .device d .parent) .state) (entries d .state)
+-- d's parent, if there is one, is not deeper than state x
+unfoldable pub parentAllows : Station → (ℕ → Entry) → ℕ → ℕ → Bool
+parentAllows s entries d x = eqb (s .device d .parent) absent || leb (entries (s .device d .parent) .state) x
 
 -- if armed, its pair is legal and its state is not deeper than wake D
-unfoldable pub wakeSound : Station → ℕ → Entry → Bool
-wakeSound s d e = not (isArmed e) || wakePair s d (e .sleep) (e .wake) && leb (e .state) (e .wake)
+unfoldable pub wakeConsistent : Station → ℕ → Entry → Bool
+wakeConsistent s d e = not (isArmed e) || wakePair s d (e .sleep) (e .wake) && leb (e .state) (e .wake)
 
 -- what document 01 calls sound, apart from power: a supported state, not shallower than its parent, the wake rules
 unfoldable pub consistentButPower : Station → (ℕ → Entry) → ℕ → Bool
-consistentButPower s entries d = supported s d (entries d .state) && underParent s entries d && wakeSound s d (entries d)
+consistentButPower s entries d = supported s d (entries d .state) && parentAllows s entries d (entries d .state) && wakeConsistent s d (entries d)
 
 -- everything it needs is on
 unfoldable pub powered : Station → Status → ℕ → Bool
@@ -95,9 +106,13 @@ valuesGood n s st = entriesGood n s (st .entries) && onGood s (st .on)
 
 -- 8: the lowest device that is not consistent
 unfoldable pub consistencyVerdict : Station → Status → Verdict
-consistencyVerdict s st = lowest (λ d. not (consistent s st d)) (s .devices) Inconsistent
+consistencyVerdict s st = lowest (λ d. not (consistent s st d)) (s .devices) (Refused Inconsistent)
 
 -- 7, then 8
-unfoldable pub stateVerdict : ℕ → Station → List ℕ → Verdict
-stateVerdict w s b =
-    firstOf (unless (eqb (length b) (imageSize w) && valuesGood (8 * w) s (statusOf w b)) BadState ∷ consistencyVerdict s (statusOf w b) ∷ []) (Done 0)
+unfoldable pub stateVerdict : List ℕ → List ℕ → Verdict
+stateVerdict t b =
+    firstOf
+    (unless (eqb (length b) (imageSize (width t)) && valuesGood (limit (width t)) (station t) (status t b)) BadState 0
+    ∷ consistencyVerdict (station t) (status t b)
+    ∷ [])
+    (Done 0)

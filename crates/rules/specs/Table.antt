@@ -6,23 +6,25 @@ use lib.ListN.{length, getD}
 use lib.Dec.{eqb, leb, ltb}
 use Rattle.words.specs.Words.{readLE}
 use Rattle.rules.specs.declared.Verdict.{Verdict}
-use Rattle.rules.specs.declared.Verdict.the-variants.{Done, NotATable, TooMany, WrongLength, BadResource, BadDevice, BadObjects}
+use Rattle.rules.specs.declared.Verdict.the-variants.{Done, Refused}
+use Rattle.rules.specs.declared.Reason.{Reason}
+use Rattle.rules.specs.declared.Reason.the-variants.{NotATable, TooMany, WrongLength, BadResource, BadDevice, BadObjects}
 use Rattle.rules.specs.Index.{each}
 use Rattle.rules.specs.Answers.{firstOf, unless, lowest}
-use Rattle.rules.specs.Station.{Device, absent, recordSize, countR, countD, resourceStart, deviceStart, deviceAt, hasPS, hasPR, hasPRW, hasDSW}
+use Rattle.rules.specs.Station.{Device, absent, width, limit, recordSize, countR, countD, resourceStart, deviceStart, deviceAt, hasPS, hasPR, hasPRW, hasDSW}
 
 -- 1: the table has its 8 bytes, the mark PWT, version 1 and a zero at byte 7
 unfoldable pub headerGood : List ℕ → Bool
 headerGood t =
     leb 8 (length t) && eqb (getD t 0 0) 0x50 && eqb (getD t 1 0) 0x57 && eqb (getD t 2 0) 0x54 && eqb (readLE 2 t 4) 1 && eqb (getD t 7 0) 0
 
--- 2: at most 8w resources and devices
-unfoldable pub countsGood : ℕ → List ℕ → Bool
-countsGood w t = leb (countR t) (8 * w) && leb (countD t) (8 * w)
+-- 2: at most as many resources and devices as the width allows, 32
+unfoldable pub countsGood : List ℕ → Bool
+countsGood t = leb (countR t) (limit (width t)) && leb (countD t) (limit (width t))
 
--- 3: the header, R records of 4 bytes, D of 16 + 6w: 8 + 4R + 40D bytes for w = 4
-unfoldable pub lengthGood : ℕ → List ℕ → Bool
-lengthGood w t = eqb (length t) (8 + 4 * countR t + recordSize w * countD t)
+-- 3: the bytes end where a record D would start: 8 + 4R + 40D for a width of 4
+unfoldable pub lengthGood : List ℕ → Bool
+lengthGood t = eqb (length t) (deviceStart (width t) t (countD t))
 
 -- a field of a record: the byte of the record at which it starts, and whether it keeps its rule
 pub record Field : Type 0 where
@@ -95,12 +97,12 @@ deviceFields w resources t d at =
     headFields d v ++ setFields w resources v ++ sxdFields w v ++ sxwFields w v ++ lastFields w t at v
 
 -- where in device d's record the first bad field starts, else the record's size
-unfoldable pub badField : ℕ → List ℕ → ℕ → ℕ
-badField w t d = firstBad (recordSize w) (deviceFields w (countR t) t d (deviceStart w t d))
+unfoldable pub badField : List ℕ → ℕ → ℕ
+badField t d = firstBad (recordSize (width t)) (deviceFields (width t) (countR t) t d (deviceStart (width t) t d))
 
 -- 5: every field of the device's record is good
-unfoldable pub fieldsGood : ℕ → List ℕ → ℕ → Bool
-fieldsGood w t d = eqb (badField w t d) (recordSize w)
+unfoldable pub fieldsGood : List ℕ → ℕ → Bool
+fieldsGood t d = eqb (badField t d) (recordSize (width t))
 
 -- 6: any `_PS` needs `_PS0` and `_PS3`; any `_PR` needs `_PR0`; with both kinds, mask bits 0 to 2 agree; `_DSW` needs `_PRW`
 unfoldable pub objectsGood : Device → Bool
@@ -111,20 +113,20 @@ objectsGood v =
     && (not (hasDSW v) || hasPRW v)
 
 -- 5 or 6 of one device, 5 first
-unfoldable pub deviceRefusal : ℕ → List ℕ → ℕ → Verdict
-deviceRefusal w t d = cond (fieldsGood w t d) (BadObjects d) (BadDevice d)
+unfoldable pub deviceRefusal : List ℕ → ℕ → Verdict
+deviceRefusal t d = Refused (cond (fieldsGood t d) BadObjects BadDevice) d
 
-unfoldable pub deviceGood : ℕ → List ℕ → ℕ → Bool
-deviceGood w t d = fieldsGood w t d && objectsGood (deviceAt w t (deviceStart w t d))
+unfoldable pub deviceGood : List ℕ → ℕ → Bool
+deviceGood t d = fieldsGood t d && objectsGood (deviceAt (width t) t (deviceStart (width t) t d))
 
 -- 1 to 6 in their order, 5 and 6 device by device
-unfoldable pub tableVerdict : ℕ → List ℕ → Verdict
-tableVerdict w t =
+unfoldable pub tableVerdict : List ℕ → Verdict
+tableVerdict t =
     firstOf
-    (unless (headerGood t) NotATable
-    ∷ unless (countsGood w t) TooMany
-    ∷ unless (lengthGood w t) WrongLength
-    ∷ lowest (λ r. not (resourceGood t r)) (countR t) BadResource
-    ∷ lowest (λ d. not (deviceGood w t d)) (countD t) (deviceRefusal w t)
+    (unless (headerGood t) NotATable 0
+    ∷ unless (countsGood t) TooMany 0
+    ∷ unless (lengthGood t) WrongLength 0
+    ∷ lowest (λ r. not (resourceGood t r)) (countR t) (Refused BadResource)
+    ∷ lowest (λ d. not (deviceGood t d)) (countD t) (deviceRefusal t)
     ∷ [])
     (Done 0)

@@ -1,7 +1,7 @@
 // The values that planner, checker and board exchange. Their meaning is document 01's, written as definitions in specs/.
 
 ghost use mathlib.Core.Path.{_≡_};
-ghost use Rattle.rules.specs.Answers.{numberOf, placeOf, countOf, passes};
+ghost use Rattle.rules.specs.Answers.{reasonNumber, numberOf, placeOf, countOf, passes};
 
 // What `_DSW` is told: to let the device wake the system from sleep state `sleep` while it is in device state `state`, or to stop.
 pub enum Wake {
@@ -15,14 +15,14 @@ pub enum Call {
     ResourceOn(u8),
     // `_OFF` of a power resource
     ResourceOff(u8),
-    // `_PSx` of a device
-    SetState { device: u8, state: u8 },
+    // `_PSx` of a device, x being the method
+    SetState { device: u8, method: u8 },
     // `_DSW` of a device
     SetWake { device: u8, wake: Wake },
 }
 
-// What a plan word says.
-pub enum Word {
+// A call or none: what a plan word says, and what a request asks of its device's own methods.
+pub enum OptionalCall {
     Is(Call),
     NoCall,
 }
@@ -49,30 +49,27 @@ pub struct State {
     pub on: u32,
 }
 
-// The answers, in the order of their numbers, 0 to 19.
-pub enum Verdict {
-    // with the count of calls
-    Done(usize),
+// Why a request is refused, in the order of the answers' numbers, 1 to 19.
+pub enum Reason {
     NotATable,
     TooMany,
     WrongLength,
-    // with the resource
-    BadResource(usize),
-    // with the device
-    BadDevice(usize),
-    // with the device
-    BadObjects(usize),
+    // the place is the resource
+    BadResource,
+    // the place is the device, and so of the next and of `Inconsistent`
+    BadDevice,
+    BadObjects,
     BadState,
-    // the state is not consistent, document 01's sound; with the device
-    Inconsistent(usize),
+    // the state is not consistent, document 01's sound
+    Inconsistent,
     NoRoom,
     BadRequest,
     Unsupported,
     Shallower,
-    // with the parent
-    ParentDeeper(usize),
-    // with the child
-    ChildShallower(usize),
+    // the place is the parent
+    ParentDeeper,
+    // the place is the child
+    ChildShallower,
     TooDeepToWake,
     NoWake,
     WakeUnpowered,
@@ -81,31 +78,46 @@ pub enum Verdict {
     NotConforming,
 }
 
-// The number of an answer, as document 01 counts them.
+// An answer: done with the count of calls, or refused with a place, 0 where the reason names none.
+pub enum Verdict {
+    Done(usize),
+    Refused(Reason, usize),
+}
+
+// The number of a refusal, as document 01 counts them.
+fn reason_number(why: Reason) -> u8
+    ensures { λ r. ⌜ r ≡ reasonNumber why ⌝ }
+{
+    match why {
+        Reason::NotATable => 1,
+        Reason::TooMany => 2,
+        Reason::WrongLength => 3,
+        Reason::BadResource => 4,
+        Reason::BadDevice => 5,
+        Reason::BadObjects => 6,
+        Reason::BadState => 7,
+        Reason::Inconsistent => 8,
+        Reason::NoRoom => 9,
+        Reason::BadRequest => 10,
+        Reason::Unsupported => 11,
+        Reason::Shallower => 12,
+        Reason::ParentDeeper => 13,
+        Reason::ChildShallower => 14,
+        Reason::TooDeepToWake => 15,
+        Reason::NoWake => 16,
+        Reason::WakeUnpowered => 17,
+        Reason::BadWakeState => 18,
+        Reason::NotConforming => 19,
+    }
+}
+
+// The number of an answer.
 pub fn number(v: Verdict) -> u8
     ensures { λ r. ⌜ r ≡ numberOf v ⌝ }
 {
     match v {
         Verdict::Done(_) => 0,
-        Verdict::NotATable => 1,
-        Verdict::TooMany => 2,
-        Verdict::WrongLength => 3,
-        Verdict::BadResource(_) => 4,
-        Verdict::BadDevice(_) => 5,
-        Verdict::BadObjects(_) => 6,
-        Verdict::BadState => 7,
-        Verdict::Inconsistent(_) => 8,
-        Verdict::NoRoom => 9,
-        Verdict::BadRequest => 10,
-        Verdict::Unsupported => 11,
-        Verdict::Shallower => 12,
-        Verdict::ParentDeeper(_) => 13,
-        Verdict::ChildShallower(_) => 14,
-        Verdict::TooDeepToWake => 15,
-        Verdict::NoWake => 16,
-        Verdict::WakeUnpowered => 17,
-        Verdict::BadWakeState => 18,
-        Verdict::NotConforming => 19,
+        Verdict::Refused(why, _) => reason_number(why),
     }
 }
 
@@ -115,25 +127,7 @@ pub fn place(v: Verdict) -> usize
 {
     match v {
         Verdict::Done(_) => 0,
-        Verdict::NotATable => 0,
-        Verdict::TooMany => 0,
-        Verdict::WrongLength => 0,
-        Verdict::BadResource(p) => p,
-        Verdict::BadDevice(p) => p,
-        Verdict::BadObjects(p) => p,
-        Verdict::BadState => 0,
-        Verdict::Inconsistent(p) => p,
-        Verdict::NoRoom => 0,
-        Verdict::BadRequest => 0,
-        Verdict::Unsupported => 0,
-        Verdict::Shallower => 0,
-        Verdict::ParentDeeper(p) => p,
-        Verdict::ChildShallower(p) => p,
-        Verdict::TooDeepToWake => 0,
-        Verdict::NoWake => 0,
-        Verdict::WakeUnpowered => 0,
-        Verdict::BadWakeState => 0,
-        Verdict::NotConforming => 0,
+        Verdict::Refused(_, at) => at,
     }
 }
 
@@ -143,25 +137,7 @@ pub fn count(v: Verdict) -> usize
 {
     match v {
         Verdict::Done(n) => n,
-        Verdict::NotATable => 0,
-        Verdict::TooMany => 0,
-        Verdict::WrongLength => 0,
-        Verdict::BadResource(_) => 0,
-        Verdict::BadDevice(_) => 0,
-        Verdict::BadObjects(_) => 0,
-        Verdict::BadState => 0,
-        Verdict::Inconsistent(_) => 0,
-        Verdict::NoRoom => 0,
-        Verdict::BadRequest => 0,
-        Verdict::Unsupported => 0,
-        Verdict::Shallower => 0,
-        Verdict::ParentDeeper(_) => 0,
-        Verdict::ChildShallower(_) => 0,
-        Verdict::TooDeepToWake => 0,
-        Verdict::NoWake => 0,
-        Verdict::WakeUnpowered => 0,
-        Verdict::BadWakeState => 0,
-        Verdict::NotConforming => 0,
+        Verdict::Refused(_, _) => 0,
     }
 }
 
@@ -169,5 +145,8 @@ pub fn count(v: Verdict) -> usize
 pub fn passes(v: Verdict) -> bool
     ensures { λ r. ⌜ r ≡ passes v ⌝ }
 {
-    number(v) == 0
+    match v {
+        Verdict::Done(_) => true,
+        Verdict::Refused(_, _) => false,
+    }
 }

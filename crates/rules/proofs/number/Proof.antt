@@ -1,50 +1,11 @@
-use mathlib.Core.Path.{sym, ap}
+use mathlib.Core.Path.{sym, ap, _∙_}
 use borrow.Author.Needs.{needs}
 use Rattle.rules.specs.Answers.{numberOf}
 use Rattle.rules.proofs.number.Statement.{statement}
 use Rattle.rules.proofs.number.Tie as tie
 
+returns-2 : tie.Need-returns-2
+returns-2 c = c .reason-number .ensures ∙ sym (ap numberOf (c .before .before .v .given .1))
+
 pub number-spec : {M : Type 1} → statement M
-number-spec =
-    tie.close
-    (tie.spec
-    (λ c. search needs)
-    (λ c. search needs)
-    (λ c. search needs)
-    (λ c. search needs)
-    (λ c. search needs)
-    (λ c. search needs)
-    (λ c. search needs)
-    (λ c. search needs)
-    (λ c. search needs)
-    (λ c. search needs)
-    (λ c. search needs)
-    (λ c. search needs)
-    (λ c. search needs)
-    (λ c. search needs)
-    (λ c. search needs)
-    (λ c. search needs)
-    (λ c. search needs)
-    (λ c. search needs)
-    (λ c. search needs)
-    (λ c. search needs)
-    (λ c. sym (ap numberOf (c .enum-told .given .1)))
-    (λ c. sym (ap numberOf (c .enum-told2 .given .1)))
-    (λ c. sym (ap numberOf (c .enum-told3 .given .1)))
-    (λ c. sym (ap numberOf (c .enum-told4 .given .1)))
-    (λ c. sym (ap numberOf (c .enum-told5 .given .1)))
-    (λ c. sym (ap numberOf (c .enum-told6 .given .1)))
-    (λ c. sym (ap numberOf (c .enum-told7 .given .1)))
-    (λ c. sym (ap numberOf (c .enum-told8 .given .1)))
-    (λ c. sym (ap numberOf (c .enum-told9 .given .1)))
-    (λ c. sym (ap numberOf (c .enum-told10 .given .1)))
-    (λ c. sym (ap numberOf (c .enum-told11 .given .1)))
-    (λ c. sym (ap numberOf (c .enum-told12 .given .1)))
-    (λ c. sym (ap numberOf (c .enum-told13 .given .1)))
-    (λ c. sym (ap numberOf (c .enum-told14 .given .1)))
-    (λ c. sym (ap numberOf (c .enum-told15 .given .1)))
-    (λ c. sym (ap numberOf (c .enum-told16 .given .1)))
-    (λ c. sym (ap numberOf (c .enum-told17 .given .1)))
-    (λ c. sym (ap numberOf (c .enum-told18 .given .1)))
-    (λ c. sym (ap numberOf (c .enum-told19 .given .1)))
-    (λ c. sym (ap numberOf (c .enum-told20 .given .1))))
+number-spec = tie.close (tie.spec (λ c. search needs) (λ c. search needs) (λ c κs. search needs) (λ c. search needs) returns-2)

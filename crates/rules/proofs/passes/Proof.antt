@@ -1,22 +1,16 @@
-use mathlib.Core.Path.{ap}
-use Prim.Native.Nat.{ℕ}
-use lib.Dec.{eqb}
+use mathlib.Core.Path.{sym, ap}
 use borrow.Author.Needs.{needs}
 use Rattle.rules.specs.Answers.{passes}
 use Rattle.rules.proofs.passes.Statement.{statement}
 use Rattle.rules.proofs.passes.Tie as tie
-use Rattle.rules.proofs.passes.Reads as reads
-use Rattle.rules.proofs.passes.Lts as lts
-use Rattle.rules.proofs.number.Reads as number-reads
 
--- src/lib.rt:172:5
-number-requires : tie.Need-number-requires
-number-requires c κs = search needs
-
--- src/lib.rt:169:1
 returns : tie.Need-returns
 unfolding passes
-returns c = ap (λ (n : ℕ). eqb n 0) (c .number .ensures)
+returns c = sym (ap passes (c .enum-told .given .1))
+
+returns-2 : tie.Need-returns-2
+unfolding passes
+returns-2 c = sym (ap passes (c .enum-told2 .given .1))
 
 pub passes-spec : {M : Type 1} → statement M
-passes-spec = tie.close (tie.spec number-requires returns)
+passes-spec = tie.close (tie.spec (λ c. search needs) (λ c. search needs) returns returns-2)
