@@ -7,16 +7,16 @@ use Prim.Native.Nat.{ℕ, _+_, _*_, _≤_, _<_}
 use native.Mathlib.Omega.{arith}
 use native.Mathlib.Nat.{lt-irrefl}
 use borrow.Author.Tests.{eqb-true, leb-true, ltb-true, not-false}
-use lib.Dec.{eqb}
 use lib.ListN.{length}
 use Rattle.sets.proofs.Laws.{decide}
-use Rattle.rules.specs.declared.Verdict.the-variants.{TooMany, WrongLength, BadResource}
+use Rattle.rules.specs.declared.Verdict.the-variants.{Refused}
+use Rattle.rules.specs.declared.Reason.the-variants.{BadResource}
 use Rattle.rules.specs.Index.{eachFrom}
-use Rattle.rules.specs.Answers.{numberOf, passes}
-use Rattle.rules.specs.Station.{Device, recordSize, countR, countD, resourceStart, deviceStart, resourceAt, deviceAt, stationOf}
+use Rattle.rules.specs.Answers.{passes}
+use Rattle.rules.specs.Station.{Device, width, limit, station, recordSize, countR, countD, resourceStart, deviceStart, resourceAt, deviceAt, stationOf}
 use Rattle.rules.specs.Table.{countsGood, lengthGood, Field, field, firstBad, resourceFields, resourceGood, parentGood, setGood, sxdGood, sxwGood, deepestGood, headFields, setFields, sxdFields, sxwFields, lastFields, deviceFields, badField, fieldsGood, objectsGood, deviceRefusal, deviceGood, tableVerdict}
 use Rattle.rules.proofs.Index.{below-in}
-use Rattle.rules.proofs.Answers.{first-both, unless-at, lowest-at}
+use Rattle.rules.proofs.Answers.{first-both, unless-at, refused-stops, lowest-at}
 use Rattle.laws.specs.Carried.{All}
 use Rattle.laws.proofs.Tests.{both-true}
 use Rattle.laws.proofs.All.{all-append, all-left, all-right, all-each, each-at}
@@ -90,13 +90,13 @@ module _ (w resources : ℕ) (t : List ℕ) (d at : ℕ) where
       }
 
 -- ---- what an accepted table gives
-pub record Accepted (w : ℕ) (t : List ℕ) : Type 0 where
-  pub resources : countR t ≤ 8 * w
-  pub devices : countD t ≤ 8 * w
-  pub long : length t ≡ 8 + 4 * countR t + recordSize w * countD t
-  pub resource : (r : ℕ) → r < countR t → stationOf w t .resource r .level ≤ 4
-  pub device : (d : ℕ) → d < countD t → DeviceRules (countR t) d (stationOf w t .device d)
-  pub objects : (d : ℕ) → d < countD t → objectsGood (stationOf w t .device d) ≡ true
+pub record Accepted (t : List ℕ) : Type 0 where
+  pub resources : countR t ≤ limit (width t)
+  pub devices : countD t ≤ limit (width t)
+  pub long : length t ≡ deviceStart (width t) t (countD t)
+  pub resource : (r : ℕ) → r < countR t → station t .resource r .level ≤ 4
+  pub device : (d : ℕ) → d < countD t → DeviceRules (countR t) d (station t .device d)
+  pub objects : (d : ℕ) → d < countD t → objectsGood (station t .device d) ≡ true
 
 -- the station's resource and device at a number below R and D
 pub resource-at : (w : ℕ) (t : List ℕ) (r : ℕ) → r < countR t → stationOf w t .resource r ≡ resourceAt t (resourceStart r)
@@ -107,31 +107,31 @@ pub device-at : (w : ℕ) (t : List ℕ) (d : ℕ) → d < countD t → stationO
 unfolding stationOf
 device-at w t d h = below-in (countD t) _ _ d h
 
-refuses : (w : ℕ) (t : List ℕ) (d : ℕ) → eqb (numberOf (deviceRefusal w t d)) 0 ≡ false
-unfolding deviceRefusal
-refuses w t d = decide (fieldsGood w t d) (λ e. rw e refl) (λ e. rw e refl)
+refuses : (t : List ℕ) (d : ℕ) → passes (deviceRefusal t d) ≡ false
+unfolding deviceRefusal passes
+refuses t d = refl
 
 level-good : (t : List ℕ) (r : ℕ) → resourceGood t r ≡ true → resourceAt t (resourceStart r) .level ≤ 4
 unfolding resourceGood resourceAt All
 level-good t r e =
     leb-true _ _ (no-bad 4 (resourceFields t (resourceStart r)) (omega arith, (omega arith, tt)) (eqb-true _ _ e) .0)
 
-pub accepted : (w : ℕ) (t : List ℕ) → passes (tableVerdict w t) ≡ true → Accepted w t
+pub accepted : (t : List ℕ) → passes (tableVerdict t) ≡ true → Accepted t
 unfolding tableVerdict countsGood lengthGood deviceGood fieldsGood badField
-accepted w t e =
+accepted t e =
     let a = first-both _ _ _ e in
     let b = first-both _ _ _ (a .1) in
     let c = first-both _ _ _ (b .1) in
     let f = first-both _ _ _ (c .1) in
     let g = first-both _ _ _ (f .1) in
-    let counts = both-true _ _ (unless-at _ TooMany refl (b .0)) in
-    let each : (d : ℕ) → d < countD t → (fieldsGood w t d ≡ true) × (objectsGood (deviceAt w t (deviceStart w t d)) ≡ true) =
-    λ d h. both-true _ _ (not-false (deviceGood w t d) (lowest-at _ (countD t) (deviceRefusal w t) (refuses w t) (g .0) d h)) in
+    let counts = both-true _ _ (unless-at _ _ _ (b .0)) in
+    let each : (d : ℕ) → d < countD t → (fieldsGood t d ≡ true) × (objectsGood (deviceAt (width t) t (deviceStart (width t) t d)) ≡ true) =
+    λ d h. both-true _ _ (not-false (deviceGood t d) (lowest-at _ (countD t) (deviceRefusal t) (refuses t) (g .0) d h)) in
     record {
       resources = leb-true _ _ (counts .0);
       devices = leb-true _ _ (counts .1);
-      long = eqb-true _ _ (unless-at _ WrongLength refl (c .0));
-      resource = λ r h. rw (resource-at w t r h) (level-good t r (not-false _ (lowest-at _ (countR t) BadResource (λ i. refl) (f .0) r h)));
-      device = λ d h. rw (device-at w t d h) (fields-rules w (countR t) t d (deviceStart w t d) (eqb-true _ _ (each d h .0)));
-      objects = λ d h. rw (device-at w t d h) (each d h .1);
+      long = eqb-true _ _ (unless-at _ _ _ (c .0));
+      resource = λ r h. rw (resource-at (width t) t r h) (level-good t r (not-false _ (lowest-at _ (countR t) (Refused BadResource) (refused-stops BadResource) (f .0) r h)));
+      device = λ d h. rw (device-at (width t) t d h) (fields-rules (width t) (countR t) t d (deviceStart (width t) t d) (eqb-true _ _ (each d h .0)));
+      objects = λ d h. rw (device-at (width t) t d h) (each d h .1);
     }

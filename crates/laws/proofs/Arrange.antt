@@ -28,7 +28,7 @@ use Rattle.laws.proofs.Conform.{by-phase}
 
 -- the words of an arranged list of calls
 pub arranged-words : (s : Station) (st : Status) (q : Request) (ons offs : List ℕ)
-    → map wordOf (arrange (ownLast q) (ownCall s (st .entries) q) ons offs) ≡ listed (map wordOf (ownFirstCalls s st q)) ons offs (map wordOf (ownLastCalls s st q))
+    → map wordOf (arrange (ownLast q) (ownCall s (st .entries (q .device)) q) ons offs) ≡ listed (map wordOf (ownFirstCalls s st q)) ons offs (map wordOf (ownLastCalls s st q))
 arranged-words s st q ons offs = by-phase s st q ons offs ∙ simp (append-assoc, append-nil)
 
 -- ---- the own call is neither `_ON` nor `_OFF`
@@ -38,20 +38,20 @@ unfolding only All
 only-other true c h = (h, tt)
 only-other false c h = tt
 
-pub own-other : (s : Station) (entries : ℕ → Entry) (q : Request) → All Other (map wordOf (ownCall s entries q))
+pub own-other : (s : Station) (e : Entry) (q : Request) → All Other (map wordOf (ownCall s e q))
 unfolding ownCall moveCall wakeCall
-own-other s entries q =
+own-other s e q =
     decide (isMove q) (λ m. rw m (only-other _ (SetState (q .device) (methodFor (q .a))) (omega arith)))
     (λ m. decide (isArm q) (λ a. rw (m, a) (only-other _ (SetWake (q .device) (Enable (q .a) (q .b))) (omega arith)))
     (λ a. rw (m, a) (only-other _ (SetWake (q .device) Disable) (omega arith))))
 
 pub own-first-other : (s : Station) (st : Status) (q : Request) → All Other (map wordOf (ownFirstCalls s st q))
 unfolding ownFirstCalls All
-own-first-other s st q = decide (ownLast q) (λ e. rw e tt) (λ e. rw e (own-other s (st .entries) q))
+own-first-other s st q = decide (ownLast q) (λ e. rw e tt) (λ e. rw e (own-other s (st .entries (q .device)) q))
 
 pub own-last-other : (s : Station) (st : Status) (q : Request) → All Other (map wordOf (ownLastCalls s st q))
 unfolding ownLastCalls All
-own-last-other s st q = decide (ownLast q) (λ e. rw e (own-other s (st .entries) q)) (λ e. rw e tt)
+own-last-other s st q = decide (ownLast q) (λ e. rw e (own-other s (st .entries (q .device)) q)) (λ e. rw e tt)
 
 -- ---- each member once: what stands in the list are the set's members
 

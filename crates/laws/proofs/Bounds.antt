@@ -12,20 +12,23 @@ use Rattle.sets.proofs.Laws.{decide}
 use Rattle.rules.specs.declared.Entry.{Entry}
 use Rattle.rules.specs.declared.Request.{Request}
 use Rattle.rules.specs.declared.Verdict.{Verdict}
-use Rattle.rules.specs.declared.Verdict.the-variants.{Done, TooMany, BadRequest, BadResource, Inconsistent, ParentDeeper, ChildShallower}
+use Rattle.rules.specs.declared.Verdict.the-variants.{Done, Refused}
+use Rattle.rules.specs.declared.Reason.{Reason}
+use Rattle.rules.specs.declared.Reason.the-variants.{BadResource, Inconsistent, ParentDeeper, ChildShallower}
 use Rattle.rules.specs.Index.{least}
 use Rattle.rules.specs.Answers.{placeOf, countOf, passes, firstOf, unless, lowest}
-use Rattle.rules.specs.Station.{Station, countR, countD, stationOf}
-use Rattle.rules.specs.Table.{countsGood, parentGood, fieldsGood, deviceRefusal, tableVerdict}
-use Rattle.rules.specs.Status.{statusOf, consistencyVerdict, stateVerdict}
-use Rattle.rules.specs.Request.{isMove, isArm, parentAllows, moveVerdict, armVerdict, kindVerdict, requestVerdict}
-use Rattle.rules.specs.Outcomes.{requestStage, freshVerdict, planned, planVerdict, permittedVerdict, checkBytes}
+use Rattle.rules.specs.Station.{Station, width, limit, countR, countD, stationOf, station}
+use Rattle.rules.specs.Table.{countsGood, parentGood, deviceRefusal, tableVerdict}
+use Rattle.rules.specs.Status.{entries, parentAllows, consistencyVerdict, stateVerdict}
+use Rattle.rules.specs.Request.{isMove, isArm, moveVerdict, armVerdict, kindVerdict, requestVerdict}
+use Rattle.rules.specs.Outcomes.{requestStage, freshVerdict, planRoom, stagesVerdict, planned, planVerdict, checkBytes}
+use Rattle.rules.proofs.Width.{width-wide}
 use Rattle.rules.proofs.Answers.{first-pass, first-stop, first-none, unless-of, unless-stop, unless-at, lowest-stop, lowest-none}
 use Rattle.laws.proofs.Tests.{both-true, or-cases, or-left}
 use Rattle.laws.proofs.Accepted.{accepted}
 use Rattle.laws.proofs.Kept.{StationRules}
 use Rattle.laws.proofs.States.{station-rules, form-device}
-use Rattle.laws.proofs.Runs.{Stages}
+use Rattle.laws.proofs.Stages.{Stages, stages-of}
 
 -- ---- what holds of each answer that a chain of checks can come to holds of the chain
 module _ (P : Verdict → Type 0) where
@@ -35,8 +38,8 @@ module _ (P : Verdict → Type 0) where
   pub last-holds : (last : Verdict) → P last → P (firstOf [] last)
   last-holds last p = rw (first-none last) p
 
-  pub unless-holds : (good : Bool) (refusal : Verdict) → P (Done 0) → (good ≡ false → P refusal) → P (unless good refusal)
-  unless-holds good refusal p r = decide good (λ e. rw (unless-of good refusal e) p) (λ e. rw (unless-stop good refusal e) (r e))
+  pub unless-holds : (good : Bool) (why : Reason) (at : ℕ) → P (Done 0) → (good ≡ false → P (Refused why at)) → P (unless good why at)
+  unless-holds good why at p r = decide good (λ e. rw (unless-of good why at e) p) (λ e. rw (unless-stop good why at e) (r e))
 
   pub lowest-holds : (bad : ℕ → Bool) (n : ℕ) (refusal : ℕ → Verdict) → P (Done 0) → ((i : ℕ) → i < n → P (refusal i)) → P (lowest bad n refusal)
   lowest-holds bad n refusal p r =
@@ -46,120 +49,108 @@ module _ (P : Verdict → Type 0) where
 
 -- ---- the bound
 pub record Bounded (w : ℕ) (v : Verdict) : Type 0 where
-  pub place : placeOf v < 8 * w
-  pub count : countOf v ≤ 8 * w + 1
+  pub place : placeOf v < limit w
+  pub count : countOf v ≤ planRoom w
 
-module _ (w : ℕ) (h : 0 < w) where
-  plain : (v : Verdict) → placeOf v ≡ 0 → countOf v ≡ 0 → Bounded w v
-  plain v p c = record { place = omega arith; count = omega arith }
-
-  numbered : (n i : ℕ) (v : Verdict) → n ≤ 8 * w → i < n → placeOf v ≡ i → countOf v ≡ 0 → Bounded w v
-  numbered n i v l u p c = record { place = omega arith; count = omega arith }
-
+module _ (w : ℕ) (h : 4 ≤ w) where
   done : Bounded w (Done 0)
-  done = plain (Done 0) refl refl
+  done = record { place = omega arith; count = omega arith }
+
+  refused : (why : Reason) (n i : ℕ) → n ≤ limit w → i < n → Bounded w (Refused why i)
+  refused why n i l u = record { place = omega arith; count = omega arith }
 
   -- a check whose refusal has no place, and the checks after it
-  next : (good : Bool) (refusal : Verdict) (vs : List Verdict) (last : Verdict) → placeOf refusal ≡ 0 → countOf refusal ≡ 0
-      → (passes (unless good refusal) ≡ true → Bounded w (firstOf vs last)) → Bounded w (firstOf (unless good refusal ∷ vs) last)
-  next good refusal vs last p c rest =
-      chain-holds (Bounded w) (unless good refusal) vs last (unless-holds (Bounded w) good refusal done (λ _. plain refusal p c)) rest
+  next : (good : Bool) (why : Reason) (vs : List Verdict) (last : Verdict) → (passes (unless good why 0) ≡ true → Bounded w (firstOf vs last))
+      → Bounded w (firstOf (unless good why 0 ∷ vs) last)
+  next good why vs last rest =
+      chain-holds (Bounded w) (unless good why 0) vs last (unless-holds (Bounded w) good why 0 done (λ _. refused why 1 0 (omega arith) (omega arith))) rest
 
-  refusal-numbered : (t : List ℕ) (d : ℕ) → (placeOf (deviceRefusal w t d) ≡ d) × (countOf (deviceRefusal w t d) ≡ 0)
-  unfolding deviceRefusal
-  refusal-numbered t d = decide (fieldsGood w t d) (λ e. rw e (refl, refl)) (λ e. rw e (refl, refl))
+  module _ (s : Station) (few : s .devices ≤ limit w) (rules : StationRules s) (entries : ℕ → Entry) where
+    -- 13: a parent that bars the move is there, so it is lower than its child
+    parent-bounded : (d x : ℕ) → d < s .devices → parentAllows s entries d x ≡ false → Bounded w (Refused ParentDeeper (s .device d .parent))
+    unfolding parentAllows parentGood
+    parent-bounded d x u e =
+        ⊎-elim
+        (λ (a : ltb (s .device d .parent) d ≡ true). refused _ (s .devices) (s .device d .parent) few (omega (arith, ltb-true (s .device d .parent) d a)))
+        (λ a. absurd (true≢false (sym (or-left _ _ a) ∙ e)))
+        (or-cases _ _ (rules .parents d u))
 
-  -- 1 to 6
-  pub table-bounded : (t : List ℕ) → Bounded w (tableVerdict w t)
-  unfolding tableVerdict countsGood
-  table-bounded t =
-      next _ _ _ _ refl refl
-      (λ _. next _ _ _ _ refl refl
-      (λ e.
-      let counts = both-true _ _ (unless-at _ TooMany refl e) in
-      let many = leb-true (countR t) (8 * w) (counts .0) in
-      let more = leb-true (countD t) (8 * w) (counts .1) in
-      next _ _ _ _ refl refl
-      (λ _. chain-holds (Bounded w) _ _ _ (lowest-holds (Bounded w) _ (countR t) BadResource done (λ i u. numbered (countR t) i (BadResource i) many u refl refl))
-      (λ _. chain-holds (Bounded w) _ _ _ (lowest-holds (Bounded w) _ (countD t) (deviceRefusal w t) done (λ i u. let r = refusal-numbered t i in numbered (countD t) i (deviceRefusal w t i) more u (r .0) (r .1)))
-      (λ _. last-holds (Bounded w) (Done 0) done)))))
+    move-bounded : (d x : ℕ) → d < s .devices → Bounded w (moveVerdict s entries d x)
+    unfolding moveVerdict
+    move-bounded d x u =
+        next _ _ _ _
+        (λ _. next _ _ _ _
+        (λ _. chain-holds (Bounded w) _ _ _ (unless-holds (Bounded w) _ ParentDeeper (s .device d .parent) done (parent-bounded d x u))
+        (λ _. chain-holds (Bounded w) _ _ _ (lowest-holds (Bounded w) _ (s .devices) (Refused ChildShallower) done (λ i v. refused ChildShallower (s .devices) i few v))
+        (λ _. next _ _ _ _ (λ _. last-holds (Bounded w) (Done 0) done)))))
 
-  module _ (s : Station) (few : s .devices ≤ 8 * w) where
-    -- 7 and 8
-    pub state-bounded : (b : List ℕ) → Bounded w (stateVerdict w s b)
-    unfolding stateVerdict consistencyVerdict
-    state-bounded b =
-        next _ _ _ _ refl refl
-        (λ _. chain-holds (Bounded w) _ _ _ (lowest-holds (Bounded w) _ (s .devices) Inconsistent done (λ i u. numbered (s .devices) i (Inconsistent i) few u refl refl))
+    arm-bounded : (d x y : ℕ) → Bounded w (armVerdict s entries d x y)
+    unfolding armVerdict
+    arm-bounded d x y = next _ _ _ _ (λ _. next _ _ _ _ (λ _. next _ _ _ _ (λ _. last-holds (Bounded w) (Done 0) done)))
+
+    -- 10 to 18
+    pub request-bounded : (q : Request) → Bounded w (requestVerdict s entries q)
+    unfolding requestVerdict kindVerdict
+    request-bounded q =
+        next _ _ _ _
+        (λ e.
+        let u = form-device s q (unless-at _ _ _ e) in
+        chain-holds (Bounded w) _ _ _
+        (decide (isMove q) (λ m. rw m (move-bounded (q .device) (q .a) u)) (λ m. decide (isArm q) (λ a. rw (m, a) (arm-bounded (q .device) (q .a) (q .b))) (λ a. rw (m, a) done)))
         (λ _. last-holds (Bounded w) (Done 0) done))
 
-    module _ (rules : StationRules s) (entries : ℕ → Entry) where
-      -- 13: a parent that bars the move is there, so it is lower than its child
-      parent-bounded : (d x : ℕ) → d < s .devices → parentAllows s entries d x ≡ false → Bounded w (ParentDeeper (s .device d .parent))
-      unfolding parentAllows parentGood
-      parent-bounded d x u e =
-          ⊎-elim
-          (λ (a : ltb (s .device d .parent) d ≡ true). numbered (s .devices) (s .device d .parent) _ few (omega (arith, ltb-true (s .device d .parent) d a)) refl refl)
-          (λ a. absurd (true≢false (sym (or-left _ _ a) ∙ e)))
-          (or-cases _ _ (rules .parents d u))
+-- ---- a table's answers, at its own width
+module _ (t : List ℕ) where
+  low : 4 ≤ width t
+  low = width-wide t .low
 
-      move-bounded : (d x : ℕ) → d < s .devices → Bounded w (moveVerdict s entries d x)
-      unfolding moveVerdict
-      move-bounded d x u =
-          next _ _ _ _ refl refl
-          (λ _. next _ _ _ _ refl refl
-          (λ _. chain-holds (Bounded w) _ _ _ (unless-holds (Bounded w) _ (ParentDeeper (s .device d .parent)) done (parent-bounded d x u))
-          (λ _. chain-holds (Bounded w) _ _ _ (lowest-holds (Bounded w) _ (s .devices) ChildShallower done (λ i v. numbered (s .devices) i (ChildShallower i) few v refl refl))
-          (λ _. next _ _ _ _ refl refl (λ _. last-holds (Bounded w) (Done 0) done)))))
+  -- 1 to 6
+  pub table-bounded : Bounded (width t) (tableVerdict t)
+  unfolding tableVerdict countsGood deviceRefusal
+  table-bounded =
+      next _ low _ _ _ _
+      (λ _. next _ low _ _ _ _
+      (λ e.
+      let counts = both-true _ _ (unless-at _ _ _ e) in
+      let many = leb-true (countR t) (limit (width t)) (counts .0) in
+      let more = leb-true (countD t) (limit (width t)) (counts .1) in
+      next _ low _ _ _ _
+      (λ _. chain-holds (Bounded (width t)) _ _ _ (lowest-holds (Bounded (width t)) _ (countR t) (Refused BadResource) (done _ low) (λ i u. refused _ low BadResource (countR t) i many u))
+      (λ _. chain-holds (Bounded (width t)) _ _ _ (lowest-holds (Bounded (width t)) _ (countD t) (deviceRefusal t) (done _ low) (λ i u. refused _ low _ (countD t) i more u))
+      (λ _. last-holds (Bounded (width t)) (Done 0) (done _ low))))))
 
-      arm-bounded : (d x y : ℕ) → Bounded w (armVerdict s entries d x y)
-      unfolding armVerdict
-      arm-bounded d x y =
-          next _ _ _ _ refl refl (λ _. next _ _ _ _ refl refl (λ _. next _ _ _ _ refl refl (λ _. last-holds (Bounded w) (Done 0) done)))
-
-      -- 10 to 18
-      pub request-bounded : (q : Request) → Bounded w (requestVerdict s entries q)
-      unfolding requestVerdict kindVerdict
-      request-bounded q =
-          next _ _ _ _ refl refl
-          (λ e.
-          let u = form-device s q (unless-at _ BadRequest refl e) in
-          chain-holds (Bounded w) _ _ _
-          (decide (isMove q) (λ m. rw m (move-bounded (q .device) (q .a) u)) (λ m. decide (isArm q) (λ a. rw (m, a) (arm-bounded (q .device) (q .a) (q .b))) (λ a. rw (m, a) done)))
-          (λ _. last-holds (Bounded w) (Done 0) done))
-
-  -- ---- the functions that the board calls
-  pub fresh-bounded : (t b : List ℕ) → Bounded w (freshVerdict w t b)
+  pub fresh-bounded : (b : List ℕ) → Bounded (width t) (freshVerdict t b)
   unfolding freshVerdict
-  fresh-bounded t b = chain-holds (Bounded w) _ _ _ (table-bounded t) (λ _. next _ _ _ _ refl refl (λ _. last-holds (Bounded w) (Done 0) done))
+  fresh-bounded b = chain-holds (Bounded (width t)) _ _ _ table-bounded (λ _. next _ low _ _ _ _ (λ _. last-holds (Bounded (width t)) (Done 0) (done _ low)))
 
-  module _ (t b : List ℕ) (q : Request) where
-    -- the table, the state, then what follows them
-    stages-bounded : (vs : List Verdict) (last : Verdict)
-        → (StationRules (stationOf w t) → passes (tableVerdict w t) ≡ true → passes (stateVerdict w (stationOf w t) b) ≡ true → stationOf w t .devices ≤ 8 * w → Bounded w (firstOf vs last))
-        → Bounded w (firstOf (tableVerdict w t ∷ stateVerdict w (stationOf w t) b ∷ vs) last)
-    stages-bounded vs last rest =
-        chain-holds (Bounded w) _ _ _ (table-bounded t)
+  -- 7 and 8
+  state-bounded : (b : List ℕ) → station t .devices ≤ limit (width t) → Bounded (width t) (stateVerdict t b)
+  unfolding stateVerdict consistencyVerdict
+  state-bounded b few =
+      next _ low _ _ _ _
+      (λ _. chain-holds (Bounded (width t)) _ _ _ (lowest-holds (Bounded (width t)) _ (station t .devices) (Refused Inconsistent) (done _ low) (λ i u. refused _ low Inconsistent (station t .devices) i few u))
+      (λ _. last-holds (Bounded (width t)) (Done 0) (done _ low)))
+
+  module _ (b : List ℕ) (q : Request) where
+    pub stages-bounded : (room : Bool) → Bounded (width t) (stagesVerdict room t b q)
+    unfolding stagesVerdict requestStage
+    stages-bounded room =
+        chain-holds (Bounded (width t)) _ _ _ table-bounded
         (λ e.
-        let a = accepted w t e in
-        let few : stationOf w t .devices ≤ 8 * w = unfold stationOf in a .devices in
-        chain-holds (Bounded w) _ _ _ (state-bounded (stationOf w t) few b) (λ f. rest (station-rules w t a) e f few))
+        let a = accepted t e in
+        let few : station t .devices ≤ limit (width t) = unfold stationOf in a .devices in
+        chain-holds (Bounded (width t)) _ _ _ (state-bounded b few)
+        (λ _. next _ low _ _ _ _
+        (λ _. chain-holds (Bounded (width t)) _ _ _ (request-bounded _ low (station t) few (station-rules t a) (entries t b) q)
+        (λ _. last-holds (Bounded (width t)) (Done 0) (done _ low)))))
 
-    pub permitted-bounded : Bounded w (permittedVerdict w t b q)
-    unfolding permittedVerdict requestStage
-    permitted-bounded =
-        stages-bounded _ _
-        (λ rules e f few. chain-holds (Bounded w) _ _ _ (request-bounded (stationOf w t) few rules (statusOf w b .entries) q) (λ _. last-holds (Bounded w) (Done 0) done))
-
-    pub plan-bounded : (room : Bool) → (Stages w t b q → length (planned w t b q) ≤ 8 * w + 1) → Bounded w (planVerdict w room t b q)
-    unfolding planVerdict requestStage
+    pub plan-bounded : (room : Bool) → (Stages t b q → length (planned t b q) ≤ planRoom (width t)) → Bounded (width t) (planVerdict room t b q)
+    unfolding planVerdict
     plan-bounded room short =
-        stages-bounded _ _
-        (λ rules e f few. next _ _ _ _ refl refl
-        (λ _. chain-holds (Bounded w) _ _ _ (request-bounded (stationOf w t) few rules (statusOf w b .entries) q)
-        (λ g. last-holds (Bounded w) _ (record { place = omega arith; count = short (record { table = e; state = f; request = g }) }))))
+        chain-holds (Bounded (width t)) _ _ _ (stages-bounded room)
+        (λ e. last-holds (Bounded (width t)) _ (record { place = omega (arith, low); count = short (stages-of room t b q e) }))
 
-    pub check-bounded : (list : List ℕ) → Bounded w (checkBytes w t b q list)
+    pub check-bounded : (list : List ℕ) → Bounded (width t) (checkBytes t b q list)
     unfolding checkBytes
     check-bounded list =
-        chain-holds (Bounded w) _ _ _ permitted-bounded (λ _. next _ _ _ _ refl refl (λ _. last-holds (Bounded w) (Done 0) done))
+        chain-holds (Bounded (width t)) _ _ _ (stages-bounded true) (λ _. next _ low _ _ _ _ (λ _. last-holds (Bounded (width t)) (Done 0) (done _ low)))

@@ -17,26 +17,26 @@ use Rattle.rules.specs.declared.Request.{Request}
 use Rattle.rules.specs.declared.Wake.the-variants.{Enable, Disable}
 use Rattle.rules.specs.declared.Call.{Call}
 use Rattle.rules.specs.declared.Call.the-variants.{SetState, SetWake}
-use Rattle.rules.specs.declared.Verdict.the-variants.{NotConforming, BadRequest}
 use Rattle.rules.specs.Answers.{numberOf, countOf, passes}
-use Rattle.rules.specs.Station.{Station, stationOf}
+use Rattle.rules.specs.Station.{Station, width, limit, stationOf, station}
 use Rattle.rules.specs.declared.Entry.{Entry}
-use Rattle.rules.specs.Status.{statusOf}
+use Rattle.rules.specs.Status.{status}
 use Rattle.rules.specs.Request.{formGood, requestVerdict}
 use Rattle.rules.specs.Calls.{wordOf, only, methodFor, moveCall, wakeCall, ownCall, ownLast, toTurnOn, toTurnOff, calls}
 use Rattle.rules.specs.Check.{onWord, offWord, ownFirstCalls, ownLastCalls}
 use Rattle.rules.specs.Outcomes.{outcome, planRoom, planned, planBytes, checkWords, checkBytes}
 use Rattle.rules.proofs.Answers.{first-both, unless-at}
+use Rattle.rules.proofs.Width.{width-wide}
 use Rattle.laws.specs.Carried.{All}
 use Rattle.laws.specs.Demand3.{Demand3Bytes}
 use Rattle.laws.proofs.Tests.{both-true}
 use Rattle.laws.proofs.All.{all-append, all-at, all-map, all-imp}
 use Rattle.laws.proofs.Accepted.{accepted}
 use Rattle.laws.proofs.States.{Kinds, kinds, form-device}
-use Rattle.laws.proofs.Runs.{Stages, plan-stages}
+use Rattle.laws.proofs.Stages.{Stages, plan-stages, plan-done}
 use Rattle.laws.proofs.Conform.{planner-conforms}
 use Rattle.laws.proofs.Arrange.{arranged-words, conforms-arranged}
-use Rattle.laws.proofs.Demand3.{number-passes, plan-done, few, end-lt, on-lt, planner-passes, demand3}
+use Rattle.laws.proofs.Demand3.{number-passes, few, end-lt, on-lt, planner-passes, demand3}
 
 -- ---- a word of the planner's list fits four bytes
 abbrev Fits : ℕ → Type 0
@@ -51,41 +51,41 @@ method-small : (x : ℕ) → x ≤ 4 → methodFor x ≤ 4
 unfolding methodFor
 method-small x h = decide (eqb x 4) (λ e. rw e (omega arith)) (λ e. rw e h)
 
-own-fits : (s : Station) (entries : ℕ → Entry) (q : Request) → q .device < 256 → Kinds q → All Fits (map wordOf (ownCall s entries q))
+own-fits : (s : Station) (e : Entry) (q : Request) → q .device < 256 → Kinds q → All Fits (map wordOf (ownCall s e q))
 unfolding ownCall moveCall wakeCall Kinds
-own-fits s entries q d k =
+own-fits s e q d k =
     ⊎-elim (λ m. rw (m .0) (only-fits _ (SetState (q .device) (methodFor (q .a))) (omega (arith, method-small (q .a) (leb-true _ _ (m .1))))))
     (λ n. ⊎-elim
     (λ m. rw (m .0, m .1) (only-fits _ (SetWake (q .device) (Enable (q .a) (q .b))) (omega (arith, leb-true (q .a) 4 (m .2), leb-true (q .b) 4 (m .3)))))
     (λ m. rw (m .0, m .1) (only-fits _ (SetWake (q .device) Disable) (omega arith))) n) k
 
-module _ (w : ℕ) (small : w ≤ 32) (t b : List ℕ) (q : Request) (g : Stages w t b q) where
-  form : formGood (stationOf w t) q ≡ true
+module _ (t b : List ℕ) (q : Request) (g : Stages t b q) where
+  form : formGood (station t) q ≡ true
   unfolding requestVerdict
-  form = unless-at _ BadRequest refl (first-both _ _ _ (g .request) .0)
+  form = unless-at _ _ _ (first-both _ _ _ (g .request) .0)
 
-  own : All Fits (map wordOf (ownCall (stationOf w t) (statusOf w b .entries) q))
+  own : All Fits (map wordOf (ownCall (station t) (status t b .entries (q .device)) q))
   own =
-      let most : stationOf w t .devices ≤ 8 * w = unfold stationOf in accepted w t (g .table) .devices in
-      own-fits (stationOf w t) (statusOf w b .entries) q (omega (arith, form-device (stationOf w t) q form)) (kinds (stationOf w t) q form)
+      let most : station t .devices ≤ limit (width t) = unfold stationOf in accepted t (g .table) .devices in
+      own-fits (station t) (status t b .entries (q .device)) q (omega (arith, form-device (station t) q form, width-wide t .high)) (kinds (station t) q form)
 
-  own-first : All Fits (map wordOf (ownFirstCalls (stationOf w t) (statusOf w b) q))
+  own-first : All Fits (map wordOf (ownFirstCalls (station t) (status t b) q))
   unfolding ownFirstCalls All
   own-first = decide (ownLast q) (λ e. rw e tt) (λ e. rw e own)
 
-  own-last : All Fits (map wordOf (ownLastCalls (stationOf w t) (statusOf w b) q))
+  own-last : All Fits (map wordOf (ownLastCalls (station t) (status t b) q))
   unfolding ownLastCalls All
   own-last = decide (ownLast q) (λ e. rw e own) (λ e. rw e tt)
 
-  all-fit : All Fits (planned w t b q)
+  all-fit : All Fits (planned t b q)
   unfolding planned toTurnOn toTurnOff
   all-fit =
-      let s = stationOf w t in
-      let st = statusOf w b in
+      let s = station t in
+      let st = status t b in
       let first = map wordOf (ownFirstCalls s st q) in
       let last = map wordOf (ownLastCalls s st q) in
-      let c = planner-conforms s st q (minus-lt _ _ _ (end-lt w small t b q g)) (minus-lt _ _ _ (on-lt w small t b q g)) in
-      let a = conforms-arranged (s .resources) (few w small t b q g) s st q (on-lt w small t b q g) (end-lt w small t b q g) (map wordOf (calls s st q)) c in
+      let c = planner-conforms s st q (minus-lt _ _ _ (end-lt t b q g)) (minus-lt _ _ _ (on-lt t b q g)) in
+      let a = conforms-arranged (s .resources) (few t b q g) s st q (on-lt t b q g) (end-lt t b q g) (map wordOf (calls s st q)) c in
       rw (c .whole ∙ arranged-words s st q (c .ons) (c .offs))
       (all-append Fits (first ++ map onWord (c .ons) ++ map offWord (c .offs)) last
       (all-append Fits (first ++ map onWord (c .ons)) (map offWord (c .offs))
@@ -94,41 +94,41 @@ module _ (w : ℕ) (small : w ≤ 32) (t b : List ℕ) (q : Request) (g : Stages
       (all-map Fits offWord (c .offs) (all-imp (λ r. r < 256) (λ r. Fits (offWord r)) (λ r h. omega arith) (c .offs) (a .offsSmall))))
       own-last)
 
-  words-fit : (i : ℕ) → getD (planned w t b q) i 0 < 2 ^ 32
+  words-fit : (i : ℕ) → getD (planned t b q) i 0 < 2 ^ 32
   words-fit i =
-      decide (ltb i (length (planned w t b q))) (λ e. all-at Fits (planned w t b q) i 0 all-fit (ltb-true _ _ e))
-      (λ e. rw (List·getD-eq-default (planned w t b q) 0 {n = i} (ltb-false _ _ e)) (omega arith))
+      decide (ltb i (length (planned t b q))) (λ e. all-at Fits (planned t b q) i 0 all-fit (ltb-true _ _ e))
+      (λ e. rw (List·getD-eq-default (planned t b q) 0 {n = i} (ltb-false _ _ e)) (omega arith))
 
 -- ---- bytes and words
-pub bytes-words : (w : ℕ) (t b : List ℕ) (q : Request) (list : List ℕ) → length list % 4 ≡ 0 → checkBytes w t b q list ≡ checkWords w t b q (byteWords (length list / 4) list)
+pub bytes-words : (t b : List ℕ) (q : Request) (list : List ℕ) → length list % 4 ≡ 0 → checkBytes t b q list ≡ checkWords t b q (byteWords (length list / 4) list)
 unfolding checkBytes checkWords
-bytes-words w t b q list e = rw (eq-eqb (length list % 4) 0 e) refl
+bytes-words t b q list e = rw (eq-eqb (length list % 4) 0 e) refl
 
-pub bytes-multiple : (w : ℕ) (t b : List ℕ) (q : Request) (list : List ℕ) → passes (checkBytes w t b q list) ≡ true → length list % 4 ≡ 0
+pub bytes-multiple : (t b : List ℕ) (q : Request) (list : List ℕ) → passes (checkBytes t b q list) ≡ true → length list % 4 ≡ 0
 unfolding checkBytes
-bytes-multiple w t b q list e = eqb-true _ _ (both-true (eqb (length list % 4) 0) _ (unless-at _ NotConforming refl (first-both _ _ _ (first-both _ _ _ e .1) .0)) .0)
+bytes-multiple t b q list e = eqb-true _ _ (both-true (eqb (length list % 4) 0) _ (unless-at _ _ _ (first-both _ _ _ (first-both _ _ _ e .1) .0)) .0)
 
 -- the bytes of words are a list of these words
-pub word-list : (w : ℕ) (t b : List ℕ) (q : Request) (ws : List ℕ) → ((i : ℕ) → getD ws i 0 < 2 ^ 32) → checkBytes w t b q (wordBytes ws) ≡ checkWords w t b q ws
-word-list w t b q ws h =
+pub word-list : (t b : List ℕ) (q : Request) (ws : List ℕ) → ((i : ℕ) → getD ws i 0 < 2 ^ 32) → checkBytes t b q (wordBytes ws) ≡ checkWords t b q ws
+word-list t b q ws h =
     let l = word-bytes-length ws in
     let four : length (wordBytes ws) / 4 ≡ length ws = omega arith in
-    bytes-words w t b q (wordBytes ws) (omega arith) ∙ rw (four, words-of-bytes ws h) refl
+    bytes-words t b q (wordBytes ws) (omega arith) ∙ rw (four, words-of-bytes ws h) refl
 
-pub planner-bytes : (w : ℕ) (t b : List ℕ) (q : Request) (plan : List ℕ) → passes (planBytes w t b q plan .verdict) ≡ true
-    → take (4 * countOf (planBytes w t b q plan .verdict)) (planBytes w t b q plan .plan) ≡ wordBytes (planned w t b q)
+pub planner-bytes : (t b : List ℕ) (q : Request) (plan : List ℕ) → passes (planBytes t b q plan .verdict) ≡ true
+    → take (4 * countOf (planBytes t b q plan .verdict)) (planBytes t b q plan .plan) ≡ wordBytes (planned t b q)
 unfolding planBytes outcome passes
-planner-bytes w t b q plan e =
-    rw (plan-done w (leb (4 * planRoom w) (length plan)) t b q e) (take-put plan (wordBytes (planned w t b q)) (4 * length (planned w t b q)) (word-bytes-length (planned w t b q)))
+planner-bytes t b q plan e =
+    rw (plan-done (leb (4 * planRoom (width t)) (length plan)) t b q e) (take-put plan (wordBytes (planned t b q)) (4 * length (planned t b q)) (word-bytes-length (planned t b q)))
 
-pub demand3-bytes : (w : ℕ) → w ≤ 32 → (t b : List ℕ) (q : Request) (list : List ℕ) → Demand3Bytes w t b q list
-demand3-bytes w small t b q list =
+pub demand3-bytes : (t b : List ℕ) (q : Request) (list : List ℕ) → Demand3Bytes t b q list
+demand3-bytes t b q list =
     record {
-      multiple = λ e. bytes-multiple w t b q list (number-passes _ e);
-      words = bytes-words w t b q list;
-      demand = demand3 w small t b q (byteWords (length list / 4) list);
+      multiple = λ e. bytes-multiple t b q list (number-passes _ e);
+      words = bytes-words t b q list;
+      demand = demand3 t b q (byteWords (length list / 4) list);
       planner = λ plan e.
-          let p = number-passes (planBytes w t b q plan .verdict) e in
-          let g = plan-stages w (leb (4 * planRoom w) (length plan)) t b q (unfold planBytes outcome in p) in
-          rw (planner-bytes w t b q plan p, word-list w t b q (planned w t b q) (words-fit w small t b q g)) (ap numberOf (planner-passes w small t b q g));
+          let p = number-passes (planBytes t b q plan .verdict) e in
+          let g = plan-stages (leb (4 * planRoom (width t)) (length plan)) t b q (unfold planBytes outcome in p) in
+          rw (planner-bytes t b q plan p, word-list t b q (planned t b q) (words-fit t b q g)) (ap numberOf (planner-passes t b q g));
     }

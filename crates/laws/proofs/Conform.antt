@@ -16,7 +16,7 @@ use Rattle.rules.specs.Conforms.{Conforms}
 use Rattle.rules.specs.Check.{Rest, left, refused, andThen, resourceIn, onWord, offWord, notLower, notHigher, ownFirstCalls, ownLastCalls, isEnd, conforming}
 use Rattle.laws.proofs.Chain.{chain-iff, rises-chained, falls-chained}
 use Rattle.laws.proofs.Order.{turn-on-lawful, turn-off-lawful}
-use Rattle.laws.proofs.Take.{not-left, take-calls-at, take-calls-of, take-at, take-of}
+use Rattle.laws.proofs.Take.{not-left, take-words-at, take-words-of, take-at, take-of}
 
 -- ---- one phase after the other, and the end
 
@@ -44,7 +44,7 @@ end-of x e = rw e
 ruleset regroup = (map-append, map-map, append-assoc, append-nil)
 
 pub by-phase : (s : Station) (st : Status) (q : Request) (ons offs : List ℕ)
-    → map wordOf (arrange (ownLast q) (ownCall s (st .entries) q) ons offs)
+    → map wordOf (arrange (ownLast q) (ownCall s (st .entries (q .device)) q) ons offs)
     ≡ map wordOf (ownFirstCalls s st q) ++ (map onWord ons ++ (map offWord offs ++ (map wordOf (ownLastCalls s st q) ++ [])))
 unfolding arrange ownFirstCalls ownLastCalls
 by-phase s st q ons offs =
@@ -54,7 +54,7 @@ by-phase s st q ons offs =
 
 joined : (s : Station) (st : Status) (q : Request) (ons offs ws a b c : List ℕ)
     → ws ≡ map wordOf (ownFirstCalls s st q) ++ a → a ≡ map onWord ons ++ b → b ≡ map offWord offs ++ c → c ≡ map wordOf (ownLastCalls s st q) ++ []
-    → ws ≡ map wordOf (arrange (ownLast q) (ownCall s (st .entries) q) ons offs)
+    → ws ≡ map wordOf (arrange (ownLast q) (ownCall s (st .entries (q .device)) q) ons offs)
 joined s st q ons offs ws a b c p on off l = p ∙ rw (on, off, l) (sym (by-phase s st q ons offs))
 
 -- the second byte of an `_ON` or `_OFF` word
@@ -76,7 +76,7 @@ conforming-at s st q ws e =
       ons = on .list;
       offs = off .list;
       whole = joined s st q (on .list) (off .list) ws (a .0) (b .0) (c .0)
-          (take-calls-at _ ws (a .0) (a .1)) (on .whole) (off .whole) (take-calls-at _ (c .0) [] (c .2));
+          (take-words-at _ ws (a .0) (a .1)) (on .whole) (off .whole) (take-words-at _ (c .0) [] (c .2));
       onsOnce = on .once;
       offsOnce = off .once;
       onsRise = chain-iff _ _ (rises-chained (orderIn s)) (on .list) .1 (on .chain);
@@ -92,8 +92,8 @@ conforming-of s st q ws n small u v c =
     let on = take-of onWord (notLower s) n small (index 1 (lit< tt)) (c .ons) (toTurnOn s st q) true 0 _ u (c .onsOnce) rise in
     let off = take-of offWord (notHigher s) n small (index 2 (lit< tt)) (c .offs) (toTurnOff s st q) true 0 _ v (c .offsOnce) fall in
     rw (c .whole ∙ by-phase s st q (c .ons) (c .offs))
-    (end-of _ (then-of _ _ _ _ (take-calls-of (ownFirstCalls s st q) _)
-    (then-of _ _ _ _ on (then-of _ _ _ _ off (take-calls-of (ownLastCalls s st q) [])))))
+    (end-of _ (then-of _ _ _ _ (take-words-of (map wordOf (ownFirstCalls s st q)) _)
+    (then-of _ _ _ _ on (then-of _ _ _ _ off (take-words-of (map wordOf (ownLastCalls s st q)) [])))))
 
 -- the test passes exactly if the list conforms, where a byte can name each resource
 pub conforming-iff : (s : Station) (st : Status) (q : Request) (ws : List ℕ) (n : ℕ) → n ≤ 256 → toTurnOn s st q < 2 ^ n → toTurnOff s st q < 2 ^ n

@@ -6,14 +6,15 @@ use Prim.Native.Nat.{ℕ, _<_}
 use borrow.Author.Tests.{eq-eqb, ne-eqb}
 use lib.Dec.{leb}
 use Rattle.rules.specs.declared.Request.{Request}
-use Rattle.rules.specs.declared.Verdict.the-variants.{Unsupported, Shallower, ParentDeeper, ChildShallower, TooDeepToWake, NoWake, WakeUnpowered, BadWakeState}
+use Rattle.rules.specs.declared.Verdict.the-variants.{Refused}
+use Rattle.rules.specs.declared.Reason.the-variants.{ChildShallower}
 use Rattle.rules.specs.Answers.{passes}
 use Rattle.rules.specs.Station.{Station}
 use Rattle.rules.specs.declared.Entry.{Entry}
 use Rattle.rules.specs.Power.{supported, wakeFrom, wakePowered, wakeState}
-use Rattle.rules.specs.Status.{underParent, wakeSound, consistentButPower, powered}
-use Rattle.rules.specs.Request.{notShallowerOrD0, parentAllows, childBars, wakeAllows, moveVerdict, armVerdict, newEntry, entriesAfter}
-use Rattle.rules.proofs.Answers.{first-both, unless-at, lowest-at}
+use Rattle.rules.specs.Status.{parentAllows, wakeConsistent, consistentButPower, powered}
+use Rattle.rules.specs.Request.{notShallowerOrD0, childBars, wakeAllows, moveVerdict, armVerdict, newEntry, entriesAfter}
+use Rattle.rules.proofs.Answers.{first-both, unless-at, refused-stops, lowest-at}
 use Rattle.laws.proofs.Tests.{both-true}
 
 -- ---- what an accepted request has passed
@@ -34,11 +35,11 @@ moves s entries d x e =
     let f = first-both _ _ _ (c .1) in
     let g = first-both _ _ _ (f .1) in
     record {
-      known = unless-at _ Unsupported refl (a .0);
-      deeper = unless-at _ Shallower refl (b .0);
-      parent = unless-at _ (ParentDeeper (s .device d .parent)) refl (c .0);
-      children = lowest-at _ (s .devices) ChildShallower (λ i. refl) (f .0);
-      wake = unless-at _ TooDeepToWake refl (g .0);
+      known = unless-at _ _ _ (a .0);
+      deeper = unless-at _ _ _ (b .0);
+      parent = unless-at _ _ _ (c .0);
+      children = lowest-at _ (s .devices) (Refused ChildShallower) (refused-stops ChildShallower) (f .0);
+      wake = unless-at _ _ _ (g .0);
     }
 
 pub record Arms (s : Station) (entries : ℕ → Entry) (d x y : ℕ) : Type 0 where
@@ -53,15 +54,15 @@ arms s entries d x y e =
     let a = first-both _ _ _ e in
     let b = first-both _ _ _ (a .1) in
     let c = first-both _ _ _ (b .1) in
-    let f = both-true _ _ (unless-at _ BadWakeState refl (c .0)) in
-    record { from = unless-at _ NoWake refl (a .0); powered = unless-at _ WakeUnpowered refl (b .0); state = f .0; deeper = f .1 }
+    let f = both-true _ _ (unless-at _ _ _ (c .0)) in
+    record { from = unless-at _ _ _ (a .0); powered = unless-at _ _ _ (b .0); state = f .0; deeper = f .1 }
 
 -- ---- consistency apart from power, by its parts
 
 pub record Apart (s : Station) (entries : ℕ → Entry) (d : ℕ) : Type 0 where
   pub known : supported s d (entries d .state) ≡ true
-  pub under : underParent s entries d ≡ true
-  pub wake : wakeSound s d (entries d) ≡ true
+  pub under : parentAllows s entries d (entries d .state) ≡ true
+  pub wake : wakeConsistent s d (entries d) ≡ true
 
 pub apart-of : (s : Station) (entries : ℕ → Entry) (d : ℕ) → consistentButPower s entries d ≡ true → Apart s entries d
 unfolding consistentButPower

@@ -15,8 +15,8 @@ use Rattle.rules.specs.Station.{Station, absent}
 use Rattle.rules.specs.Table.{parentGood}
 use Rattle.rules.specs.declared.Entry.{Entry}
 use Rattle.rules.specs.Power.{isArmed, wakePair}
-use Rattle.rules.specs.Status.{underParent, wakeSound, powered}
-use Rattle.rules.specs.Request.{isMove, isArm, formGood, parentAllows, childBars, wakeAllows, kindVerdict, requestVerdict, newEntry, entriesAfter}
+use Rattle.rules.specs.Status.{parentAllows, wakeConsistent, powered}
+use Rattle.rules.specs.Request.{isMove, isArm, formGood, childBars, wakeAllows, kindVerdict, requestVerdict, newEntry, entriesAfter}
 use Rattle.rules.proofs.Answers.{first-both, unless-at}
 use Rattle.laws.proofs.Tests.{both-true, and-true, or-cases, or-right}
 use Rattle.laws.proofs.Consistency.{Moves, moves, Arms, arms, Apart, after-same, after-other}
@@ -31,8 +31,8 @@ unfolding parentGood
 other-parent s d e = ⊎-elim (λ a. inr (ltb-true _ _ a)) (λ a. inl a) (or-cases _ _ e)
 
 -- where no state changes, nor does what depends on the states alone
-states-same : (s : Station) (old new : ℕ → Entry) (d : ℕ) → ((k : ℕ) → new k .state ≡ old k .state) → Apart s old d → wakeSound s d (new d) ≡ true → Apart s new d
-unfolding underParent
+states-same : (s : Station) (old new : ℕ → Entry) (d : ℕ) → ((k : ℕ) → new k .state ≡ old k .state) → Apart s old d → wakeConsistent s d (new d) ≡ true → Apart s new d
+unfolding parentAllows
 states-same s old new d h a w =
     record { known = rw (h d) (a .known); under = rw (h (s .device d .parent), h d) (a .under); wake = w }
 
@@ -47,14 +47,14 @@ module _ (s : Station) (rules : StationRules s) (entries : ℕ → Entry) (q : R
   unfolding newEntry
   moved m = rw m refl
 
-  moved-wake : isMove q ≡ true → Moves s entries (q .device) (q .a) → wakeSound s (q .device) (entries (q .device)) ≡ true → wakeSound s (q .device) (newEntry (entries (q .device)) q) ≡ true
-  unfolding newEntry wakeSound wakeAllows
+  moved-wake : isMove q ≡ true → Moves s entries (q .device) (q .a) → wakeConsistent s (q .device) (entries (q .device)) ≡ true → wakeConsistent s (q .device) (newEntry (entries (q .device)) q) ≡ true
+  unfolding newEntry wakeConsistent wakeAllows
   moved-wake m v h =
       let e = entries (q .device) in
       rw m (still (not (isArmed e)) (wakePair s (q .device) (e .sleep) (e .wake)) (leb (e .state) (e .wake)) (leb (q .a) (e .wake)) h (v .wake))
 
   move-same : q .device < s .devices → isMove q ≡ true → Moves s entries (q .device) (q .a) → Apart s (entriesAfter entries q) (q .device)
-  unfolding underParent parentAllows
+  unfolding parentAllows
   move-same l m v =
       let d = q .device in
       let e : entriesAfter entries q d ≡ newEntry (entries d) q = after-same entries q in
@@ -66,7 +66,7 @@ module _ (s : Station) (rules : StationRules s) (entries : ℕ → Entry) (q : R
       }
 
   move-other : (d : ℕ) → d < s .devices → (d ≡ q .device → ⊥) → isMove q ≡ true → Moves s entries (q .device) (q .a) → Apart s (entriesAfter entries q) d
-  unfolding underParent childBars
+  unfolding parentAllows childBars
   move-other d l n m v =
       let e : entriesAfter entries q d ≡ entries d = after-other entries q d n in
       let p = s .device d .parent in
@@ -87,15 +87,15 @@ module _ (s : Station) (rules : StationRules s) (entries : ℕ → Entry) (q : R
   unfolding entriesAfter newEntry
   unmoved m k = decide (eqb k (q .device)) (λ z. rw (z, m) (decide (isArm q) (λ y. rw y refl) (λ y. rw y refl))) (λ z. rw z refl)
 
-  armed-wake : isMove q ≡ false → isArm q ≡ true → Arms s entries (q .device) (q .a) (q .b) → wakeSound s (q .device) (newEntry (entries (q .device)) q) ≡ true
-  unfolding newEntry wakeSound wakePair
+  armed-wake : isMove q ≡ false → isArm q ≡ true → Arms s entries (q .device) (q .a) (q .b) → wakeConsistent s (q .device) (newEntry (entries (q .device)) q) ≡ true
+  unfolding newEntry wakeConsistent wakePair
   armed-wake m y v = rw (m, y, v .from, v .powered, v .state, v .deeper) refl
 
-  disarmed-wake : isMove q ≡ false → isArm q ≡ false → wakeSound s (q .device) (newEntry (entries (q .device)) q) ≡ true
-  unfolding newEntry wakeSound
+  disarmed-wake : isMove q ≡ false → isArm q ≡ false → wakeConsistent s (q .device) (newEntry (entries (q .device)) q) ≡ true
+  unfolding newEntry wakeConsistent
   disarmed-wake m y = rw (m, y) refl
 
-  wake-others : wakeSound s (q .device) (newEntry (entries (q .device)) q) ≡ true → (d : ℕ) → d < s .devices → wakeSound s d (entriesAfter entries q d) ≡ true
+  wake-others : wakeConsistent s (q .device) (newEntry (entries (q .device)) q) ≡ true → (d : ℕ) → d < s .devices → wakeConsistent s d (entriesAfter entries q d) ≡ true
   wake-others h d l =
       decide (eqb d (q .device)) (λ z. rw (eqb-true d (q .device) z, after-same entries q) h) (λ z. rw (after-other entries q d (eqb-false d (q .device) z)) (all d l .wake))
 
@@ -105,7 +105,7 @@ module _ (s : Station) (rules : StationRules s) (entries : ℕ → Entry) (q : R
   apart-after e d l =
       let a = first-both _ _ _ e in
       let b = first-both _ _ _ (a .1) in
-      let dev : q .device < s .devices = ltb-true _ _ (both-true _ _ (unless-at _ BadRequest refl (a .0)) .0) in
+      let dev : q .device < s .devices = ltb-true _ _ (both-true _ _ (unless-at _ _ _ (a .0)) .0) in
       decide (isMove q)
       (λ m.
       let v = moves s entries (q .device) (q .a) (rw m at (b .0)) in

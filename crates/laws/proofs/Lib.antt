@@ -8,6 +8,7 @@ pub mod Image
 pub mod Consistency
 pub mod Kept
 pub mod States
+pub mod Stages
 pub mod Runs
 pub mod Sort
 pub mod Chain

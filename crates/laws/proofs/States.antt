@@ -14,18 +14,19 @@ use lib.Pow.{pow-mono}
 use Rattle.sets.specs.Sets.{subset, firstN}
 use Rattle.sets.proofs.Laws.{decide, firstN-lt, member-firstN, subset-of}
 use Rattle.rules.specs.declared.Request.{Request}
-use Rattle.rules.specs.declared.Verdict.the-variants.{Done, BadRequest, BadState, Inconsistent}
+use Rattle.rules.specs.declared.Verdict.the-variants.{Done, Refused}
+use Rattle.rules.specs.declared.Reason.the-variants.{BadState, Inconsistent}
 use Rattle.rules.specs.Answers.{passes, firstOf}
-use Rattle.rules.specs.Station.{Station, absent, stationOf}
+use Rattle.rules.specs.Station.{Station, absent, width, limit, stationOf, station}
 use Rattle.rules.specs.Table.{tableVerdict, setGood}
 use Rattle.rules.specs.declared.Entry.{Entry}
 use Rattle.rules.specs.Power.{supported, needs, needed}
-use Rattle.rules.specs.Status.{Status, noEntry, entriesOf, statusOf, imageOf, imageSize, freshStatus, entryGood, entryZero, entriesGood, onGood, underParent, wakeSound, consistentButPower, powered, consistent, valuesGood, consistencyVerdict, stateVerdict}
+use Rattle.rules.specs.Status.{Status, noEntry, entriesOf, statusOf, status, imageOf, imageSize, freshStatus, entryGood, entryZero, entriesGood, onGood, parentAllows, wakeConsistent, consistentButPower, powered, consistent, valuesGood, consistencyVerdict, stateVerdict}
 use Rattle.rules.specs.Request.{isMove, isArm, isDisarm, formGood, requestVerdict, newEntry, entriesAfter}
 use Rattle.rules.specs.Calls.{endSet, statusAfter}
 use Rattle.rules.specs.Outcomes.{stateAfter}
 use Rattle.rules.proofs.Index.{every-at, every-of, below-out}
-use Rattle.rules.proofs.Answers.{first-both, unless-at, unless-of, lowest-at, lowest-of}
+use Rattle.rules.proofs.Answers.{first-both, unless-at, unless-of, refused-stops, lowest-at, lowest-of}
 use Rattle.laws.proofs.Tests.{both-true, or-cases, or-right}
 use Rattle.laws.proofs.Accepted.{Accepted, accepted}
 use Rattle.laws.proofs.Needed.{needs-lt, needed-lt, all-powered}
@@ -34,49 +35,50 @@ use Rattle.laws.proofs.Consistency.{Apart, apart-of, apart-is, after-sa
 use Rattle.laws.proofs.Kept.{StationRules, apart-after}
 
 -- ---- an accepted table's station keeps the rules that consistency needs
-pub station-rules : (w : ℕ) (t : List ℕ) → Accepted w t → StationRules (stationOf w t)
+pub station-rules : (t : List ℕ) → Accepted t → StationRules (station t)
 unfolding stationOf setGood
-station-rules w t a =
+station-rules t a =
     record { parents = λ d h. a .device d h .parent; sets = λ d h k l. ltb-true _ _ (both-true _ _ (a .device d h .sets k l) .0) }
 
 -- ---- a status that passes 7 and 8
-pub record Sound (n : ℕ) (s : Station) (st : Status) : Type 0 where
+pub record ConsistentStatus (n : ℕ) (s : Station) (st : Status) : Type 0 where
   pub entries : entriesGood n s (st .entries) ≡ true
   pub on : st .on < 2 ^ s .resources
   pub apart : (d : ℕ) → d < s .devices → Apart s (st .entries) d
   pub power : (d : ℕ) → d < s .devices → subset (needs s d (st .entries d)) (st .on) ≡ true
 
-pub sound-of : (w : ℕ) (s : Station) (b : List ℕ) → passes (stateVerdict w s b) ≡ true → (length b ≡ imageSize w) × Sound (8 * w) s (statusOf w b)
+pub consistent-of : (t b : List ℕ) → passes (stateVerdict t b) ≡ true → (length b ≡ imageSize (width t)) × ConsistentStatus (limit (width t)) (station t) (status t b)
 unfolding stateVerdict valuesGood onGood consistencyVerdict consistent powered
-sound-of w s b e =
+consistent-of t b e =
+    let s = station t in
     let a = first-both _ _ _ e in
     let c = first-both _ _ _ (a .1) in
-    let v = both-true (eqb (length b) (imageSize w)) _ (unless-at _ BadState refl (a .0)) in
-    let u = both-true (entriesGood (8 * w) s (statusOf w b .entries)) _ (v .1) in
-    let k : (d : ℕ) → d < s .devices → (consistentButPower s (statusOf w b .entries) d ≡ true) × (powered s (statusOf w b) d ≡ true) =
-    λ d h. both-true _ _ (not-false (consistent s (statusOf w b) d) (lowest-at _ (s .devices) Inconsistent (λ i. refl) (c .0) d h)) in (
+    let v = both-true (eqb (length b) (imageSize (width t))) _ (unless-at _ _ _ (a .0)) in
+    let u = both-true (entriesGood (limit (width t)) s (status t b .entries)) _ (v .1) in
+    let k : (d : ℕ) → d < s .devices → (consistentButPower s (status t b .entries) d ≡ true) × (powered s (status t b) d ≡ true) =
+    λ d h. both-true _ _ (not-false (consistent s (status t b) d) (lowest-at _ (s .devices) (Refused Inconsistent) (refused-stops Inconsistent) (c .0) d h)) in (
       eqb-true _ _ (v .0),
-      record { entries = u .0; on = ltb-true _ _ (u .1); apart = λ d h. apart-of s (statusOf w b .entries) d (k d h .0); power = λ d h. k d h .1 },
+      record { entries = u .0; on = ltb-true _ _ (u .1); apart = λ d h. apart-of s (status t b .entries) d (k d h .0); power = λ d h. k d h .1 },
     )
 
-all-consistent : (n : ℕ) (s : Station) (st : Status) → Sound n s st → consistencyVerdict s st ≡ Done 0
+all-consistent : (n : ℕ) (s : Station) (st : Status) → ConsistentStatus n s st → consistencyVerdict s st ≡ Done 0
 unfolding consistencyVerdict consistent powered
 all-consistent n s st a =
-    lowest-of _ (s .devices) Inconsistent (λ d h. rw (apart-is s (st .entries) d (a .apart d h), a .power d h) refl)
+    lowest-of _ (s .devices) (Refused Inconsistent) (λ d h. rw (apart-is s (st .entries) d (a .apart d h), a .power d h) refl)
 
-pub sound-is : (w : ℕ) (s : Station) (b : List ℕ) → length b ≡ imageSize w → Sound (8 * w) s (statusOf w b) → stateVerdict w s b ≡ Done 0
+pub consistent-is : (t b : List ℕ) → length b ≡ imageSize (width t) → ConsistentStatus (limit (width t)) (station t) (status t b) → stateVerdict t b ≡ Done 0
 unfolding stateVerdict valuesGood onGood passes firstOf
 sound-is w s b l a =
-    rw (eq-eqb (length b) (imageSize w) l, a .entries, lt-ltb _ _ (a .on), unless-of true BadState refl, all-consistent (8 * w) s (statusOf w b) a) refl
+    rw (eq-eqb (length b) (imageSize (width t)) l, a .entries, lt-ltb _ _ (a .on), unless-of true BadState 0 refl, all-consistent (limit (width t)) (station t) (status t b) a) refl
 
 -- ---- the bounds of what a status has on: R bits are no more than the image's 8w
 fits-image : (w n x : ℕ) → n ≤ 8 * w → x < 2 ^ n → x < 2 ^ (8 * w)
 fits-image w n x h l = lt-of-lt-of-le l (pow-mono h)
 
 -- ---- fresh
-fresh-sound : (n : ℕ) (s : Station) → StationRules s → Sound n s (freshStatus s)
-unfolding freshStatus entriesGood entryGood entryZero underParent wakeSound supported
-fresh-sound n s rules =
+fresh-status-consistent : (n : ℕ) (s : Station) → StationRules s → ConsistentStatus n s (freshStatus s)
+unfolding freshStatus entriesGood entryGood entryZero parentAllows wakeConsistent supported
+fresh-status-consistent n s rules =
     record {
       entries = every-of _ n (λ k h. or-right (ltb k (s .devices)) true refl);
       on = firstN-lt (s .resources) (s .resources) (omega arith);
@@ -85,14 +87,14 @@ fresh-sound n s rules =
           (λ r l e. member-firstN (s .resources) r ∙ lt-ltb r (s .resources) l);
     }
 
-pub fresh-consistent : (w : ℕ) (t : List ℕ) → passes (tableVerdict w t) ≡ true → stateVerdict w (stationOf w t) (imageOf w (freshStatus (stationOf w t))) ≡ Done 0
-fresh-consistent w t e =
-    let a = accepted w t e in
-    let s = stationOf w t in
+pub fresh-consistent : (t : List ℕ) → passes (tableVerdict t) ≡ true → stateVerdict t (imageOf (width t) (freshStatus (station t))) ≡ Done 0
+fresh-consistent t e =
+    let a = accepted t e in
+    let s = station t in
     let st = freshStatus s in
-    let f = fresh-sound (8 * w) s (station-rules w t a) in
-    let same : statusOf w (imageOf w st) ≡ st = status-image w st (fits-image w (s .resources) (st .on) (unfold stationOf in a .resources) (f .on)) (λ k h. unfold freshStatus in refl) in
-    sound-is w s (imageOf w st) (image-length w st) (rw same f)
+    let f = fresh-status-consistent (limit (width t)) s (station-rules t a) in
+    let same : status t (imageOf (width t) st) ≡ st = status-image (width t) st (fits-image (width t) (s .resources) (st .on) (unfold stationOf in a .resources) (f .on)) (λ k h. unfold freshStatus in refl) in
+    consistent-is t (imageOf (width t) st) (image-length (width t) st) (rw same f)
 
 -- ---- an accepted request
 pub form-device : (s : Station) (q : Request) → formGood s q ≡ true → q .device < s .devices
@@ -147,10 +149,10 @@ entries-after n s entries q f g =
     rw (e, l, new-good (entries k) q (a .0) (kinds s q f)) refl)
     (λ z. rw (after-other entries q k (eqb-false k (q .device) z)) (every-at _ n k g h)))
 
-pub after-sound : (n : ℕ) (s : Station) (st : Status) (q : Request) → StationRules s → Sound n s st → passes (requestVerdict s (st .entries) q) ≡ true → Sound n s (statusAfter s st q)
+pub after-status-consistent : (n : ℕ) (s : Station) (st : Status) (q : Request) → StationRules s → ConsistentStatus n s st → passes (requestVerdict s (st .entries) q) ≡ true → ConsistentStatus n s (statusAfter s st q)
 unfolding statusAfter endSet needed
-after-sound n s st q rules a e =
-    let form : formGood s q ≡ true = unfold requestVerdict in unless-at _ BadRequest refl (first-both _ _ _ e .0) in
+after-status-consistent n s st q rules a e =
+    let form : formGood s q ≡ true = unfold requestVerdict in unless-at _ _ _ (first-both _ _ _ e .0) in
     record {
       entries = entries-after n s (st .entries) q form (a .entries);
       on = needed-lt (s .resources) s (entriesAfter (st .entries) q) (s .devices) (rules .sets);
@@ -163,23 +165,23 @@ unfolding statusOf entriesOf
 entries-out w b k h = below-out (8 * w) noEntry _ k h
 
 -- the image after an accepted request reads back as the status after it
-pub after-reads : (w : ℕ) (t b : List ℕ) (q : Request) → passes (tableVerdict w t) ≡ true → passes (stateVerdict w (stationOf w t) b) ≡ true
-    → passes (requestVerdict (stationOf w t) (statusOf w b .entries) q) ≡ true → statusOf w (stateAfter w t b q) ≡ statusAfter (stationOf w t) (statusOf w b) q
+pub after-reads : (t b : List ℕ) (q : Request) → passes (tableVerdict t) ≡ true → passes (stateVerdict t b) ≡ true
+    → passes (requestVerdict (station t) (status t b .entries) q) ≡ true → status t (stateAfter t b q) ≡ statusAfter (station t) (status t b) q
 unfolding stateAfter
-after-reads w t b q e f g =
-    let a = accepted w t e in
-    let s = stationOf w t in
-    let st = statusOf w b in
-    let form : formGood s q ≡ true = unfold requestVerdict in unless-at _ BadRequest refl (first-both _ _ _ g .0) in
-    let new = after-sound (8 * w) s st q (station-rules w t a) (sound-of w s b f .1) g in
-    status-image w (statusAfter s st q) (fits-image w (s .resources) (statusAfter s st q .on) (unfold stationOf in a .resources) (new .on))
+after-reads t b q e f g =
+    let a = accepted t e in
+    let s = station t in
+    let st = status t b in
+    let form : formGood s q ≡ true = unfold requestVerdict in unless-at _ _ _ (first-both _ _ _ g .0) in
+    let new = after-status-consistent (limit (width t)) s st q (station-rules t a) (consistent-of t b f .1) g in
+    status-image (width t) (statusAfter s st q) (fits-image (width t) (s .resources) (statusAfter s st q .on) (unfold stationOf in a .resources) (new .on))
     (λ k h.
-    let l : q .device < 8 * w = lt-of-lt-of-le (form-device s q form) (unfold stationOf in a .devices) in
-    unfold statusAfter in (after-other (st .entries) q k (λ z. omega arith) ∙ entries-out w b k h))
+    let l : q .device < limit (width t) = lt-of-lt-of-le (form-device s q form) (unfold stationOf in a .devices) in
+    unfold statusAfter in (after-other (st .entries) q k (λ z. omega arith) ∙ entries-out (width t) b k h))
 
-pub after-consistent : (w : ℕ) (t b : List ℕ) (q : Request) → passes (tableVerdict w t) ≡ true → passes (stateVerdict w (stationOf w t) b) ≡ true
-    → passes (requestVerdict (stationOf w t) (statusOf w b .entries) q) ≡ true → stateVerdict w (stationOf w t) (stateAfter w t b q) ≡ Done 0
-after-consistent w t b q e f g =
-    let s = stationOf w t in
-    sound-is w s (stateAfter w t b q) (unfold stateAfter in image-length w (statusAfter s (statusOf w b) q))
-    (rw (after-reads w t b q e f g) (after-sound (8 * w) s (statusOf w b) q (station-rules w t (accepted w t e)) (sound-of w s b f .1) g))
+pub after-consistent : (t b : List ℕ) (q : Request) → passes (tableVerdict t) ≡ true → passes (stateVerdict t b) ≡ true
+    → passes (requestVerdict (station t) (status t b .entries) q) ≡ true → stateVerdict t (stateAfter t b q) ≡ Done 0
+after-consistent t b q e f g =
+    let s = station t in
+    consistent-is t (stateAfter t b q) (unfold stateAfter in image-length (width t) (statusAfter s (status t b) q))
+    (rw (after-reads t b q e f g) (after-status-consistent (limit (width t)) s (status t b) q (station-rules t (accepted t e)) (consistent-of t b f .1) g))

@@ -1,4 +1,4 @@
--- A phase of the checker takes exactly the words that are due from the front of a list: those of given calls, or those of a set's members, each once
+-- A phase of the checker takes exactly the words that are due from the front of a list: given words, or those of a set's members, each once
 -- and in order. For any test of two neighbours and any word that names its resource; from the laws of one member taken out. Assumes nothing.
 use mathlib.Core.Path.{_≡_, refl, sym, ap, _∙_}
 use mathlib.Core.Bool.{Bool, true, false, _||_, true≢false}
@@ -9,30 +9,28 @@ use borrow.Author.Tests.{eqb-true, eq-eqb, ne-eqb}
 use lib.Dec.{eqb}
 use Rattle.sets.specs.Sets.{member, minus, single}
 use Rattle.sets.proofs.Laws.{member-below, decide, member-none, minus-lt}
-use Rattle.rules.specs.declared.Call.{Call}
-use Rattle.rules.specs.Calls.{wordOf}
-use Rattle.rules.specs.Check.{Rest, left, refused, takeCalls, resourceIn, mayCome, takeSet}
+use Rattle.rules.specs.Check.{Rest, left, refused, takeWords, resourceIn, mayCome, takeSet}
 use Rattle.rules.specs.Conforms.{times, EachOnce}
 use Rattle.laws.proofs.Chain.{Follows}
 use Rattle.laws.proofs.Tests.{both-true}
 use Rattle.laws.proofs.Select.{once-none, once-head, once-cons}
 
--- ---- the words of given calls, at the front
+-- ---- given words, at the front
 
-pub take-calls-of : (cs : List Call) (rest : List ℕ) → takeCalls cs (map wordOf cs ++ rest) ≡ left rest
-unfolding takeCalls
-take-calls-of [] rest = refl
-take-calls-of (c ∷ cs) rest = rw (eq-eqb (wordOf c) (wordOf c) refl, takeCalls) (take-calls-of cs rest)
+pub take-words-of : (vs rest : List ℕ) → takeWords vs (vs ++ rest) ≡ left rest
+unfolding takeWords
+take-words-of [] rest = refl
+take-words-of (v ∷ vs) rest = rw (eq-eqb v v refl, takeWords) (take-words-of vs rest)
 
-pub take-calls-at : (cs : List Call) (ws rest : List ℕ) → takeCalls cs ws ≡ left rest → ws ≡ map wordOf cs ++ rest
-unfolding takeCalls
-take-calls-at [] ws rest e = cc
-take-calls-at (c ∷ cs) [] rest e = cc
-take-calls-at (c ∷ cs) (w ∷ ws) rest e =
-    let ih = take-calls-at cs ws rest in
-    decide (eqb w (wordOf c))
-    (λ p. rw (← eqb-true w (wordOf c) p) (ap (_∷_ w) (ih (rw (p, takeCalls) at e))))
-    (λ p. let z : refused ≡ left rest = rw (p, takeCalls) at e in cc)
+pub take-words-at : (vs ws rest : List ℕ) → takeWords vs ws ≡ left rest → ws ≡ vs ++ rest
+unfolding takeWords
+take-words-at [] ws rest e = cc
+take-words-at (v ∷ vs) [] rest e = cc
+take-words-at (v ∷ vs) (w ∷ ws) rest e =
+    let ih = take-words-at vs ws rest in
+    decide (eqb w v)
+    (λ p. rw (← eqb-true w v p) (ap (_∷_ w) (ih (rw (p, takeWords) at e))))
+    (λ p. let z : refused ≡ left rest = rw (p, takeWords) at e in cc)
 
 pub not-left : (x : Rest) (rest : List ℕ) → x ≡ refused → x ≡ left rest → ⊥
 not-left x rest p q = let z : _≡_ {A = ℕ} 0 1 = cc in omega arith

@@ -10,6 +10,6 @@ pub record Asked : Type 0 where
   pub plan : List ℕ
 
 -- the state image after the requests, from first to last
-unfoldable pub stateAfterAll : ℕ → List ℕ → List ℕ → List Asked → List ℕ
-stateAfterAll w t b [] = b
-stateAfterAll w t b (r ∷ rs) = stateAfterAll w t (planWords w t b (r .request) (r .plan) .state) rs
+unfoldable pub stateAfterAll : List ℕ → List ℕ → List Asked → List ℕ
+stateAfterAll t b [] = b
+stateAfterAll t b (r ∷ rs) = stateAfterAll t (planWords t b (r .request) (r .plan) .state) rs

@@ -9,9 +9,19 @@ use lib.Dec.{ltb}
 use Rattle.rules.specs.declared.Verdict.{Verdict}
 use Rattle.rules.specs.declared.Verdict.the-variants.{Done, Refused}
 use Rattle.rules.specs.declared.Reason.{Reason}
+use Rattle.rules.specs.declared.Reason.the-variants.{NotATable, TooMany, WrongLength, BadResource, BadDevice, BadObjects, BadState, Inconsistent, NoRoom, BadRequest, Unsupported, Shallower, ParentDeeper, ChildShallower, TooDeepToWake, NoWake, WakeUnpowered, BadWakeState, NotConforming}
 use Rattle.rules.specs.Index.{least}
-use Rattle.rules.specs.Answers.{passes, firstOf, unless, lowest}
+use Rattle.rules.specs.Answers.{reasonNumber, passes, firstOf, unless, lowest}
 use Rattle.rules.proofs.Index.{none-below, no-hit}
+
+-- ---- what is done passes, and a refusal does not
+pub done-passes : (n : ℕ) → passes (Done n) ≡ true
+unfolding passes
+done-passes n = refl
+
+pub refused-stops : (why : Reason) (at : ℕ) → passes (Refused why at) ≡ false
+unfolding passes
+refused-stops why at = refl
 
 -- ---- a check that passes is left behind, and a refusal is the answer
 pub first-pass : (v : Verdict) (vs : List Verdict) (last : Verdict) → passes v ≡ true → firstOf (v ∷ vs) last ≡ firstOf vs last
@@ -40,7 +50,7 @@ first-through [] last e = first-none last
 first-through (v ∷ vs) last e = let b = first-both v vs (Done 0) e in first-pass v vs last (b .0) ∙ first-through vs last (b .1)
 
 pub first-same : (vs : List Verdict) (last : Verdict) → passes (firstOf vs (Done 0)) ≡ false → firstOf vs last ≡ firstOf vs (Done 0)
-first-same [] last e = absurd (true≢false (sym (ap passes (first-none (Done 0)) ∙ (unfold passes in refl)) ∙ e))
+first-same [] last e = absurd (true≢false (sym (ap passes (first-none (Done 0)) ∙ done-passes 0) ∙ e))
 first-same (v ∷ vs) last e = let rest = first-same vs last in go (passes v) refl rest
   where
     go : (b : Bool) → passes v ≡ b → (passes (firstOf vs (Done 0)) ≡ false → firstOf vs last ≡ firstOf vs (Done 0)) → firstOf (v ∷ vs) last ≡ firstOf (v ∷ vs) (Done 0)
@@ -89,3 +99,25 @@ lowest-at bad n refusal p e i h = go (ltb (least bad n) n) refl
     go : (b : Bool) → ltb (least bad n) n ≡ b → bad i ≡ false
     go true q = absurd (true≢false (sym e ∙ ap passes (lowest-stop bad n (least bad n) refusal refl (ltb-true (least bad n) n q)) ∙ p (least bad n)))
     go false q = none-below bad 0 n i (omega arith) (omega (arith, ltb-false (least bad n) n q))
+
+-- ---- no refusal has number 0
+pub no-reason-0 : (why : Reason) → reasonNumber why ≡ 0 → ⊥
+no-reason-0 NotATable e = omega arith
+no-reason-0 TooMany e = omega arith
+no-reason-0 WrongLength e = omega arith
+no-reason-0 BadResource e = omega arith
+no-reason-0 BadDevice e = omega arith
+no-reason-0 BadObjects e = omega arith
+no-reason-0 BadState e = omega arith
+no-reason-0 Inconsistent e = omega arith
+no-reason-0 NoRoom e = omega arith
+no-reason-0 BadRequest e = omega arith
+no-reason-0 Unsupported e = omega arith
+no-reason-0 Shallower e = omega arith
+no-reason-0 ParentDeeper e = omega arith
+no-reason-0 ChildShallower e = omega arith
+no-reason-0 TooDeepToWake e = omega arith
+no-reason-0 NoWake e = omega arith
+no-reason-0 WakeUnpowered e = omega arith
+no-reason-0 BadWakeState e = omega arith
+no-reason-0 NotConforming e = omega arith

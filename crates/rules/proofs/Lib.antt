@@ -1,3 +1,4 @@
 pub mod Hold
 pub mod Index
 pub mod Answers
+pub mod Width

@@ -2,7 +2,7 @@
 -- That it says what `Conforms` says is proved in crates/laws. Assumes nothing.
 use Prim.Native.Nat.{ℕ, _/_, _%_}
 use mathlib.Core.Bool.{Bool, true, false, _&&_, _||_, cond}
-use mathlib.Core.List.{List, [], _∷_}
+use mathlib.Core.List.{List, [], _∷_, map}
 use lib.Dec.{eqb, leb}
 use Rattle.sets.specs.Sets.{member, minus, single}
 use Rattle.rules.specs.declared.Call.{Call}
@@ -22,11 +22,11 @@ unfoldable pub andThen : Rest → (List ℕ → Rest) → Rest
 andThen (left ws) next = next ws
 andThen refused next = refused
 
--- the words of these calls stand at the front
-unfoldable pub takeCalls : List Call → List ℕ → Rest
-takeCalls [] ws = left ws
-takeCalls (c ∷ cs) [] = refused
-takeCalls (c ∷ cs) (w ∷ ws) = elim (eqb w (wordOf c)) [ true ↦ takeCalls cs ws | false ↦ refused ]
+-- these words stand at the front
+unfoldable pub takeWords : List ℕ → List ℕ → Rest
+takeWords [] ws = left ws
+takeWords (v ∷ vs) [] = refused
+takeWords (v ∷ vs) (w ∷ ws) = elim (eqb w v) [ true ↦ takeWords vs ws | false ↦ refused ]
 
 -- the resource that a word names, by its second byte
 abbrev pub resourceIn : ℕ → ℕ
@@ -77,7 +77,7 @@ isEnd refused = false
 unfoldable pub conforming : Station → Status → Request → List ℕ → Bool
 conforming s st q ws =
     isEnd
-    (andThen (takeCalls (ownFirstCalls s st q) ws)
+    (andThen (takeWords (map wordOf (ownFirstCalls s st q)) ws)
     λ a. andThen (takeSet onWord (notLower s) (toTurnOn s st q) true 0 a)
     λ b. andThen (takeSet offWord (notHigher s) (toTurnOff s st q) true 0 b)
-    λ c. takeCalls (ownLastCalls s st q) c)
+    λ c. takeWords (map wordOf (ownLastCalls s st q)) c)
