@@ -19,7 +19,7 @@ use Rattle.rules.specs.Index.{least}
 use Rattle.rules.specs.Answers.{placeOf, countOf, passes, firstOf, unless, lowest}
 use Rattle.rules.specs.Station.{Station, width, limit, countR, countD, stationOf, station}
 use Rattle.rules.specs.Table.{countsGood, parentGood, deviceRefusal, tableVerdict}
-use Rattle.rules.specs.Status.{entries, parentAllows, consistencyVerdict, stateVerdict}
+use Rattle.rules.specs.Status.{status, parentAllows, consistencyVerdict, stateVerdict}
 use Rattle.rules.specs.Request.{isMove, isArm, moveVerdict, armVerdict, kindVerdict, requestVerdict}
 use Rattle.rules.specs.Outcomes.{requestStage, freshVerdict, planRoom, stagesVerdict, planned, planVerdict, checkBytes}
 use Rattle.rules.proofs.Width.{width-wide}
@@ -141,7 +141,7 @@ module _ (t : List ℕ) where
         let few : station t .devices ≤ limit (width t) = unfold stationOf in a .devices in
         chain-holds (Bounded (width t)) _ _ _ (state-bounded b few)
         (λ _. next _ low _ _ _ _
-        (λ _. chain-holds (Bounded (width t)) _ _ _ (request-bounded _ low (station t) few (station-rules t a) (entries t b) q)
+        (λ _. chain-holds (Bounded (width t)) _ _ _ (request-bounded _ low (station t) few (station-rules t a) (status t b .entries) q)
         (λ _. last-holds (Bounded (width t)) (Done 0) (done _ low)))))
 
     pub plan-bounded : (room : Bool) → (Stages t b q → length (planned t b q) ≤ planRoom (width t)) → Bounded (width t) (planVerdict room t b q)

@@ -21,7 +21,7 @@ use Rattle.rules.specs.Answers.{numberOf, countOf, passes}
 use Rattle.rules.specs.Station.{Station, width, limit, stationOf, station}
 use Rattle.rules.specs.declared.Entry.{Entry}
 use Rattle.rules.specs.Status.{status}
-use Rattle.rules.specs.Request.{formGood, requestVerdict}
+use Rattle.rules.specs.Request.{formGood}
 use Rattle.rules.specs.Calls.{wordOf, only, methodFor, moveCall, wakeCall, ownCall, ownLast, toTurnOn, toTurnOff, calls}
 use Rattle.rules.specs.Check.{onWord, offWord, ownFirstCalls, ownLastCalls}
 use Rattle.rules.specs.Outcomes.{outcome, planRoom, planned, planBytes, checkWords, checkBytes}
@@ -32,7 +32,7 @@ use Rattle.laws.specs.Demand3.{Demand3Bytes}
 use Rattle.laws.proofs.Tests.{both-true}
 use Rattle.laws.proofs.All.{all-append, all-at, all-map, all-imp}
 use Rattle.laws.proofs.Accepted.{accepted}
-use Rattle.laws.proofs.States.{Kinds, kinds, form-device}
+use Rattle.laws.proofs.States.{Kinds, kinds, form-passed, form-device}
 use Rattle.laws.proofs.Stages.{Stages, plan-stages, plan-done}
 use Rattle.laws.proofs.Conform.{planner-conforms}
 use Rattle.laws.proofs.Arrange.{arranged-words, conforms-arranged}
@@ -61,8 +61,7 @@ own-fits s e q d k =
 
 module _ (t b : List ℕ) (q : Request) (g : Stages t b q) where
   form : formGood (station t) q ≡ true
-  unfolding requestVerdict
-  form = unless-at _ _ _ (first-both _ _ _ (g .request) .0)
+  form = form-passed (station t) _ q (g .request)
 
   own : All Fits (map wordOf (ownCall (station t) (status t b .entries (q .device)) q))
   own =

@@ -35,7 +35,7 @@ use Rattle.laws.specs.Demand3.{Passed, neededBefore, neededAfter, ownEnt
 use Rattle.laws.proofs.Tests.{or-cases, or-left, or-right}
 use Rattle.laws.proofs.Accepted.{accepted}
 use Rattle.laws.proofs.Needed.{needed-of, needed-by, needed-lt}
-use Rattle.laws.proofs.States.{consistent-of, station-rules, form-device}
+use Rattle.laws.proofs.States.{consistent-of, station-rules, form-passed, form-device}
 use Rattle.laws.proofs.Stages.{Stages, stages-of, stages-pass, plan-stages, plan-done}
 use Rattle.laws.proofs.Conform.{conforming-iff, planner-conforms}
 use Rattle.laws.proofs.Place.{other-place}
@@ -79,8 +79,7 @@ module _ (t b : List ℕ) (q : Request) (g : Stages t b q) where
   few = omega (arith, accepted t (g .table) .resources, width-wide t .high)
 
   asked : q .device < station t .devices
-  unfolding requestVerdict
-  asked = form-device (station t) q (unless-at _ _ _ (first-both _ _ _ (g .request) .0))
+  asked = form-device (station t) q (form-passed (station t) _ q (g .request))
 
   pub end-lt : neededAfter t b q < 2 ^ station t .resources
   unfolding endSet needed

@@ -9,7 +9,6 @@ use borrow.Author.Tests.{eqb-true, eqb-false, ltb-true, ltb-false, le-leb}
 use lib.Dec.{eqb, ltb, leb}
 use Rattle.sets.proofs.Laws.{decide}
 use Rattle.rules.specs.declared.Request.{Request}
-use Rattle.rules.specs.declared.Verdict.the-variants.{BadRequest}
 use Rattle.rules.specs.Answers.{passes}
 use Rattle.rules.specs.Station.{Station, absent}
 use Rattle.rules.specs.Table.{parentGood}

@@ -10,7 +10,7 @@ use Rattle.rules.specs.declared.Reason.the-variants.{NoRoom}
 use Rattle.rules.specs.Answers.{passes}
 use Rattle.rules.specs.Station.{station}
 use Rattle.rules.specs.Table.{tableVerdict}
-use Rattle.rules.specs.Status.{entries, stateVerdict}
+use Rattle.rules.specs.Status.{status, stateVerdict}
 use Rattle.rules.specs.Request.{requestVerdict}
 use Rattle.rules.specs.Outcomes.{requestStage, stagesVerdict, planned, planVerdict}
 use Rattle.rules.proofs.Answers.{first-both, first-pass, first-none, unless-of, done-passes}
@@ -19,7 +19,7 @@ use Rattle.rules.proofs.Answers.{first-both, first-pass, first-none, unless-of,
 pub record Stages (t b : List ℕ) (q : Request) : Type 0 where
   pub table : passes (tableVerdict t) ≡ true
   pub state : passes (stateVerdict t b) ≡ true
-  pub request : passes (requestVerdict (station t) (entries t b) q) ≡ true
+  pub request : passes (requestVerdict (station t) (status t b .entries) q) ≡ true
 
 module _ (room : Bool) (t b : List ℕ) (q : Request) where
   pub stages-of : passes (stagesVerdict room t b q) ≡ true → Stages t b q

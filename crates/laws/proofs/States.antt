@@ -22,7 +22,7 @@ use Rattle.rules.specs.Table.{tableVerdict, setGood}
 use Rattle.rules.specs.declared.Entry.{Entry}
 use Rattle.rules.specs.Power.{supported, needs, needed}
 use Rattle.rules.specs.Status.{Status, noEntry, entriesOf, statusOf, status, imageOf, imageSize, freshStatus, entryGood, entryZero, entriesGood, onGood, parentAllows, wakeConsistent, consistentButPower, powered, consistent, valuesGood, consistencyVerdict, stateVerdict}
-use Rattle.rules.specs.Request.{isMove, isArm, isDisarm, formGood, requestVerdict, newEntry, entriesAfter}
+use Rattle.rules.specs.Request.{isMove, isArm, isDisarm, numbersGood, formGood, requestVerdict, newEntry, entriesAfter}
 use Rattle.rules.specs.Calls.{endSet, statusAfter}
 use Rattle.rules.specs.Outcomes.{stateAfter}
 use Rattle.rules.proofs.Index.{every-at, every-of, below-out}
@@ -68,7 +68,7 @@ all-consistent n s st a =
 
 pub consistent-is : (t b : List ℕ) → length b ≡ imageSize (width t) → ConsistentStatus (limit (width t)) (station t) (status t b) → stateVerdict t b ≡ Done 0
 unfolding stateVerdict valuesGood onGood passes firstOf
-sound-is w s b l a =
+consistent-is t b l a =
     rw (eq-eqb (length b) (imageSize (width t)) l, a .entries, lt-ltb _ _ (a .on), unless-of true BadState 0 refl, all-consistent (limit (width t)) (station t) (status t b) a) refl
 
 -- ---- the bounds of what a status has on: R bits are no more than the image's 8w
@@ -97,6 +97,10 @@ fresh-consistent t e =
     consistent-is t (imageOf (width t) st) (image-length (width t) st) (rw same f)
 
 -- ---- an accepted request
+pub form-passed : (s : Station) (entries : ℕ → Entry) (q : Request) → passes (requestVerdict s entries q) ≡ true → formGood s q ≡ true
+unfolding requestVerdict
+form-passed s entries q e = unless-at _ _ _ (first-both _ _ _ e .0)
+
 pub form-device : (s : Station) (q : Request) → formGood s q ≡ true → q .device < s .devices
 unfolding formGood
 form-device s q e = ltb-true _ _ (both-true _ _ e .0)
@@ -108,7 +112,7 @@ Kinds q =
     ⊎ (((isMove q ≡ false) × (isArm q ≡ true) × (leb (q .a) 4 ≡ true) × (leb (q .b) 4 ≡ true)) ⊎ ((isMove q ≡ false) × (isArm q ≡ false)))
 
 pub kinds : (s : Station) (q : Request) → formGood s q ≡ true → Kinds q
-unfolding formGood Kinds
+unfolding formGood numbersGood Kinds
 kinds s q e =
     ⊎-elim
     (λ x. ⊎-elim (λ m. let a = both-true (isMove q) (leb (q .a) 4) (both-true (isMove q && leb (q .a) 4) (eqb (q .b) 0) m .0) in inl (a .0, a .1))
@@ -152,7 +156,7 @@ entries-after n s entries q f g =
 pub after-status-consistent : (n : ℕ) (s : Station) (st : Status) (q : Request) → StationRules s → ConsistentStatus n s st → passes (requestVerdict s (st .entries) q) ≡ true → ConsistentStatus n s (statusAfter s st q)
 unfolding statusAfter endSet needed
 after-status-consistent n s st q rules a e =
-    let form : formGood s q ≡ true = unfold requestVerdict in unless-at _ _ _ (first-both _ _ _ e .0) in
+    let form = form-passed s (st .entries) q e in
     record {
       entries = entries-after n s (st .entries) q form (a .entries);
       on = needed-lt (s .resources) s (entriesAfter (st .entries) q) (s .devices) (rules .sets);
@@ -172,7 +176,7 @@ after-reads t b q e f g =
     let a = accepted t e in
     let s = station t in
     let st = status t b in
-    let form : formGood s q ≡ true = unfold requestVerdict in unless-at _ _ _ (first-both _ _ _ g .0) in
+    let form = form-passed s (st .entries) q g in
     let new = after-status-consistent (limit (width t)) s st q (station-rules t a) (consistent-of t b f .1) g in
     status-image (width t) (statusAfter s st q) (fits-image (width t) (s .resources) (statusAfter s st q .on) (unfold stationOf in a .resources) (new .on))
     (λ k h.

@@ -45,7 +45,7 @@ abbrev pub ownNeeds : List ℕ → List ℕ → Request → ℕ
 ownNeeds t b q = needs (station t) (q .device) (ownEntry q (status t b .entries (q .device)) (entriesAfter (status t b .entries) q (q .device)))
 
 -- the set after the first n words: at the start the lent state's on-set
-abbrev pub onAfter : List ℕ → List ℕ → ℕ → ℕ → Bool
+abbrev pub onAfter : List ℕ → List ℕ → List ℕ → ℕ → ℕ → Bool
 onAfter t b ws n = execution (member (status t b .on)) (take n ws)
 
 pub record Demand3 (t b : List ℕ) (q : Request) (ws : List ℕ) : Type 0 where

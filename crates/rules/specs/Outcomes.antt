@@ -12,7 +12,7 @@ use Rattle.rules.specs.declared.Reason.the-variants.{BadState, NoRoom, N
 use Rattle.rules.specs.Answers.{passes, firstOf, unless}
 use Rattle.rules.specs.Station.{width, limit, recordSize, countD, deviceStart, station}
 use Rattle.rules.specs.Table.{tableVerdict}
-use Rattle.rules.specs.Status.{entries, status, imageOf, imageSize, freshStatus, stateVerdict}
+use Rattle.rules.specs.Status.{status, imageOf, imageSize, freshStatus, stateVerdict}
 use Rattle.rules.specs.Request.{requestVerdict}
 use Rattle.rules.specs.Calls.{wordOf, calls, statusAfter}
 use Rattle.rules.specs.Check.{conforming}
@@ -36,7 +36,7 @@ fresh t b = outcome (freshVerdict t b) b [] (imageOf (width t) (freshStatus (sta
 
 -- 10 to 18 of the request, on the bytes
 unfoldable pub requestStage : List ℕ → List ℕ → Request → Verdict
-requestStage t b q = requestVerdict (station t) (entries t b) q
+requestStage t b q = requestVerdict (station t) (status t b .entries) q
 
 -- the checks that planner and checker share, in their order: 1 to 8; 9 without room, which only the planner needs; 10 to 18
 unfoldable pub stagesVerdict : Bool → List ℕ → List ℕ → Request → Verdict
