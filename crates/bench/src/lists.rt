@@ -18,7 +18,7 @@ fn worded(table: &[u8], state: &[u8], q: Request, list: &[u8]) -> u8
     ensures { λ r. ⌜ r ≡ numberOf (checkWords 4 (now (table .entry)) (now (state .entry)) q (byteWords (min (length (now (list .entry)) / 4) 33) (now (list .entry)))) ⌝ }
 {
     let n = lines::within(list.len() / 4, 33);
-    let calls = buffers::read_words(list, n);
+    let calls = sailgarnet::buffers::read_words(list, n);
     plans::check(table, state, q, &calls[..n])
 }
 

@@ -1,2 +1,5 @@
 pub mod Ranges
 pub mod Switch
+pub mod Own
+pub mod Phases
+pub mod Keys

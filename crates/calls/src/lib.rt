@@ -1,4 +1,7 @@
 // A call as a word of the plan, and back; and the words that switch a resource.
+pub mod order;
+pub mod own;
+
 ghost use mathlib.Core.Path.{_≡_};
 ghost use Prim.Native.Nat.{_<_, _^_};
 ghost use Rattle.rules.specs.Calls.{word4, wordOf, wakeWord, callOf, callOfBytes, wakeOf};

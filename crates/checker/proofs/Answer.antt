@@ -19,9 +19,9 @@ use Rattle.rules.specs.Calls.{wordOf, ownCall, ownLast, toTurnOn, toTurnOff}
 use Rattle.rules.specs.Check.{Rest, onWord, offWord, notLower, notHigher, andThen, takeCalls, takeSet, isEnd, ownFirstCalls, ownLastCalls, conforming}
 use Rattle.rules.specs.Outcomes.{permittedVerdict}
 use Rattle.rules.proofs.Answers.{first-pass, first-stop, first-none, unless-of, unless-stop}
-use Rattle.image.specs.State.{stateOf}
-use Rattle.stages.specs.Stages.{stagesOf, stagesVerdict}
-use Rattle.own.specs.Own.{ownOf}
+use Rattle.status.specs.State.{stateOf}
+use Rattle.request.specs.Stages.{stagesOf, stagesVerdict}
+use Rattle.calls.specs.Own.{ownOf}
 use Rattle.planner.specs.After.{afterOf, Asked}
 use Rattle.planner.proofs.Whole.{own-of, entry-is, on-after, on-before}
 use Rattle.calls.specs.Switch.{switchWord}

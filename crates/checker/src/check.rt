@@ -15,13 +15,13 @@ pub fn conforming(table: &[u8], state: &[u8], q: Request, list: &[u32]) -> bool
     ensures { λ r. ⌜ r ≡ conforming (stationOf 4 (now (table .entry))) (statusOf 4 (now (state .entry))) q (now (list .entry)) ⌝ }
 {
     let d = q.device as usize;
-    let before = image::load(state);
-    let e = image::entry(state, d);
+    let before = status::image::load(state);
+    let e = status::image::entry(state, d);
     let after = planner::plan::next_state(table, before, d, request::new_entry(e, q));
     let on = sets::minus(after.on, before.on);
     let off = sets::minus(before.on, after.on);
-    let own = own::own_call(table, e, q);
-    let last = own::own_last(q);
+    let own = calls::own::own_call(table, e, q);
+    let last = calls::own::own_last(q);
     crate::walk::walk(table, own, last, on, off, list)
 }
 
@@ -30,7 +30,7 @@ pub fn check_words(table: &[u8], state: &[u8], q: Request, list: &[u32]) -> Verd
     ensures answer { λ r. ⌜ r ≡ checkWords 4 (now (table .entry)) (now (state .entry)) q (now (list .entry)) ⌝ }
     ensures demand { λ _. ⌜ Demand3 4 (now (table .entry)) (now (state .entry)) q (now (list .entry)) ⌝ }
 {
-    let v = stages::verdict(table, state, true, q);
+    let v = request::stages::verdict(table, state, true, q);
     if !rules::passes(v) {
         return v;
     }

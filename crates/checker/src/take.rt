@@ -6,7 +6,7 @@ ghost use Prim.Native.Nat.{_^_, _<_, _≤_};
 ghost use lib.ListN.{length, drop};
 ghost use Rattle.rules.specs.Station.{countR, stationOf};
 ghost use Rattle.rules.specs.Check.{mayCome, takeSet};
-ghost use Rattle.fields.specs.Layout.{Laid};
+ghost use Rattle.table.specs.Layout.{Laid};
 ghost use Rattle.calls.specs.Switch.{switchWord};
 ghost use Rattle.checker.specs.Phases.{restOf, follows};
 
@@ -15,8 +15,8 @@ fn in_order(table: &[u8], off: bool, last: usize, r: usize) -> bool
     requires { ⌜ Laid (now table) × (last < countR (now table)) × (r < countR (now table)) ⌝ }
     ensures { λ b. ⌜ b ≡ follows (stationOf 4 (now (table .entry))) off last r ⌝ }
 {
-    let before = fields::order(table, last);
-    let here = fields::order(table, r);
+    let before = table::fields::order(table, last);
+    let here = table::fields::order(table, r);
     if off {
         return here <= before;
     }

@@ -1,14 +1,14 @@
 // A whole list: the own call first or last, ONs and OFFs between, and nothing after.
 use crate::Taken;
-use own::Own;
+use calls::own::Own;
 ghost use mathlib.Core.Path.{_≡_};
 ghost use mathlib.Core.Bool.{cond};
 ghost use mathlib.Core.List.{[]};
 ghost use Prim.Native.Nat.{_^_, _<_, _≤_};
 ghost use lib.ListN.{length, drop};
 ghost use Rattle.rules.specs.Station.{countR, stationOf};
-ghost use Rattle.own.specs.Own.{ownWords};
-ghost use Rattle.fields.specs.Layout.{Laid};
+ghost use Rattle.calls.specs.Own.{ownWords};
+ghost use Rattle.table.specs.Layout.{Laid};
 ghost use Rattle.checker.specs.Phases.{restOf, takeWords, walked};
 
 // The place after the own call's word, if there is one.

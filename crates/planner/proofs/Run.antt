@@ -20,10 +20,10 @@ use Rattle.rules.specs.Request.{isMove, isArm}
 use Rattle.rules.specs.Calls.{wordOf, only, moveCall, wakeCall, ownCall, ownLast, endSet, toTurnOn, toTurnOff, membersFrom, earlier, orderIn, rising, arrange}
 use Rattle.rules.specs.Check.{onWord, offWord}
 use Rattle.laws.proofs.Sort.{length-sort}
-use Rattle.own.specs.declared.Own.{Own}
-use Rattle.own.specs.declared.Own.the-variants.{Word, NoCall}
-use Rattle.order.specs.Phases.{switchWords, phaseWords}
-use Rattle.own.specs.Own.{ownWords, ownOf}
+use Rattle.calls.specs.declared.own.Own.{Own}
+use Rattle.calls.specs.declared.own.Own.the-variants.{Word, NoCall}
+use Rattle.calls.specs.Phases.{switchWords, phaseWords}
+use Rattle.calls.specs.Own.{ownWords, ownOf}
 use Rattle.planner.specs.Plan.{planWords, Apart}
 
 -- ---- the own call's word

@@ -27,12 +27,12 @@ use Rattle.laws.proofs.States.{sound-of}
 use Rattle.laws.proofs.Runs.{Stages}
 use Rattle.laws.proofs.Demand3.{end-lt, on-lt}
 use Rattle.table.proofs.Verdicts.{laid-of}
-use Rattle.image.specs.State.{stateOf, bytesOf, withEntry}
-use Rattle.image.proofs.Held.{entries-of}
-use Rattle.image.proofs.Written.{after-entries, after-image}
-use Rattle.stages.specs.Stages.{stagesOf, stagesVerdict}
+use Rattle.status.specs.State.{stateOf, bytesOf, withEntry}
+use Rattle.status.proofs.Held.{entries-of}
+use Rattle.status.proofs.Written.{after-entries, after-image}
+use Rattle.request.specs.Stages.{stagesOf, stagesVerdict}
 use Rattle.request.proofs.Rules.{form-small, form-device-below}
-use Rattle.own.specs.Own.{ownOf}
+use Rattle.calls.specs.Own.{ownOf}
 use Rattle.planner.specs.Plan.{planWords, Apart}
 use Rattle.planner.specs.After.{afterOf, Asked, Carried}
 

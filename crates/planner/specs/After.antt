@@ -13,9 +13,9 @@ use Rattle.rules.specs.Station.{Station, countD}
 use Rattle.rules.specs.Power.{needed}
 use Rattle.rules.specs.Status.{entriesOf}
 use Rattle.rules.specs.Outcomes.{planned, stateAfter}
-use Rattle.fields.specs.Layout.{Laid}
-use Rattle.stages.specs.Stages.{stagesVerdict}
-use Rattle.image.specs.State.{withEntry}
+use Rattle.table.specs.Layout.{Laid}
+use Rattle.request.specs.Stages.{stagesVerdict}
+use Rattle.status.specs.State.{withEntry}
 
 -- with device d's entry e, and the needed set of these entries on
 unfoldable pub afterOf : Station → State → ℕ → Entry → State

@@ -8,7 +8,7 @@ use Rattle.rules.specs.declared.Entry.{Entry}
 use Rattle.rules.specs.declared.Request.{Request}
 use Rattle.rules.specs.Station.{Station}
 use Rattle.rules.specs.Calls.{wordOf, ownLast, rising, arrange}
-use Rattle.own.specs.Own.{ownOf}
+use Rattle.calls.specs.Own.{ownOf}
 
 -- the words of all calls, where these sets are to be turned on and off
 unfoldable pub planWords : Station → Entry → Request → ℕ → ℕ → List ℕ

@@ -1,1 +1,4 @@
 pub mod StateLaws
+pub mod Members
+pub mod RangeLaws
+pub mod WakeLaws

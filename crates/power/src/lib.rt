@@ -1,10 +1,12 @@
 // The states that a device supports, and the resources that it needs in each.
+pub mod wake;
+
 ghost use mathlib.Core.Path.{_≡_};
 ghost use Prim.Native.Nat.{_<_};
 ghost use Rattle.sets.specs.Sets.{member};
 ghost use Rattle.rules.specs.Station.{countD, stationOf, hasPS, hasPR, hasPRW};
 ghost use Rattle.rules.specs.Power.{supported, ownSet, listedSet, stateNeeds, wakeNeeds, needs};
-ghost use Rattle.fields.specs.Layout.{Laid};
+ghost use Rattle.table.specs.Layout.{Laid};
 
 // Bit x of a mask.
 pub fn has_bit(mask: u8, x: u8) -> bool
@@ -18,7 +20,7 @@ pub fn has_ps(table: &[u8], d: usize, x: u8) -> bool
     requires { ⌜ Laid (now table) × (d < countD (now table)) ⌝ }
     ensures { λ r. ⌜ r ≡ hasPS (stationOf 4 (now (table .entry)) .device d) x ⌝ }
 {
-    has_bit(fields::ps(table, d), x)
+    has_bit(table::fields::ps(table, d), x)
 }
 
 // Whether `_PRx` exists.
@@ -26,7 +28,7 @@ pub fn has_pr(table: &[u8], d: usize, x: u8) -> bool
     requires { ⌜ Laid (now table) × (d < countD (now table)) ⌝ }
     ensures { λ r. ⌜ r ≡ hasPR (stationOf 4 (now (table .entry)) .device d) x ⌝ }
 {
-    has_bit(fields::pr(table, d), x)
+    has_bit(table::fields::pr(table, d), x)
 }
 
 // Whether `_PRW` exists.
@@ -34,7 +36,7 @@ pub fn has_prw(table: &[u8], d: usize) -> bool
     requires { ⌜ Laid (now table) × (d < countD (now table)) ⌝ }
     ensures { λ r. ⌜ r ≡ hasPRW (stationOf 4 (now (table .entry)) .device d) ⌝ }
 {
-    has_bit(fields::flags(table, d), 0)
+    has_bit(table::fields::flags(table, d), 0)
 }
 
 // D0 and D3hot always; D1 or D2 with either object for it; D3cold with `_PR3`.
@@ -66,7 +68,7 @@ pub fn own_set(table: &[u8], d: usize, mask: u8, x: u8) -> u32
     ensures { λ r. ⌜ r ≡ ownSet (stationOf 4 (now (table .entry)) .device d) x ⌝ }
 {
     if has_bit(mask, x) {
-        return fields::set(table, d, x as usize);
+        return table::fields::set(table, d, x as usize);
     }
     0
 }
@@ -76,11 +78,11 @@ pub fn listed_set(table: &[u8], d: usize, x: u8) -> u32
     requires { ⌜ Laid (now table) × (d < countD (now table)) × (x < 5) ⌝ }
     ensures { λ r. ⌜ r ≡ listedSet (stationOf 4 (now (table .entry)) .device d) x ⌝ }
 {
-    let mask = fields::pr(table, d);
+    let mask = table::fields::pr(table, d);
     let mut k = x;
     while 0 < k {
         if has_bit(mask, k) {
-            return fields::set(table, d, k as usize);
+            return table::fields::set(table, d, k as usize);
         }
         k -= 1;
     }
@@ -92,7 +94,7 @@ pub fn state_needs(table: &[u8], d: usize, x: u8) -> u32
     requires { ⌜ Laid (now table) × (d < countD (now table)) ⌝ }
     ensures { λ r. ⌜ r ≡ stateNeeds (stationOf 4 (now (table .entry)) .device d) x ⌝ }
 {
-    let present = fields::pr(table, d);
+    let present = table::fields::pr(table, d);
     if x < 3 {
         return own_set(table, d, present, x);
     }
@@ -111,7 +113,7 @@ pub fn wake_needs(table: &[u8], d: usize, e: rules::Entry) -> u32
         return 0;
     }
     if has_prw(table, d) {
-        return fields::set(table, d, 4);
+        return table::fields::set(table, d, 4);
     }
     0
 }

@@ -1,4 +1,6 @@
 // Requests: answers 10 to 18, and the entry that an accepted request gives its device. No rule here looks at the on-set.
+pub mod stages;
+
 use rules::Entry;
 use rules::Request;
 use rules::Verdict;
@@ -10,8 +12,8 @@ ghost use Rattle.rules.specs.Station.{countD, stationOf};
 ghost use Rattle.rules.specs.Status.{entriesOf};
 ghost use Rattle.rules.specs.Request.{formGood, notShallowerOrD0, parentAllows, childBars, wakeAllows, moveVerdict, armVerdict, requestVerdict, newEntry};
 ghost use Rattle.request.specs.Form.{numbersGood};
-ghost use Rattle.fields.specs.Layout.{Laid};
-ghost use Rattle.sound.specs.Ready.{Ready};
+ghost use Rattle.table.specs.Layout.{Laid};
+ghost use Rattle.status.specs.Ready.{Ready};
 
 // 10: whether kind and numbers are in range and unused ones zero.
 fn numbers_good(q: Request) -> bool
@@ -43,7 +45,7 @@ pub fn form_good(table: &[u8], q: Request) -> bool
     requires { ⌜ Laid (now table) ⌝ }
     ensures { λ r. ⌜ r ≡ formGood (stationOf 4 (now (table .entry))) q ⌝ }
 {
-    let n = fields::devices(table);
+    let n = table::fields::devices(table);
     if q.device as usize >= n {
         return false;
     }
@@ -55,11 +57,11 @@ fn parent_allows(table: &[u8], devices: &[u8], d: usize, x: u8) -> bool
     requires { ⌜ Ready (now table) (now devices) × (d < countD (now table)) ⌝ }
     ensures { λ r. ⌜ r ≡ parentAllows (stationOf 4 (now (table .entry))) (entriesOf 4 (now (devices .entry))) d x ⌝ }
 {
-    let p = fields::parent(table, d);
+    let p = table::fields::parent(table, d);
     if p == 255 {
         return true;
     }
-    let up = image::entry(devices, p as usize);
+    let up = status::image::entry(devices, p as usize);
     up.state <= x
 }
 
@@ -68,11 +70,11 @@ fn child_bars(table: &[u8], devices: &[u8], d: usize, x: u8, c: usize) -> bool
     requires { ⌜ Ready (now table) (now devices) × (d < countD (now table)) × (c < countD (now table)) ⌝ }
     ensures { λ r. ⌜ r ≡ childBars (stationOf 4 (now (table .entry))) (entriesOf 4 (now (devices .entry))) d x c ⌝ }
 {
-    let p = fields::parent(table, c);
+    let p = table::fields::parent(table, c);
     if p as usize != d {
         return false;
     }
-    let e = image::entry(devices, c);
+    let e = status::image::entry(devices, c);
     e.state < x
 }
 
@@ -81,7 +83,7 @@ fn lowest_child(table: &[u8], devices: &[u8], d: usize, x: u8) -> usize
     requires { ⌜ Ready (now table) (now devices) × (d < countD (now table)) ⌝ }
     ensures { λ r. ⌜ r ≡ least (childBars (stationOf 4 (now (table .entry))) (entriesOf 4 (now (devices .entry))) d x) (countD (now (table .entry))) ⌝ }
 {
-    let n = fields::devices(table);
+    let n = table::fields::devices(table);
     let mut i = 0;
     while i < n {
         if child_bars(table, devices, d, x, i) {
@@ -97,7 +99,7 @@ fn move_verdict(table: &[u8], devices: &[u8], d: usize, x: u8) -> Verdict
     requires { ⌜ Ready (now table) (now devices) × (d < countD (now table)) ⌝ }
     ensures { λ r. ⌜ r ≡ moveVerdict (stationOf 4 (now (table .entry))) (entriesOf 4 (now (devices .entry))) d x ⌝ }
 {
-    let e = image::entry(devices, d);
+    let e = status::image::entry(devices, d);
     if !power::supported(table, d, x) {
         return Verdict::Unsupported;
     }
@@ -105,10 +107,10 @@ fn move_verdict(table: &[u8], devices: &[u8], d: usize, x: u8) -> Verdict
         return Verdict::Shallower;
     }
     if !parent_allows(table, devices, d, x) {
-        return Verdict::ParentDeeper(fields::parent(table, d) as usize);
+        return Verdict::ParentDeeper(table::fields::parent(table, d) as usize);
     }
     let c = lowest_child(table, devices, d, x);
-    if c < fields::devices(table) {
+    if c < table::fields::devices(table) {
         return Verdict::ChildShallower(c);
     }
     if !wake_allows(e, x) {
@@ -142,16 +144,16 @@ fn arm_verdict(table: &[u8], devices: &[u8], d: usize, x: u8, y: u8) -> Verdict
     requires { ⌜ Ready (now table) (now devices) × (d < countD (now table)) × (x < 5) ⌝ }
     ensures { λ r. ⌜ r ≡ armVerdict (stationOf 4 (now (table .entry))) (entriesOf 4 (now (devices .entry))) d x y ⌝ }
 {
-    if !wake::wake_from(table, d, x) {
+    if !power::wake::wake_from(table, d, x) {
         return Verdict::NoWake;
     }
-    if !wake::wake_powered(table, d, x) {
+    if !power::wake::wake_powered(table, d, x) {
         return Verdict::WakeUnpowered;
     }
-    if !wake::wake_state(table, d, x, y) {
+    if !power::wake::wake_state(table, d, x, y) {
         return Verdict::BadWakeState;
     }
-    let e = image::entry(devices, d);
+    let e = status::image::entry(devices, d);
     if e.state > y {
         return Verdict::BadWakeState;
     }

@@ -1,1 +1,4 @@
+pub mod Copy
+pub mod Long
+pub mod Outer
 pub mod Numbers

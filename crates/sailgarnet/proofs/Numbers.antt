@@ -9,7 +9,7 @@ use Rattle.rules.specs.declared.Verdict.the-variants.{Done, NotATable, TooMany,
 use Rattle.rules.specs.Answers.{numberOf, placeOf, countOf}
 use Rattle.rules.specs.Outcomes.{outcome, fresh, planBytes, checkBytes}
 use Rattle.laws.proofs.Bounds.{Bounded, fresh-bounded, plan-bounded, check-bounded}
-use Rattle.buffers.proofs.Outer.{planned-short}
+use Rattle.sailgarnet.proofs.Outer.{planned-short}
 use Rattle.sailgarnet.specs.Packed.{packed, Reads}
 
 number-small : (v : Verdict) → numberOf v < 0x100

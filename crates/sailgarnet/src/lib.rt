@@ -1,4 +1,6 @@
 // The board's functions: numbers and byte slices in, one number out.
+pub mod buffers;
+
 use rules::Request;
 use rules::Verdict;
 ghost use mathlib.Core.Path.{_≡_};
@@ -41,7 +43,7 @@ pub extern "C" fn sailgarnet_plan(
     ensures state { λ _. ⌜ now (state .exit) ≡ planBytes 4 (now (table .entry)) (now (state .entry)) (asked kind device a b) (now (plan .entry)) .state ⌝ }
     ensures plan { λ _. ⌜ now (plan .exit) ≡ planBytes 4 (now (table .entry)) (now (state .entry)) (asked kind device a b) (now (plan .entry)) .plan ⌝ }
 {
-    pack(buffers::plan_bytes(table, state, Request { kind, device, a, b }, plan))
+    pack(crate::buffers::plan_bytes(table, state, Request { kind, device, a, b }, plan))
 }
 
 #[no_mangle]
@@ -57,5 +59,5 @@ pub extern "C" fn sailgarnet_check(
     ensures answer { λ r. ⌜ (r ≡ packed (checkBytes 4 (now (table .entry)) (now (state .entry)) (asked kind device a b) (now (list .entry)))) × Reads r (checkBytes 4 (now (table .entry)) (now (state .entry)) (asked kind device a b) (now (list .entry))) ⌝ }
     ensures demand { λ _. ⌜ Demand3Bytes 4 (now (table .entry)) (now (state .entry)) (asked kind device a b) (now (list .entry)) ⌝ }
 {
-    pack(buffers::check_bytes(table, state, Request { kind, device, a, b }, list))
+    pack(crate::buffers::check_bytes(table, state, Request { kind, device, a, b }, list))
 }

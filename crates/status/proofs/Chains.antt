@@ -21,9 +21,9 @@ use Rattle.rules.specs.Outcomes.{outcome, freshVerdict, fresh}
 use Rattle.rules.proofs.Answers.{first-pass, first-stop, unless-of}
 use Rattle.laws.proofs.Accepted.{accepted}
 use Rattle.table.proofs.Verdicts.{laid-done, laid-told, accepted-is}
-use Rattle.image.specs.State.{bytesOf, freshState}
-use Rattle.sound.specs.Ready.{Ready, statusWith}
-use Rattle.image.proofs.Held.{fresh-image}
+use Rattle.status.specs.State.{bytesOf, freshState}
+use Rattle.status.specs.Ready.{Ready, statusWith}
+use Rattle.status.proofs.Held.{fresh-image}
 
 -- ---- what an accepted table and good entries give; g is what the test of the entries returned
 pub ready-by : (t b : List ℕ) (g : Bool) → tableVerdict 4 t ≡ Done 0 → length b ≡ 132 → g ≡ entriesGood 32 (stationOf 4 t) (entriesOf 4 b) → not g ≡ false → Ready t b

@@ -1,1 +1,6 @@
+pub mod Held
+pub mod Written
+pub mod Ranges
+pub mod Loops
+pub mod Keeps
 pub mod Chains

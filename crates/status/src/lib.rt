@@ -1,4 +1,9 @@
 // Answers 7 and 8 of a lent image, and a fresh state written into lent bytes.
+pub mod consistency;
+pub mod image;
+pub mod needed;
+pub mod values;
+
 ghost use mathlib.Core.Path.{_≡_};
 ghost use Rattle.rules.specs.declared.Verdict.the-variants.{Done};
 ghost use Rattle.rules.specs.Station.{stationOf};
@@ -14,14 +19,14 @@ pub fn check_state(table: &[u8], image: &[u8]) -> rules::Verdict
     if image.len() != 132 {
         return rules::Verdict::BadState;
     }
-    if !values::entries_good(table, image) {
+    if !crate::values::entries_good(table, image) {
         return rules::Verdict::BadState;
     }
     let on = words::read32(image, 128);
-    if !values::on_good(table, on) {
+    if !crate::values::on_good(table, on) {
         return rules::Verdict::BadState;
     }
-    sound::consistency(table, image, on)
+    crate::consistency::consistency(table, image, on)
 }
 
 // A fresh state for a table that is good, into bytes that are an image's; a refusal leaves every byte.
@@ -35,8 +40,8 @@ pub fn fresh(table: &[u8], state: &mut [u8]) -> rules::Verdict
     if state.len() != 132 {
         return rules::Verdict::BadState;
     }
-    let resources = fields::resources(table);
-    let made = image::fresh_state(resources as u32);
-    image::store(made, state);
+    let resources = table::fields::resources(table);
+    let made = crate::image::fresh_state(resources as u32);
+    crate::image::store(made, state);
     rules::Verdict::Done(0)
 }

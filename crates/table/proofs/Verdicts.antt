@@ -22,8 +22,8 @@ use Rattle.rules.proofs.Index.{found, next, done}
 use Rattle.rules.proofs.Answers.{first-pass, first-stop, first-none, unless-of, unless-stop, lowest-stop}
 use Rattle.laws.proofs.Accepted.{accepted}
 use Rattle.laws.proofs.Tests.{both-true}
-use Rattle.fields.specs.Layout.{Laid}
-use Rattle.quick.specs.Good.{noneBad}
+use Rattle.table.specs.Layout.{Laid}
+use Rattle.record.specs.Good.{noneBad}
 
 -- ---- each check, on the bytes
 module _ (t : List ℕ) where

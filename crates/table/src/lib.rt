@@ -1,4 +1,6 @@
 // Whether any bytes are a power table, answers 1 to 6, and the bytes of one device's record.
+pub mod fields;
+
 use rules::Verdict;
 ghost use mathlib.Core.Path.{_≡_};
 ghost use mathlib.Core.Bool.{true, not};
@@ -9,7 +11,7 @@ ghost use Rattle.rules.specs.Answers.{passes};
 ghost use Rattle.rules.specs.Station.{countR, countD};
 ghost use Rattle.rules.specs.Table.{headerGood, countsGood, lengthGood, resourceGood, fieldsGood, deviceGood, deviceRefusal, tableVerdict};
 ghost use Rattle.rules.specs.Outcomes.{recordPart};
-ghost use Rattle.fields.specs.Layout.{Laid};
+ghost use Rattle.table.specs.Layout.{Laid};
 
 // 1: the 8 bytes, the mark, version 1 and a zero at byte 7.
 pub fn header_good(table: &[u8]) -> bool
@@ -50,7 +52,7 @@ fn resource_bad(table: &[u8], r: usize) -> bool
     requires { ⌜ Laid (now table) × (r < countR (now table)) ⌝ }
     ensures { λ b. ⌜ b ≡ not (resourceGood (now (table .entry)) r) ⌝ }
 {
-    !badfield::resource_good(table, r)
+    !record::bad::resource_good(table, r)
 }
 
 // 4: the lowest bad resource, R if none is bad.
@@ -58,7 +60,7 @@ fn lowest_resource(table: &[u8]) -> usize
     requires { ⌜ Laid (now table) ⌝ }
     ensures { λ r. ⌜ r ≡ least (λ i. not (resourceGood (now (table .entry)) i)) (countR (now (table .entry))) ⌝ }
 {
-    let n = fields::resources(table);
+    let n = crate::fields::resources(table);
     let mut i = 0;
     while i < n {
         let r = i;
@@ -75,8 +77,8 @@ fn fields_good(table: &[u8], d: usize) -> bool
     requires { ⌜ Laid (now table) × (d < countD (now table)) ⌝ }
     ensures { λ b. ⌜ b ≡ fieldsGood 4 (now (table .entry)) d ⌝ }
 {
-    let at = fields::start(table, d);
-    badfield::bad_field(table, at, d, fields::resources(table)) == 40
+    let at = crate::fields::start(table, d);
+    record::bad::bad_field(table, at, d, crate::fields::resources(table)) == 40
 }
 
 // Whether device d has a bad field, or its objects do not agree.
@@ -84,11 +86,11 @@ fn device_bad(table: &[u8], d: usize) -> bool
     requires { ⌜ Laid (now table) × (d < countD (now table)) ⌝ }
     ensures { λ b. ⌜ b ≡ not (deviceGood 4 (now (table .entry)) d) ⌝ }
 {
-    let at = fields::start(table, d);
-    if !quick::record_good(table, at, d, fields::resources(table)) {
+    let at = crate::fields::start(table, d);
+    if !record::quick::record_good(table, at, d, crate::fields::resources(table)) {
         return true;
     }
-    !quick::objects_agree(table, at)
+    !record::quick::objects_agree(table, at)
 }
 
 // 5 and 6: the lowest bad device, D if none is bad.
@@ -96,7 +98,7 @@ fn lowest_device(table: &[u8]) -> usize
     requires { ⌜ Laid (now table) ⌝ }
     ensures { λ d. ⌜ d ≡ least (λ i. not (deviceGood 4 (now (table .entry)) i)) (countD (now (table .entry))) ⌝ }
 {
-    let n = fields::devices(table);
+    let n = crate::fields::devices(table);
     let mut i = 0;
     while i < n {
         let d = i;
@@ -125,11 +127,11 @@ fn check_records(table: &[u8]) -> Verdict
     ensures { λ v. ⌜ v ≡ tableVerdict 4 (now (table .entry)) ⌝ }
 {
     let r = lowest_resource(table);
-    if r < fields::resources(table) {
+    if r < crate::fields::resources(table) {
         return Verdict::BadResource(r);
     }
     let d = lowest_device(table);
-    if d < fields::devices(table) {
+    if d < crate::fields::devices(table) {
         return refusal(table, d);
     }
     Verdict::Done(0)
@@ -173,9 +175,9 @@ pub fn record(table: &[u8], d: usize) -> &[u8]
     if !accepted(table) {
         return &table[..0];
     }
-    if d >= fields::devices(table) {
+    if d >= crate::fields::devices(table) {
         return &table[..0];
     }
-    let at = fields::start(table, d);
+    let at = crate::fields::start(table, d);
     &table[at..at + 40]
 }

@@ -1,5 +1,5 @@
 use Rattle.request.proofs.Rules.{family}
-use Rattle.sound.proofs.Keeps.{keep-laws}
+use Rattle.status.proofs.Keeps.{keep-laws}
 use borrow.Author.Needs.{needs}
 use Rattle.request.proofs.parent_allows.Statement.{statement}
 use Rattle.request.proofs.parent_allows.Tie as tie

@@ -4,8 +4,8 @@ use native.Mathlib.Omega.{arith}
 use Prim.Native.Nat.{_+_, _≤_}
 use lib.ListN.{length}
 use Rattle.rules.specs.Station.{stationOf}
-use Rattle.order.specs.Phases.{phaseWords}
-use Rattle.own.specs.Own.{ownWords}
+use Rattle.calls.specs.Phases.{phaseWords}
+use Rattle.calls.specs.Own.{ownWords}
 use Rattle.planner.proofs.Run.{runs-fit, plan-last, plan-first, written}
 use borrow.Author.Needs.{needs}
 use Rattle.planner.proofs.write.write_calls.Statement.{statement}

@@ -1,8 +1,0 @@
--- Resource r's record starts at byte 8 + 4r. Assumes nothing.
-use Rattle.records.proofs.OnBytes.{record-tests}
-use borrow.Author.Needs.{needs}
-use Rattle.badfield.proofs.resource_good.Statement.{statement}
-use Rattle.badfield.proofs.resource_good.Tie as tie
-
-pub resource-good-spec : {M : Type 1} → statement M
-resource-good-spec = tie.close (tie.spec (λ c. search needs) (λ c. search needs) (λ c κs. search needs) (λ c. search (needs, record-tests)))

@@ -1,0 +1,21 @@
+-- `calls::own::move_call` meets its contract. A law for each way out. Assumes nothing.
+use Rattle.calls.proofs.Device.{moving}
+use borrow.Author.Needs.{needs}
+use Rattle.calls.proofs.own.move_call.Statement.{statement}
+use Rattle.calls.proofs.own.move_call.Tie as tie
+
+pub move-call-spec : {M : Type 1} → statement M
+move-call-spec =
+    tie.close
+    (tie.spec
+    (λ c κs. search needs)
+    (λ c. search (needs, moving))
+    (λ c κs. search needs)
+    (λ c κs. search needs)
+    (λ c κs. search needs)
+    (λ c κs. search needs)
+    (λ c. search (needs, moving))
+    (λ c. search needs)
+    (λ c. search needs)
+    (λ c κs. search needs)
+    (λ c. search (needs, moving)))

@@ -1,8 +1,0 @@
-use Rattle.fields.proofs.Readers.{field-laws}
-use borrow.Author.Needs.{needs}
-use Rattle.fields.proofs.set.Statement.{statement}
-use Rattle.fields.proofs.set.Tie as tie
-
-pub set-spec : {M : Type 1} → statement M
-set-spec =
-    tie.close (tie.spec (λ c κs. search needs) (λ c. search needs) (λ c. search needs) (λ c. search needs) (λ c κs. search needs) (λ c. search (needs, field-laws)))

@@ -1,9 +1,0 @@
-use Rattle.fields.proofs.Readers.{field-laws}
-use borrow.Author.Needs.{needs}
-use Rattle.fields.proofs.sxd.Statement.{statement}
-use Rattle.fields.proofs.sxd.Tie as tie
-
-pub sxd-spec : {M : Type 1} → statement M
-sxd-spec =
-    tie.close
-    (tie.spec (λ c. search (needs, field-laws)) (λ c κs. search needs) (λ c. search needs) (λ c. search needs) (λ c. search needs) (λ c. search (needs, field-laws)))

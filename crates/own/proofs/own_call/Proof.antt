@@ -1,8 +1,0 @@
--- `own::own_call` meets its contract. A law for each kind of request. Assumes nothing.
-use Rattle.own.proofs.Device.{owning}
-use borrow.Author.Needs.{needs}
-use Rattle.own.proofs.own_call.Statement.{statement}
-use Rattle.own.proofs.own_call.Tie as tie
-
-pub own-call-spec : {M : Type 1} → statement M
-own-call-spec = tie.close (tie.spec (λ c κs. search needs) (λ c. search (needs, owning)) (λ c κs. search needs) (λ c. search (needs, owning)))

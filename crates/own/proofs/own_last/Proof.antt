@@ -1,8 +1,0 @@
--- `own::own_last` meets its contract. A law for each way out. Assumes nothing.
-use Rattle.own.proofs.Device.{owning}
-use borrow.Author.Needs.{needs}
-use Rattle.own.proofs.own_last.Statement.{statement}
-use Rattle.own.proofs.own_last.Tie as tie
-
-pub own-last-spec : {M : Type 1} → statement M
-own-last-spec = tie.close (tie.spec (λ c. search (needs, owning)) (λ c. search (needs, owning)) (λ c. search (needs, owning)))

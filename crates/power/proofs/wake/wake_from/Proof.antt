@@ -1,0 +1,8 @@
+-- Each way out is a law of waking. Assumes nothing.
+use borrow.Author.Needs.{needs}
+use Rattle.power.proofs.WakeLaws.{wake-laws}
+use Rattle.power.proofs.wake.wake_from.Statement.{statement}
+use Rattle.power.proofs.wake.wake_from.Tie as tie
+
+pub wake-from-spec : {M : Type 1} → statement M
+wake-from-spec = tie.close (tie.spec (λ c κs. search needs) (λ c κs. search needs) (λ c. search (needs, wake-laws)) (λ c. search (needs, wake-laws)))

@@ -1,0 +1,3 @@
+pub mod OnBytes
+pub mod FirstBad
+pub mod NoneBad

@@ -1,0 +1,11 @@
+-- The first part of the record with a bad field has the answer. Assumes nothing.
+use Rattle.record.proofs.FirstBad.{parts}
+use borrow.Author.Needs.{needs}
+use Rattle.record.proofs.bad.bad_field.Statement.{statement}
+use Rattle.record.proofs.bad.bad_field.Tie as tie
+
+pub bad-field-spec : {M : Type 1} → statement M
+bad-field-spec =
+    tie.close
+    (tie.spec (λ c κs. search needs) (λ c. search (needs, parts)) (λ c κs. search needs) (λ c. search (needs, parts)) (λ c κs. search needs)
+    (λ c. search (needs, parts)) (λ c κs. search needs) (λ c. search (needs, parts)) (λ c κs. search needs) (λ c. search (needs, parts)))

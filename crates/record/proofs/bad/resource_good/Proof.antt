@@ -1,0 +1,8 @@
+-- Resource r's record starts at byte 8 + 4r. Assumes nothing.
+use Rattle.record.proofs.OnBytes.{record-tests}
+use borrow.Author.Needs.{needs}
+use Rattle.record.proofs.bad.resource_good.Statement.{statement}
+use Rattle.record.proofs.bad.resource_good.Tie as tie
+
+pub resource-good-spec : {M : Type 1} → statement M
+resource-good-spec = tie.close (tie.spec (λ c. search needs) (λ c. search needs) (λ c κs. search needs) (λ c. search (needs, record-tests)))

@@ -1,8 +1,0 @@
--- The two tests of the byte are the rule. Assumes nothing.
-use Rattle.records.proofs.OnBytes.{record-tests}
-use borrow.Author.Needs.{needs}
-use Rattle.records.proofs.parent_good.Statement.{statement}
-use Rattle.records.proofs.parent_good.Tie as tie
-
-pub parent-good-spec : {M : Type 1} → statement M
-parent-good-spec = tie.close (tie.spec (λ c. search needs) (λ c. search needs) (λ c. search (needs, record-tests)))

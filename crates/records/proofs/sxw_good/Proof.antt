@@ -1,8 +1,0 @@
--- The byte is `_SxW`, and the two tests of it are the rule. Assumes nothing.
-use Rattle.records.proofs.OnBytes.{record-tests}
-use borrow.Author.Needs.{needs}
-use Rattle.records.proofs.sxw_good.Statement.{statement}
-use Rattle.records.proofs.sxw_good.Tie as tie
-
-pub sxw-good-spec : {M : Type 1} → statement M
-sxw-good-spec = tie.close (tie.spec (λ c. search needs) (λ c. search needs) (λ c. search needs) (λ c. search (needs, record-tests)))

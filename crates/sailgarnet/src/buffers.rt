@@ -1,0 +1,96 @@
+// Plans and lists as bytes, four a word, lowest first.
+use rules::Request;
+use rules::Verdict;
+ghost use mathlib.Core.Path.{_≡_};
+ghost use mathlib.Core.Bool.{_&&_};
+ghost use Prim.Native.Nat.{_*_, _/_, _%_, _≤_};
+ghost use lib.Dec.{eqb};
+ghost use lib.ListN.{length, take};
+ghost use Rattle.rules.specs.Station.{stationOf};
+ghost use Rattle.rules.specs.Status.{statusOf};
+ghost use Rattle.rules.specs.Check.{conforming};
+ghost use Rattle.planner.specs.After.{Asked};
+ghost use Rattle.rules.specs.Outcomes.{planBytes, checkBytes};
+ghost use Rattle.laws.specs.Demand3.{Demand3Bytes};
+ghost use Rattle.words.specs.Words.{put, wordBytes, byteWords};
+
+// The first n words, written from the start of the bytes.
+pub fn write_words(from: &[u32], n: usize, out: &mut [u8])
+    requires { ⌜ (n ≤ 33) × (n ≤ length (now from)) × (4 * n ≤ length (now out)) ⌝ }
+    ensures { λ _. ⌜ now (out .exit) ≡ put (now (out .entry)) 0 (wordBytes (take n (now (from .entry)))) ⌝ }
+{
+    let mut i = 0;
+    while i < n {
+        words::write32(out, 4 * i, from[i]);
+        i += 1;
+    }
+}
+
+// Room for the longest lawful call list.
+pub type Calls = [u32; 33];
+
+// The first n words of the bytes; what follows them is not looked at.
+pub fn read_words(from: &[u8], n: usize) -> Calls
+    requires { ⌜ (n ≤ 33) × (4 * n ≤ length (now from)) ⌝ }
+    ensures { λ r. ⌜ take n r ≡ byteWords n (now (from .entry)) ⌝ }
+{
+    let mut out = [0u32; 33];
+    let mut i = 0;
+    while i < n {
+        out[i] = words::read32(from, 4 * i);
+        i += 1;
+    }
+    out
+}
+
+// Plans one request on a plan of bytes.
+pub fn plan_bytes(table: &[u8], state: &mut [u8], q: Request, plan: &mut [u8]) -> Verdict
+    ensures { λ r. ⌜ (r ≡ planBytes 4 (now (table .entry)) (now (state .entry)) q (now (plan .entry)) .verdict) × (now (state .exit) ≡ planBytes 4 (now (table .entry)) (now (state .entry)) q (now (plan .entry)) .state) × (now (plan .exit) ≡ planBytes 4 (now (table .entry)) (now (state .entry)) q (now (plan .entry)) .plan) ⌝ }
+{
+    if !table::header_good(table) {
+        return Verdict::NotATable;
+    }
+    let room = plan.len() >= 132;
+    let v = request::stages::past_header(table, state, room, q);
+    if !rules::passes(v) {
+        return v;
+    }
+    let mut calls = [0u32; 33];
+    let n = planner::plan::carry(table, state, q, &mut calls);
+    write_words(&calls, n, plan);
+    Verdict::Done(n)
+}
+
+// Whether a list of bytes is that of a request which has passed every check.
+fn lawful(table: &[u8], state: &[u8], q: Request, list: &[u8]) -> bool
+    requires { ⌜ Asked (now table) (now state) q ⌝ }
+    ensures { λ r. ⌜ r ≡ eqb (length (now (list .entry)) % 4) 0 && conforming (stationOf 4 (now (table .entry))) (statusOf 4 (now (state .entry))) q (byteWords (length (now (list .entry)) / 4) (now (list .entry))) ⌝ }
+{
+    if list.len() % 4 != 0 {
+        return false;
+    }
+    let n = list.len() / 4;
+    if n > 33 {
+        return false;
+    }
+    let calls = read_words(list, n);
+    checker::check::conforming(table, state, q, &calls[..n])
+}
+
+// The checker on a list of bytes. What it passes keeps demand 3.
+pub fn check_bytes(table: &[u8], state: &[u8], q: Request, list: &[u8]) -> Verdict
+    ensures answer { λ r. ⌜ r ≡ checkBytes 4 (now (table .entry)) (now (state .entry)) q (now (list .entry)) ⌝ }
+    ensures demand { λ _. ⌜ Demand3Bytes 4 (now (table .entry)) (now (state .entry)) q (now (list .entry)) ⌝ }
+{
+    if !table::header_good(table) {
+        return Verdict::NotATable;
+    }
+    let v = request::stages::past_header(table, state, true, q);
+    if !rules::passes(v) {
+        return v;
+    }
+    if !lawful(table, state, q, list) {
+        return Verdict::NotConforming;
+    }
+    Verdict::Done(0)
+}

@@ -1,9 +1,0 @@
--- The rules apart from power, then power. Assumes nothing.
-use Rattle.sound.proofs.Keeps.{keep-laws}
-use borrow.Author.Needs.{needs}
-use Rattle.sound.proofs.consistent.Statement.{statement}
-use Rattle.sound.proofs.consistent.Tie as tie
-
-pub consistent-spec : {M : Type 1} → statement M
-consistent-spec =
-    tie.close (tie.spec (λ c κs. search needs) (λ c. search (needs, keep-laws)) (λ c κs. search needs) (λ c. search (needs, keep-laws)))

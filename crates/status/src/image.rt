@@ -1,0 +1,79 @@
+// The state image as a state by value and back, and a device's entry in it.
+ghost use mathlib.Core.Path.{_≡_};
+ghost use Prim.Native.Nat.{_<_, _≤_};
+ghost use lib.ListN.{length};
+ghost use Rattle.rules.specs.Status.{entriesOf};
+ghost use Rattle.status.specs.State.{stateOf, bytesOf, freshState, withEntry};
+
+// Every device in D0, none armed, the given number of resources on.
+pub fn fresh_state(resources: u32) -> rules::State
+    requires { ⌜ resources ≤ 32 ⌝ }
+    ensures { λ r. ⌜ r ≡ freshState resources ⌝ }
+{
+    let on = sets::first_n(resources);
+    rules::State {
+        devices: [0u8; 128],
+        on,
+    }
+}
+
+// The state that an image holds.
+pub fn load(image: &[u8]) -> rules::State
+    requires { ⌜ length (now image) ≡ 132 ⌝ }
+    ensures { λ r. ⌜ r ≡ stateOf (now (image .entry)) ⌝ }
+{
+    let blank = fresh_state(0);
+    let mut devices = blank.devices;
+    let mut i = 0;
+    while i < 128 {
+        devices[i] = image[i];
+        i += 1;
+    }
+    let on = words::read32(image, 128);
+    rules::State { devices, on }
+}
+
+// The state's image, written over all of the lent bytes.
+pub fn store(state: rules::State, image: &mut [u8])
+    requires { ⌜ length (now image) ≡ 132 ⌝ }
+    ensures { λ _. ⌜ now (image .exit) ≡ bytesOf state ⌝ }
+{
+    let devices = state.devices;
+    let mut i = 0;
+    while i < 128 {
+        image[i] = devices[i];
+        i += 1;
+    }
+    words::write32(image, 128, state.on);
+}
+
+// Device d's entry, of bytes that start with the device part.
+pub fn entry(devices: &[u8], d: usize) -> rules::Entry
+    requires { ⌜ (128 ≤ length (now devices)) × (d < 32) ⌝ }
+    ensures { λ r. ⌜ r ≡ entriesOf 4 (now (devices .entry)) d ⌝ }
+{
+    let at = 4 * d;
+    rules::Entry {
+        state: devices[at],
+        armed: devices[at + 1],
+        sleep: devices[at + 2],
+        wake: devices[at + 3],
+    }
+}
+
+// The state with another entry for device d.
+pub fn with_entry(state: rules::State, d: usize, e: rules::Entry) -> rules::State
+    requires { ⌜ d < 32 ⌝ }
+    ensures { λ r. ⌜ r ≡ withEntry state d e ⌝ }
+{
+    let mut devices = state.devices;
+    let at = 4 * d;
+    devices[at] = e.state;
+    devices[at + 1] = e.armed;
+    devices[at + 2] = e.sleep;
+    devices[at + 3] = e.wake;
+    rules::State {
+        devices,
+        on: state.on,
+    }
+}

@@ -1,0 +1,8 @@
+use Rattle.table.proofs.Readers.{field-laws}
+use borrow.Author.Needs.{needs}
+use Rattle.table.proofs.fields.set.Statement.{statement}
+use Rattle.table.proofs.fields.set.Tie as tie
+
+pub set-spec : {M : Type 1} → statement M
+set-spec =
+    tie.close (tie.spec (λ c κs. search needs) (λ c. search needs) (λ c. search needs) (λ c. search needs) (λ c κs. search needs) (λ c. search (needs, field-laws)))

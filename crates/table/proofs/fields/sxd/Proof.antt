@@ -1,0 +1,9 @@
+use Rattle.table.proofs.Readers.{field-laws}
+use borrow.Author.Needs.{needs}
+use Rattle.table.proofs.fields.sxd.Statement.{statement}
+use Rattle.table.proofs.fields.sxd.Tie as tie
+
+pub sxd-spec : {M : Type 1} → statement M
+sxd-spec =
+    tie.close
+    (tie.spec (λ c. search (needs, field-laws)) (λ c κs. search needs) (λ c. search needs) (λ c. search needs) (λ c. search needs) (λ c. search (needs, field-laws)))

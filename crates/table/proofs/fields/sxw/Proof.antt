@@ -1,0 +1,8 @@
+use Rattle.table.proofs.Readers.{field-laws}
+use borrow.Author.Needs.{needs}
+use Rattle.table.proofs.fields.sxw.Statement.{statement}
+use Rattle.table.proofs.fields.sxw.Tie as tie
+
+pub sxw-spec : {M : Type 1} → statement M
+sxw-spec =
+    tie.close (tie.spec (λ c κs. search needs) (λ c. search needs) (λ c. search needs) (λ c. search needs) (λ c. search (needs, field-laws)))

@@ -1,8 +1,0 @@
--- The on-set is below 2 to the R-th. Assumes nothing.
-use Rattle.values.proofs.Ranges.{on-is}
-use borrow.Author.Needs.{needs}
-use Rattle.values.proofs.on_good.Statement.{statement}
-use Rattle.values.proofs.on_good.Tie as tie
-
-pub on-good-spec : {M : Type 1} → statement M
-on-good-spec = tie.close (tie.spec (λ c κs. search needs) (λ c. search needs) (λ c κs. search needs) (λ c. search (needs, on-is)))

@@ -1,8 +1,0 @@
--- A resource that the table does not have sets no limit. Assumes nothing.
-use borrow.Author.Needs.{needs}
-use Rattle.wake.proofs.WakeLaws.{wake-laws}
-use Rattle.wake.proofs.powered.Statement.{statement}
-use Rattle.wake.proofs.powered.Tie as tie
-
-pub powered-spec : {M : Type 1} → statement M
-powered-spec = tie.close (tie.spec (λ c κs. search needs) (λ c κs. search needs) (λ c. search (needs, wake-laws)) (λ c. search (needs, wake-laws)))

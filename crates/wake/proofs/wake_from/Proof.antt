@@ -1,8 +1,0 @@
--- Each way out is a law of waking. Assumes nothing.
-use borrow.Author.Needs.{needs}
-use Rattle.wake.proofs.WakeLaws.{wake-laws}
-use Rattle.wake.proofs.wake_from.Statement.{statement}
-use Rattle.wake.proofs.wake_from.Tie as tie
-
-pub wake-from-spec : {M : Type 1} → statement M
-wake-from-spec = tie.close (tie.spec (λ c κs. search needs) (λ c κs. search needs) (λ c. search (needs, wake-laws)) (λ c. search (needs, wake-laws)))
