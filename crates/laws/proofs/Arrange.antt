@@ -17,7 +17,7 @@ use Rattle.rules.specs.Station.{Station}
 use Rattle.rules.specs.declared.Entry.{Entry}
 use Rattle.rules.specs.Status.{Status}
 use Rattle.rules.specs.Request.{isMove, isArm}
-use Rattle.rules.specs.Calls.{wordOf, only, methodFor, moveCall, wakeCall, ownCall, ownLast, endSet, toTurnOn, toTurnOff, arrange}
+use Rattle.rules.specs.Calls.{wordOf, listOf, only, methodFor, moveCall, wakeCall, ownCall, ownLast, endSet, toTurnOn, toTurnOff, arrange}
 use Rattle.rules.specs.Conforms.{times, EachOnce, Conforms}
 use Rattle.rules.specs.Check.{ownFirstCalls, ownLastCalls}
 use Rattle.laws.specs.Carried.{All, Other, hasIn, listed, Arranged, Carried}
@@ -28,17 +28,17 @@ use Rattle.laws.proofs.Conform.{by-phase}
 
 -- the words of an arranged list of calls
 pub arranged-words : (s : Station) (st : Status) (q : Request) (ons offs : List ℕ)
-    → map wordOf (arrange (ownLast q) (ownCall s (st .entries (q .device)) q) ons offs) ≡ listed (map wordOf (ownFirstCalls s st q)) ons offs (map wordOf (ownLastCalls s st q))
+    → map wordOf (arrange (ownLast q) (listOf (ownCall s (st .entries (q .device)) q)) ons offs) ≡ listed (map wordOf (ownFirstCalls s st q)) ons offs (map wordOf (ownLastCalls s st q))
 arranged-words s st q ons offs = by-phase s st q ons offs ∙ simp (append-assoc, append-nil)
 
 -- ---- the own call is neither `_ON` nor `_OFF`
 
-only-other : (b : Bool) (c : Call) → Other (wordOf c) → All Other (map wordOf (only b c))
-unfolding only All
+only-other : (b : Bool) (c : Call) → Other (wordOf c) → All Other (map wordOf (listOf (only b c)))
+unfolding only listOf All
 only-other true c h = (h, tt)
 only-other false c h = tt
 
-pub own-other : (s : Station) (e : Entry) (q : Request) → All Other (map wordOf (ownCall s e q))
+pub own-other : (s : Station) (e : Entry) (q : Request) → All Other (map wordOf (listOf (ownCall s e q)))
 unfolding ownCall moveCall wakeCall
 own-other s e q =
     decide (isMove q) (λ m. rw m (only-other _ (SetState (q .device) (methodFor (q .a))) (omega arith)))

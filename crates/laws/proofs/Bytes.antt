@@ -22,7 +22,7 @@ use Rattle.rules.specs.Station.{Station, width, limit, stationOf, station}
 use Rattle.rules.specs.declared.Entry.{Entry}
 use Rattle.rules.specs.Status.{status}
 use Rattle.rules.specs.Request.{formGood}
-use Rattle.rules.specs.Calls.{wordOf, only, methodFor, moveCall, wakeCall, ownCall, ownLast, toTurnOn, toTurnOff, calls}
+use Rattle.rules.specs.Calls.{wordOf, listOf, only, methodFor, moveCall, wakeCall, ownCall, ownLast, toTurnOn, toTurnOff, calls}
 use Rattle.rules.specs.Check.{onWord, offWord, ownFirstCalls, ownLastCalls}
 use Rattle.rules.specs.Outcomes.{outcome, planRoom, planned, planBytes, checkWords, checkBytes}
 use Rattle.rules.proofs.Answers.{first-both, unless-at}
@@ -42,8 +42,8 @@ use Rattle.laws.proofs.Demand3.{number-passes, few, end-lt, on-lt, plan
 abbrev Fits : ℕ → Type 0
 Fits x = x < 2 ^ 32
 
-only-fits : (b : Bool) (c : Call) → Fits (wordOf c) → All Fits (map wordOf (only b c))
-unfolding only All
+only-fits : (b : Bool) (c : Call) → Fits (wordOf c) → All Fits (map wordOf (listOf (only b c)))
+unfolding only listOf All
 only-fits true c h = (h, tt)
 only-fits false c h = tt
 
@@ -51,7 +51,7 @@ method-small : (x : ℕ) → x ≤ 4 → methodFor x ≤ 4
 unfolding methodFor
 method-small x h = decide (eqb x 4) (λ e. rw e (omega arith)) (λ e. rw e h)
 
-own-fits : (s : Station) (e : Entry) (q : Request) → q .device < 256 → Kinds q → All Fits (map wordOf (ownCall s e q))
+own-fits : (s : Station) (e : Entry) (q : Request) → q .device < 256 → Kinds q → All Fits (map wordOf (listOf (ownCall s e q)))
 unfolding ownCall moveCall wakeCall Kinds
 own-fits s e q d k =
     ⊎-elim (λ m. rw (m .0) (only-fits _ (SetState (q .device) (methodFor (q .a))) (omega (arith, method-small (q .a) (leb-true _ _ (m .1))))))
@@ -63,7 +63,7 @@ module _ (t b : List ℕ) (q : Request) (g : Stages t b q) where
   form : formGood (station t) q ≡ true
   form = form-passed (station t) _ q (g .request)
 
-  own : All Fits (map wordOf (ownCall (station t) (status t b .entries (q .device)) q))
+  own : All Fits (map wordOf (listOf (ownCall (station t) (status t b .entries (q .device)) q)))
   own =
       let most : station t .devices ≤ limit (width t) = unfold stationOf in accepted t (g .table) .devices in
       own-fits (station t) (status t b .entries (q .device)) q (omega (arith, form-device (station t) q form, width-wide t .high)) (kinds (station t) q form)

@@ -11,7 +11,7 @@ use Rattle.sets.proofs.Laws.{decide}
 use Rattle.rules.specs.Station.{Station}
 use Rattle.rules.specs.Status.{Status}
 use Rattle.rules.specs.declared.Request.{Request}
-use Rattle.rules.specs.Calls.{word4, wordOf, ownCall, ownLast, toTurnOn, toTurnOff, orderIn, turnOn, turnOff, arrange, calls}
+use Rattle.rules.specs.Calls.{word4, wordOf, listOf, ownCall, ownLast, toTurnOn, toTurnOff, orderIn, turnOn, turnOff, arrange, calls}
 use Rattle.rules.specs.Conforms.{Conforms}
 use Rattle.rules.specs.Check.{Rest, left, refused, andThen, resourceIn, onWord, offWord, notLower, notHigher, ownFirstCalls, ownLastCalls, isEnd, conforming}
 use Rattle.laws.proofs.Chain.{chain-iff, rises-chained, falls-chained}
@@ -44,7 +44,7 @@ end-of x e = rw e
 ruleset regroup = (map-append, map-map, append-assoc, append-nil)
 
 pub by-phase : (s : Station) (st : Status) (q : Request) (ons offs : List ℕ)
-    → map wordOf (arrange (ownLast q) (ownCall s (st .entries (q .device)) q) ons offs)
+    → map wordOf (arrange (ownLast q) (listOf (ownCall s (st .entries (q .device)) q)) ons offs)
     ≡ map wordOf (ownFirstCalls s st q) ++ (map onWord ons ++ (map offWord offs ++ (map wordOf (ownLastCalls s st q) ++ [])))
 unfolding arrange ownFirstCalls ownLastCalls
 by-phase s st q ons offs =
@@ -54,7 +54,7 @@ by-phase s st q ons offs =
 
 joined : (s : Station) (st : Status) (q : Request) (ons offs ws a b c : List ℕ)
     → ws ≡ map wordOf (ownFirstCalls s st q) ++ a → a ≡ map onWord ons ++ b → b ≡ map offWord offs ++ c → c ≡ map wordOf (ownLastCalls s st q) ++ []
-    → ws ≡ map wordOf (arrange (ownLast q) (ownCall s (st .entries (q .device)) q) ons offs)
+    → ws ≡ map wordOf (arrange (ownLast q) (listOf (ownCall s (st .entries (q .device)) q)) ons offs)
 joined s st q ons offs ws a b c p on off l = p ∙ rw (on, off, l) (sym (by-phase s st q ons offs))
 
 -- the second byte of an `_ON` or `_OFF` word

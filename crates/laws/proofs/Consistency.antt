@@ -13,7 +13,7 @@ use Rattle.rules.specs.Station.{Station}
 use Rattle.rules.specs.declared.Entry.{Entry}
 use Rattle.rules.specs.Power.{supported, wakeFrom, wakePowered, wakeState}
 use Rattle.rules.specs.Status.{parentAllows, wakeConsistent, consistentButPower, powered}
-use Rattle.rules.specs.Request.{notShallowerOrD0, childBars, wakeAllows, moveVerdict, armVerdict, newEntry, entriesAfter}
+use Rattle.rules.specs.Request.{notShallowerOrD0, childBars, wakeAllows, moveVerdict, armVerdict, newEntry, replaceEntry, entriesAfter}
 use Rattle.rules.proofs.Answers.{first-both, unless-at, refused-stops, lowest-at}
 use Rattle.laws.proofs.Tests.{both-true}
 
@@ -78,9 +78,9 @@ apart-is s entries d a = rw (a .known, a .under, a .wake) refl
 -- ---- the entries after
 
 pub after-same : (entries : ℕ → Entry) (q : Request) → entriesAfter entries q (q .device) ≡ newEntry (entries (q .device)) q
-unfolding entriesAfter
+unfolding replaceEntry
 after-same entries q = rw (eq-eqb (q .device) (q .device) refl) refl
 
 pub after-other : (entries : ℕ → Entry) (q : Request) (k : ℕ) → (k ≡ q .device → ⊥) → entriesAfter entries q k ≡ entries k
-unfolding entriesAfter
+unfolding replaceEntry
 after-other entries q k h = rw (ne-eqb k (q .device) h) refl

@@ -14,6 +14,7 @@ use Rattle.sets.proofs.Laws.{decide, minus-lt, subset-at}
 use Rattle.words.proofs.Put.{take-put}
 use Rattle.rules.specs.declared.Request.{Request}
 use Rattle.rules.specs.declared.Call.{Call}
+use Rattle.rules.specs.declared.OptionalCall.the-variants.{Is}
 use Rattle.rules.specs.declared.Verdict.{Verdict}
 use Rattle.rules.specs.declared.Verdict.the-variants.{Done, Refused}
 use Rattle.rules.specs.declared.Reason.the-variants.{NotConforming}
@@ -23,7 +24,7 @@ use Rattle.rules.specs.declared.Entry.{Entry}
 use Rattle.rules.specs.Power.{needs, needed}
 use Rattle.rules.specs.Status.{status}
 use Rattle.rules.specs.Request.{requestVerdict, entriesAfter}
-use Rattle.rules.specs.Calls.{wordOf, ownCall, ownLast, endSet, toTurnOn, toTurnOff}
+use Rattle.rules.specs.Calls.{wordOf, listOf, ownCall, ownLast, endSet, toTurnOn, toTurnOff}
 use Rattle.rules.specs.Conforms.{Conforms}
 use Rattle.rules.specs.Check.{conforming, ownFirstCalls, ownLastCalls, onWord, offWord}
 use Rattle.rules.specs.Execution.{execution}
@@ -148,8 +149,8 @@ module _ (t b : List ℕ) (q : Request) (g : Stages t b q) where
       (other-place first (c .ons) (c .offs) last n (rw same at o)))
 
 -- the own call's word is neither `_ON` nor `_OFF`
-other-word : (s : Station) (e : Entry) (q : Request) (c : Call) → ownCall s e q ≡ c ∷ [] → Other (wordOf c)
-unfolding All
+other-word : (s : Station) (e : Entry) (q : Request) (c : Call) → ownCall s e q ≡ Is c → Other (wordOf c)
+unfolding listOf All
 other-word s e q c one = (rw one at (own-other s e q)) .0
 
 -- the first words of an accepted plan, as many as its count, are the planner's list

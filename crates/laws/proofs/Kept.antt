@@ -83,8 +83,10 @@ module _ (s : Station) (rules : StationRules s) (entries : ℕ → Entry) (q : R
 
   -- ---- arming and disarming
   unmoved : isMove q ≡ false → (k : ℕ) → entriesAfter entries q k .state ≡ entries k .state
-  unfolding entriesAfter newEntry
-  unmoved m k = decide (eqb k (q .device)) (λ z. rw (z, m) (decide (isArm q) (λ y. rw y refl) (λ y. rw y refl))) (λ z. rw z refl)
+  unfolding newEntry
+  unmoved m k =
+      decide (eqb k (q .device)) (λ z. rw (eqb-true k (q .device) z, after-same entries q, m) (decide (isArm q) (λ y. rw y refl) (λ y. rw y refl)))
+      (λ z. rw (after-other entries q k (eqb-false k (q .device) z)) refl)
 
   armed-wake : isMove q ≡ false → isArm q ≡ true → Arms s entries (q .device) (q .a) (q .b) → wakeConsistent s (q .device) (newEntry (entries (q .device)) q) ≡ true
   unfolding newEntry wakeConsistent wakePair

@@ -2,7 +2,7 @@
 use Prim.Native.Nat.{ℕ, _*_, _/_, _%_, _<_}
 use mathlib.Core.Path.{_≡_}
 use mathlib.Core.Bool.{Bool, true, cond}
-use mathlib.Core.List.{List, [], _∷_}
+use mathlib.Core.List.{List}
 use mathlib.Core.Logic.{_↔_}
 use lib.Dec.{eqb}
 use lib.ListN.{length, getD, take}
@@ -11,6 +11,7 @@ use Rattle.words.specs.Words.{byteWords}
 use Rattle.rules.specs.declared.Entry.{Entry}
 use Rattle.rules.specs.declared.Request.{Request}
 use Rattle.rules.specs.declared.Call.{Call}
+use Rattle.rules.specs.declared.OptionalCall.the-variants.{Is}
 use Rattle.rules.specs.Answers.{numberOf, countOf}
 use Rattle.rules.specs.Station.{station}
 use Rattle.rules.specs.Power.{needs, needed}
@@ -54,7 +55,7 @@ pub record Demand3 (t b : List ℕ) (q : Request) (ws : List ℕ) : Type 0 where
   -- at the start and after every word, what is needed before and after is on
   pub keeps : Passed t b q ws → (n r : ℕ) → member (neededBefore t b) r ≡ true → member (neededAfter t b q) r ≡ true → onAfter t b ws n r ≡ true
   -- wherever the device's own method stands, it finds its needs on
-  pub own : Passed t b q ws → (c : Call) → ownCall (station t) (status t b .entries (q .device)) q ≡ c ∷ [] → (n : ℕ) → n < length ws → getD ws n 0 ≡ wordOf c
+  pub own : Passed t b q ws → (c : Call) → ownCall (station t) (status t b .entries (q .device)) q ≡ Is c → (n : ℕ) → n < length ws → getD ws n 0 ≡ wordOf c
       → (r : ℕ) → member (ownNeeds t b q) r ≡ true → onAfter t b ws n r ≡ true
   -- the list ends with exactly the needed set
   pub ends : Passed t b q ws → (r : ℕ) → execution (member (status t b .on)) ws r ≡ member (neededAfter t b q) r

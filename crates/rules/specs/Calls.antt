@@ -13,9 +13,10 @@ use Rattle.rules.specs.declared.OptionalCall.{OptionalCall}
 use Rattle.rules.specs.declared.OptionalCall.the-variants.{Is, NoCall}
 use Rattle.rules.specs.Station.{Station, hasPS, hasDSW}
 use Rattle.rules.specs.declared.Entry.{Entry}
+use Rattle.rules.specs.declared.Change.{Change}
 use Rattle.rules.specs.Power.{isArmed, needed}
 use Rattle.rules.specs.Status.{Status}
-use Rattle.rules.specs.Request.{isMove, isArm, entriesAfter}
+use Rattle.rules.specs.Request.{isMove, isArm, newEntry, entriesAfter}
 
 -- the word with these bytes, lowest first
 abbrev pub word4 : ℕ → ℕ → ℕ → ℕ → ℕ
@@ -48,9 +49,14 @@ callOfBytes a b c d =
 unfoldable pub callOf : ℕ → OptionalCall
 callOf w = callOfBytes (w % 0x100) (w / 0x100 % 0x100) (w / 0x1_0000 % 0x100) (w / 0x100_0000)
 
--- a call or none
-unfoldable pub only : Bool → Call → List Call
-only b c = cond b (c ∷ []) []
+-- a call, or none, as a list
+unfoldable pub listOf : OptionalCall → List Call
+listOf (Is c) = c ∷ []
+listOf NoCall = []
+
+-- the call where the test holds
+unfoldable pub only : Bool → Call → OptionalCall
+only b c = cond b (Is c) NoCall
 
 -- the method that brings a device to state x: `_PSx`, and `_PS3` for D3cold
 unfoldable pub methodFor : ℕ → ℕ
@@ -61,17 +67,17 @@ unfoldable pub callsMethod : ℕ → ℕ → Bool
 callsMethod state x = not (eqb x state) && not (eqb state 3 && eqb x 4)
 
 -- `_PSx` if the move calls a method and that method exists
-unfoldable pub moveCall : Station → Entry → ℕ → ℕ → List Call
+unfoldable pub moveCall : Station → Entry → ℕ → ℕ → OptionalCall
 moveCall s e d x = only (callsMethod (e .state) x && hasPS (s .device d) (methodFor x)) (SetState d (methodFor x))
 
 -- on arming, `_DSW` on if present; on disarming, `_DSW` off if present and it was armed
-unfoldable pub wakeCall : Station → Entry → Request → List Call
+unfoldable pub wakeCall : Station → Entry → Request → OptionalCall
 wakeCall s e q =
     cond (isArm q) (only (hasDSW (s .device (q .device))) (SetWake (q .device) (Enable (q .a) (q .b))))
     (only (hasDSW (s .device (q .device)) && isArmed e) (SetWake (q .device) Disable))
 
 -- the own call of the request's device, whose entry is e
-unfoldable pub ownCall : Station → Entry → Request → List Call
+unfoldable pub ownCall : Station → Entry → Request → OptionalCall
 ownCall s e q = cond (isMove q) (moveCall s e (q .device) (q .a)) (wakeCall s e q)
 
 -- moving to D0, or arming: the own call comes last; moving deeper, or disarming: first
@@ -125,8 +131,20 @@ arrange last own ons offs = cond last (map ResourceOn ons ++ map ResourceOff off
 
 -- the planner's list
 unfoldable pub calls : Station → Status → Request → List Call
-calls s st q = arrange (ownLast q) (ownCall s (st .entries (q .device)) q) (turnOn s st q) (turnOff s st q)
+calls s st q = arrange (ownLast q) (listOf (ownCall s (st .entries (q .device)) q)) (turnOn s st q) (turnOff s st q)
 
 -- the status after an accepted request: the new entry, the others as before, and exactly the needed set on
 unfoldable pub statusAfter : Station → Status → Request → Status
 statusAfter s st q = record { entries = entriesAfter (st .entries) q; on = endSet s (st .entries) q }
+
+-- the same as one value
+abbrev pub changeOf : Station → Status → Request → Change
+changeOf s st q =
+    record {
+      entry = newEntry (st .entries (q .device)) q;
+      needed = endSet s (st .entries) q;
+      on = toTurnOn s st q;
+      off = toTurnOff s st q;
+      own = ownCall s (st .entries (q .device)) q;
+      last = ownLast q;
+    }

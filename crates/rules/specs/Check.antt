@@ -10,7 +10,7 @@ use Rattle.rules.specs.declared.Call.the-variants.{ResourceOn, ResourceO
 use Rattle.rules.specs.declared.Request.{Request}
 use Rattle.rules.specs.Station.{Station}
 use Rattle.rules.specs.Status.{Status}
-use Rattle.rules.specs.Calls.{wordOf, ownCall, ownLast, toTurnOn, toTurnOff, orderIn}
+use Rattle.rules.specs.Calls.{wordOf, listOf, ownCall, ownLast, toTurnOn, toTurnOff, orderIn}
 
 -- what is left of a list once a phase has taken its words, or that it cannot
 pub data Rest : Type 0 where
@@ -63,10 +63,10 @@ notHigher s last r = leb (orderIn s r) (orderIn s last)
 
 -- the own call where it stands first or last, none elsewhere
 unfoldable pub ownFirstCalls : Station → Status → Request → List Call
-ownFirstCalls s st q = cond (ownLast q) [] (ownCall s (st .entries (q .device)) q)
+ownFirstCalls s st q = cond (ownLast q) [] (listOf (ownCall s (st .entries (q .device)) q))
 
 unfoldable pub ownLastCalls : Station → Status → Request → List Call
-ownLastCalls s st q = cond (ownLast q) (ownCall s (st .entries (q .device)) q) []
+ownLastCalls s st q = cond (ownLast q) (listOf (ownCall s (st .entries (q .device)) q)) []
 
 unfoldable pub isEnd : Rest → Bool
 isEnd (left []) = true

@@ -8,7 +8,7 @@ use Rattle.sets.specs.Sets.{member}
 use Rattle.rules.specs.declared.Request.{Request}
 use Rattle.rules.specs.Station.{Station}
 use Rattle.rules.specs.Status.{Status}
-use Rattle.rules.specs.Calls.{wordOf, ownCall, ownLast, toTurnOn, toTurnOff, orderIn, arrange}
+use Rattle.rules.specs.Calls.{wordOf, listOf, ownCall, ownLast, toTurnOn, toTurnOff, orderIn, arrange}
 
 -- how often r stands in a list
 unfoldable pub times : ℕ → List ℕ → ℕ
@@ -34,7 +34,7 @@ Falls order (x ∷ y ∷ l) = (order y ≤ order x) × Falls order (y ∷ l)
 pub record Conforms (s : Station) (st : Status) (q : Request) (words : List ℕ) : Type 0 where
   pub ons : List ℕ
   pub offs : List ℕ
-  pub whole : words ≡ map wordOf (arrange (ownLast q) (ownCall s (st .entries (q .device)) q) ons offs)
+  pub whole : words ≡ map wordOf (arrange (ownLast q) (listOf (ownCall s (st .entries (q .device)) q)) ons offs)
   pub onsOnce : EachOnce (toTurnOn s st q) ons
   pub offsOnce : EachOnce (toTurnOff s st q) offs
   pub onsRise : Rises (orderIn s) ons

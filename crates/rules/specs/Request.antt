@@ -82,6 +82,10 @@ newEntry e q =
     (cond (isArm q) (record { state = e .state; armed = 1; sleep = q .a; wake = q .b })
     (record { state = e .state; armed = 0; sleep = 0; wake = 0 }))
 
+-- the entries with another one for device d
+unfoldable pub replaceEntry : (ℕ → Entry) → ℕ → Entry → ℕ → Entry
+replaceEntry entries d e k = cond (eqb k d) e (entries k)
+
 -- the entries after the request: the device's new one, the others as before
-unfoldable pub entriesAfter : (ℕ → Entry) → Request → ℕ → Entry
-entriesAfter entries q k = cond (eqb k (q .device)) (newEntry (entries k) q) (entries k)
+abbrev pub entriesAfter : (ℕ → Entry) → Request → ℕ → Entry
+entriesAfter entries q = replaceEntry entries (q .device) (newEntry (entries (q .device)) q)

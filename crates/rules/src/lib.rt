@@ -43,6 +43,17 @@ pub struct Entry {
     pub wake: u8,
 }
 
+// What a permitted request does: the device's new entry, the set needed afterwards, what is to be turned on and off, the device's own call, and whether
+// that comes last.
+pub struct Change {
+    pub entry: Entry,
+    pub needed: u32,
+    pub on: u32,
+    pub off: u32,
+    pub own: OptionalCall,
+    pub last: bool,
+}
+
 // The state image: four bytes a device, and the set of the resources that are on.
 pub struct State {
     pub devices: [u8; 128],
