@@ -107,7 +107,7 @@ pub device-at : (w : ℕ) (t : List ℕ) (d : ℕ) → d < countD t → stationO
 unfolding stationOf
 device-at w t d h = below-in (countD t) _ _ d h
 
-refuses : (t : List ℕ) (d : ℕ) → passes (deviceRefusal t d) ≡ false
+pub refuses : (t : List ℕ) (d : ℕ) → passes (deviceRefusal t d) ≡ false
 unfolding deviceRefusal passes
 refuses t d = refl
 

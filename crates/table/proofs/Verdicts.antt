@@ -12,17 +12,20 @@ use lib.ListN.{length, getD, take, drop}
 use Rattle.sets.proofs.Laws.{decide}
 use Rattle.words.specs.Words.{readLE}
 use Rattle.rules.specs.declared.Verdict.{Verdict}
-use Rattle.rules.specs.declared.Verdict.the-variants.{Done, NotATable, TooMany, WrongLength, BadResource, BadDevice, BadObjects}
+use Rattle.rules.specs.declared.Verdict.the-variants.{Done, Refused}
+use Rattle.rules.specs.declared.Reason.{Reason}
+use Rattle.rules.specs.declared.Reason.the-variants.{NotATable, TooMany, WrongLength, BadResource, BadDevice, BadObjects}
 use Rattle.rules.specs.Index.{leastFrom, least}
 use Rattle.rules.specs.Answers.{passes, firstOf, unless, lowest}
-use Rattle.rules.specs.Station.{countR, countD, deviceStart, deviceAt}
+use Rattle.rules.specs.Station.{width, limit, countR, countD, deviceStart, deviceAt}
 use Rattle.rules.specs.Table.{firstBad, deviceFields, headerGood, countsGood, lengthGood, resourceGood, badField, fieldsGood, objectsGood, deviceRefusal, deviceGood, tableVerdict}
 use Rattle.rules.specs.Outcomes.{recordPart}
 use Rattle.rules.proofs.Index.{found, next, done}
-use Rattle.rules.proofs.Answers.{first-pass, first-stop, first-none, unless-of, unless-stop, lowest-stop}
-use Rattle.laws.proofs.Accepted.{accepted}
+use Rattle.rules.proofs.Answers.{done-passes, refused-stops, first-pass, first-stop, first-none, unless-of, unless-stop, lowest-stop}
+use Rattle.rules.proofs.Width.{width-wide}
+use Rattle.laws.proofs.Accepted.{accepted, refuses}
 use Rattle.laws.proofs.Tests.{both-true}
-use Rattle.table.specs.Layout.{Laid}
+use Rattle.table.specs.Layout.{WellSized}
 use Rattle.record.specs.Good.{noneBad}
 
 -- ---- each check, on the bytes
@@ -36,36 +39,36 @@ module _ (t : List ℕ) where
   unfolding headerGood
   header-test v h e = rw (le-leb 8 (length t) h, e)
 
-  pub counts-test : leb (getD t 3 0) 32 && leb (getD t 6 0) 32 ≡ countsGood 4 t
-  unfolding countsGood
+  pub counts-test : leb (getD t 3 0) 32 && leb (getD t 6 0) 32 ≡ countsGood t
+  unfolding width countsGood
   counts-test = refl
 
-  pub length-test : (r d : ℕ) → r ≡ getD t 3 0 → d ≡ getD t 6 0 → eqb (length t) (8 + 4 * r + 40 * d) ≡ lengthGood 4 t
-  unfolding lengthGood
+  pub length-test : (r d : ℕ) → r ≡ getD t 3 0 → d ≡ getD t 6 0 → eqb (length t) (8 + 4 * r + 40 * d) ≡ lengthGood t
+  unfolding width deviceStart lengthGood
   length-test r d e f = rw (e, f) refl
 
-  pub fields-test : (d at r n : ℕ) → at ≡ deviceStart 4 t d → r ≡ countR t → n ≡ firstBad 40 (deviceFields 4 r t d at) → eqb n 40 ≡ fieldsGood 4 t d
-  unfolding fieldsGood badField
+  pub fields-test : (d at r n : ℕ) → at ≡ deviceStart (width t) t d → r ≡ countR t → n ≡ firstBad 40 (deviceFields 4 r t d at) → eqb n 40 ≡ fieldsGood t d
+  unfolding width fieldsGood badField
   fields-test d at r n e f g = rw (g, e, f) refl
 
   -- b: no field of the device's record is bad
-  module _ (d at r : ℕ) (b : Bool) (e : at ≡ deviceStart 4 t d) (f : r ≡ countR t) (g : b ≡ noneBad (deviceFields 4 r t d at)) where
-    pub field-refused : not b ≡ true → true ≡ not (deviceGood 4 t d)
+  module _ (d at r : ℕ) (b : Bool) (e : at ≡ deviceStart (width t) t d) (f : r ≡ countR t) (g : b ≡ noneBad (deviceFields 4 r t d at)) where
+    pub field-refused : not b ≡ true → true ≡ not (deviceGood t d)
     unfolding deviceGood
     field-refused p = rw (sym (fields-test d at r _ e f refl) ∙ sym g ∙ not-true b p) refl
 
-    pub objects-decide : (o : Bool) → o ≡ objectsGood (deviceAt 4 t at) → not b ≡ false → not o ≡ not (deviceGood 4 t d)
-    unfolding deviceGood
+    pub objects-decide : (o : Bool) → o ≡ objectsGood (deviceAt 4 t at) → not b ≡ false → not o ≡ not (deviceGood t d)
+    unfolding width deviceGood
     objects-decide o h p = rw (sym (fields-test d at r _ e f refl) ∙ sym g ∙ not-false b p, h, e) refl
 
   pub resource-bad : (r : ℕ) (b : Bool) → b ≡ resourceGood t r → not b ≡ not (resourceGood t r)
   resource-bad r b e = ap not e
 
-  pub refused-6 : (d : ℕ) (f : Bool) → f ≡ fieldsGood 4 t d → f ≡ true → BadObjects d ≡ deviceRefusal 4 t d
+  pub refused-6 : (d : ℕ) (f : Bool) → f ≡ fieldsGood t d → f ≡ true → Refused BadObjects d ≡ deviceRefusal t d
   unfolding deviceRefusal
   refused-6 d f e p = rw (← e, p)
 
-  pub refused-5 : (d : ℕ) (f : Bool) → f ≡ fieldsGood 4 t d → f ≡ false → BadDevice d ≡ deviceRefusal 4 t d
+  pub refused-5 : (d : ℕ) (f : Bool) → f ≡ fieldsGood t d → f ≡ false → Refused BadDevice d ≡ deviceRefusal t d
   unfolding deviceRefusal
   refused-5 d f e p = rw (← e, p)
 
@@ -87,28 +90,26 @@ long-of t h =
 pub header-passed : (t : List ℕ) (b : Bool) → b ≡ headerGood t → not b ≡ false → headerGood t ≡ true
 header-passed t b e p = sym e ∙ not-false b p
 
-pub laid-by : (t : List ℕ) (c l : Bool) → headerGood t ≡ true → c ≡ countsGood 4 t → not c ≡ false → l ≡ lengthGood 4 t → not l ≡ false
-    → Laid t × (headerGood t ≡ true)
-unfolding countsGood lengthGood
-laid-by t c l header b y d z =
-    let counts = both-true _ _ (sym b ∙ not-false c y) in
-    (record { head = long-of t header; resources = leb-true _ _ (counts .0); devices = leb-true _ _ (counts .1); long = eqb-true _ _ (sym d ∙ not-false l z) }, header)
+records-inside : (t : List ℕ) → length t ≡ deviceStart (width t) t (countD t) → 8 + 4 * countR t ≤ length t
+unfolding deviceStart
+records-inside t e = omega arith
 
--- the answer for a bad device is a refusal
-refuses : (t : List ℕ) (d : ℕ) → passes (deviceRefusal 4 t d) ≡ false
-unfolding passes deviceRefusal
-refuses t d = decide (fieldsGood 4 t d) (λ e. rw e refl) (λ e. rw e refl)
+pub sized-by : (t : List ℕ) (c l : Bool) → headerGood t ≡ true → c ≡ countsGood t → not c ≡ false → l ≡ lengthGood t → not l ≡ false
+    → WellSized t × (headerGood t ≡ true)
+unfolding countsGood lengthGood
+sized-by t c l header b y d z =
+    let counts = both-true _ _ (sym b ∙ not-false c y) in
+    (record { head = long-of t header; resources = leb-true _ _ (counts .0); devices = leb-true _ _ (counts .1); long = eqb-true _ _ (sym d ∙ not-false l z); records = records-inside t (eqb-true _ _ (sym d ∙ not-false l z)); wide = width-wide t }, header)
 
 -- ---- one check of a chain: passed, and refused
 module _ (rest : List Verdict) (last : Verdict) where
-  unless-passed : (good : Bool) (refusal : Verdict) → good ≡ true → firstOf (unless good refusal ∷ rest) last ≡ firstOf rest last
-  unfolding passes
-  unless-passed good refusal p = first-pass (unless good refusal) rest last (ap passes (unless-of good refusal p))
+  unless-passed : (good : Bool) (why : Reason) (at : ℕ) → good ≡ true → firstOf (unless good why at ∷ rest) last ≡ firstOf rest last
+  unless-passed good why at p = first-pass (unless good why at) rest last (ap passes (unless-of good why at p) ∙ done-passes 0)
 
-  unless-refused : (good : Bool) (refusal : Verdict) → passes refusal ≡ false → good ≡ false → refusal ≡ firstOf (unless good refusal ∷ rest) last
-  unless-refused good refusal r p =
-      let s = unless-stop good refusal p in
-      sym (first-stop (unless good refusal) rest last (ap passes s ∙ r) ∙ s)
+  unless-refused : (good : Bool) (why : Reason) (at : ℕ) → good ≡ false → Refused why at ≡ firstOf (unless good why at ∷ rest) last
+  unless-refused good why at p =
+      let s = unless-stop good why at p in
+      sym (first-stop (unless good why at) rest last (ap passes s ∙ refused-stops why at) ∙ s)
 
   module _ (bad : ℕ → Bool) (n m i : ℕ) (refusal : ℕ → Verdict) (e : i ≡ least bad n) (f : m ≡ n) where
     lowest-passed : m ≤ i → firstOf (lowest bad n refusal ∷ rest) last ≡ firstOf rest last
@@ -123,89 +124,85 @@ module _ (rest : List Verdict) (last : Verdict) where
 -- ---- each way out of the table's chain: what passed before, and the check that refuses
 module _ (t : List ℕ) where
   abbrev devices-check : Verdict
-  devices-check = lowest (λ d. not (deviceGood 4 t d)) (countD t) (deviceRefusal 4 t)
+  devices-check = lowest (λ d. not (deviceGood t d)) (countD t) (deviceRefusal t)
 
   abbrev resources-check : Verdict
-  resources-check = lowest (λ r. not (resourceGood t r)) (countR t) BadResource
+  resources-check = lowest (λ r. not (resourceGood t r)) (countR t) (Refused BadResource)
 
   abbrev length-check : Verdict
-  length-check = unless (lengthGood 4 t) WrongLength
+  length-check = unless (lengthGood t) WrongLength 0
 
   abbrev counts-check : Verdict
-  counts-check = unless (countsGood 4 t) TooMany
+  counts-check = unless (countsGood t) TooMany 0
 
-  past-header : headerGood t ≡ true → firstOf (counts-check ∷ length-check ∷ resources-check ∷ devices-check ∷ []) (Done 0) ≡ tableVerdict 4 t
+  past-header : headerGood t ≡ true → firstOf (counts-check ∷ length-check ∷ resources-check ∷ devices-check ∷ []) (Done 0) ≡ tableVerdict t
   unfolding tableVerdict
-  past-header h = sym (unless-passed _ _ (headerGood t) NotATable h)
+  past-header h = sym (unless-passed _ _ (headerGood t) NotATable 0 h)
 
-  past-counts : headerGood t ≡ true → countsGood 4 t ≡ true → firstOf (length-check ∷ resources-check ∷ devices-check ∷ []) (Done 0) ≡ tableVerdict 4 t
-  past-counts h c = sym (unless-passed _ _ (countsGood 4 t) TooMany c) ∙ past-header h
+  past-counts : headerGood t ≡ true → countsGood t ≡ true → firstOf (length-check ∷ resources-check ∷ devices-check ∷ []) (Done 0) ≡ tableVerdict t
+  past-counts h c = sym (unless-passed _ _ (countsGood t) TooMany 0 c) ∙ past-header h
 
   -- b is the answer of the function that checks
-  pub no-table : (b : Bool) → b ≡ headerGood t → not b ≡ true → NotATable ≡ tableVerdict 4 t
-  unfolding tableVerdict passes
-  no-table b e p = unless-refused _ _ (headerGood t) NotATable refl (sym e ∙ not-true b p)
+  pub no-table : (b : Bool) → b ≡ headerGood t → not b ≡ true → Refused NotATable 0 ≡ tableVerdict t
+  unfolding tableVerdict
+  no-table b e p = unless-refused _ _ (headerGood t) NotATable 0 (sym e ∙ not-true b p)
 
-  pub too-many : (b : Bool) → headerGood t ≡ true → b ≡ countsGood 4 t → not b ≡ true → TooMany ≡ tableVerdict 4 t
-  unfolding passes
-  too-many b h e p = unless-refused _ _ (countsGood 4 t) TooMany refl (sym e ∙ not-true b p) ∙ past-header h
+  pub too-many : (b : Bool) → headerGood t ≡ true → b ≡ countsGood t → not b ≡ true → Refused TooMany 0 ≡ tableVerdict t
+  too-many b h e p = unless-refused _ _ (countsGood t) TooMany 0 (sym e ∙ not-true b p) ∙ past-header h
 
-  pub wrong-length : (c b : Bool) → headerGood t ≡ true → c ≡ countsGood 4 t → not c ≡ false → b ≡ lengthGood 4 t → not b ≡ true → WrongLength ≡ tableVerdict 4 t
-  unfolding passes
-  wrong-length c b h f y e p = unless-refused _ _ (lengthGood 4 t) WrongLength refl (sym e ∙ not-true b p) ∙ past-counts h (sym f ∙ not-false c y)
+  pub wrong-length : (c b : Bool) → headerGood t ≡ true → c ≡ countsGood t → not c ≡ false → b ≡ lengthGood t → not b ≡ true → Refused WrongLength 0 ≡ tableVerdict t
+  wrong-length c b h f y e p = unless-refused _ _ (lengthGood t) WrongLength 0 (sym e ∙ not-true b p) ∙ past-counts h (sym f ∙ not-false c y)
 
   -- from here on the first three have passed
-  module _ (laid : Laid t) (h : headerGood t ≡ true) (r m : ℕ) (e : r ≡ least (λ i. not (resourceGood t i)) (countR t)) (f : m ≡ countR t) where
-    past-length : firstOf (resources-check ∷ devices-check ∷ []) (Done 0) ≡ tableVerdict 4 t
+  module _ (sized : WellSized t) (h : headerGood t ≡ true) (r m : ℕ) (e : r ≡ least (λ i. not (resourceGood t i)) (countR t)) (f : m ≡ countR t) where
+    past-length : firstOf (resources-check ∷ devices-check ∷ []) (Done 0) ≡ tableVerdict t
     unfolding countsGood lengthGood
     past-length =
-        let counts : countsGood 4 t ≡ true = rw (le-leb (countR t) 32 (laid .resources), le-leb (countD t) 32 (laid .devices)) refl in
-        sym (unless-passed _ _ (lengthGood 4 t) WrongLength (eq-eqb _ _ (laid .long))) ∙ past-counts h counts
+        let counts : countsGood t ≡ true = rw (le-leb (countR t) (limit (width t)) (sized .resources), le-leb (countD t) (limit (width t)) (sized .devices)) refl in
+        sym (unless-passed _ _ (lengthGood t) WrongLength 0 (eq-eqb _ _ (sized .long))) ∙ past-counts h counts
 
-    pub bad-resource : r < m → BadResource r ≡ tableVerdict 4 t
-    unfolding passes
-    bad-resource p = lowest-refused _ _ _ (countR t) m r BadResource e f (BadResource r) refl refl p ∙ past-length
+    pub bad-resource : r < m → Refused BadResource r ≡ tableVerdict t
+    bad-resource p = lowest-refused _ _ _ (countR t) m r (Refused BadResource) e f _ refl (refused-stops BadResource r) p ∙ past-length
 
-    module _ (p : m ≤ r) (q n : ℕ) (g : q ≡ least (λ i. not (deviceGood 4 t i)) (countD t)) (k : n ≡ countD t) where
-      past-resources : firstOf (devices-check ∷ []) (Done 0) ≡ tableVerdict 4 t
-      past-resources = sym (lowest-passed _ _ _ (countR t) m r BadResource e f p) ∙ past-length
+    module _ (p : m ≤ r) (q n : ℕ) (g : q ≡ least (λ i. not (deviceGood t i)) (countD t)) (k : n ≡ countD t) where
+      past-resources : firstOf (devices-check ∷ []) (Done 0) ≡ tableVerdict t
+      past-resources = sym (lowest-passed _ _ _ (countR t) m r (Refused BadResource) e f p) ∙ past-length
 
-      pub bad-device : (v : Verdict) → v ≡ deviceRefusal 4 t q → q < n → v ≡ tableVerdict 4 t
-      bad-device v o u = lowest-refused _ _ _ (countD t) n q (deviceRefusal 4 t) g k v o (ap passes o ∙ refuses t q) u ∙ past-resources
+      pub bad-device : (v : Verdict) → v ≡ deviceRefusal t q → q < n → v ≡ tableVerdict t
+      bad-device v o u = lowest-refused _ _ _ (countD t) n q (deviceRefusal t) g k v o (ap passes o ∙ refuses t q) u ∙ past-resources
 
-      pub all-pass : n ≤ q → Done 0 ≡ tableVerdict 4 t
-      all-pass u = sym (lowest-passed _ _ _ (countD t) n q (deviceRefusal 4 t) g k u ∙ first-none (Done 0)) ∙ past-resources
+      pub all-pass : n ≤ q → Done 0 ≡ tableVerdict t
+      all-pass u = sym (lowest-passed _ _ _ (countD t) n q (deviceRefusal t) g k u ∙ first-none (Done 0)) ∙ past-resources
 
 pub ruleset table-answers = (long-of, header-passed, no-table, too-many, wrong-length, bad-resource, bad-device, all-pass)
 
 -- ---- what an accepted table is known to have: from the rules, and from what a caller knows of the answer v of the check, and b whether it passes
-pub laid-of : (t : List ℕ) → passes (tableVerdict 4 t) ≡ true → Laid t
-laid-of t e =
-    let a = accepted 4 t e in
-    record { head = omega (arith, a .long); resources = a .resources; devices = a .devices; long = a .long }
+pub sized-of : (t : List ℕ) → passes (tableVerdict t) ≡ true → WellSized t
+sized-of t e =
+    let a = accepted t e in
+    record { head = unfold deviceStart in omega (arith, a .long); resources = a .resources; devices = a .devices; long = a .long; records = records-inside t (a .long); wide = width-wide t }
 
-pub laid-done : (t : List ℕ) (n : ℕ) → tableVerdict 4 t ≡ Done n → Laid t
-unfolding passes
-laid-done t n e = laid-of t (ap passes e)
+pub sized-done : (t : List ℕ) (n : ℕ) → tableVerdict t ≡ Done n → WellSized t
+sized-done t n e = sized-of t (ap passes e ∙ done-passes n)
 
-pub accepted-is : (t : List ℕ) (v : Verdict) (b : Bool) → v ≡ tableVerdict 4 t → b ≡ passes v → b ≡ passes (tableVerdict 4 t)
+pub accepted-is : (t : List ℕ) (v : Verdict) (b : Bool) → v ≡ tableVerdict t → b ≡ passes v → b ≡ passes (tableVerdict t)
 accepted-is t v b e f = f ∙ ap passes e
 
-pub laid-told : (t : List ℕ) (b : Bool) → b ≡ passes (tableVerdict 4 t) → not b ≡ false → Laid t
-laid-told t b e p = laid-of t (sym e ∙ not-false b p)
+pub sized-told : (t : List ℕ) (b : Bool) → b ≡ passes (tableVerdict t) → not b ≡ false → WellSized t
+sized-told t b e p = sized-of t (sym e ∙ not-false b p)
 
 -- ---- a device's record
-module _ (t : List ℕ) (d : ℕ) (b : Bool) (e : b ≡ passes (tableVerdict 4 t)) where
-  pub part-refused : not b ≡ true → [] ≡ recordPart 4 t d
+module _ (t : List ℕ) (d : ℕ) (b : Bool) (e : b ≡ passes (tableVerdict t)) where
+  pub part-refused : not b ≡ true → [] ≡ recordPart t d
   unfolding recordPart
   part-refused p = rw (sym e ∙ not-true b p)
 
-  pub part-past : (n : ℕ) → n ≡ countD t → not b ≡ false → n ≤ d → [] ≡ recordPart 4 t d
+  pub part-past : (n : ℕ) → n ≡ countD t → not b ≡ false → n ≤ d → [] ≡ recordPart t d
   unfolding recordPart
   part-past n f p h = rw (sym e ∙ not-false b p, le-ltb d (countD t) (rw f at h))
 
-  pub part-is : (n at : ℕ) → n ≡ countD t → at ≡ deviceStart 4 t d → not b ≡ false → d < n → take (at + 40 - at) (drop at t) ≡ recordPart 4 t d
-  unfolding recordPart
+  pub part-is : (n at : ℕ) → n ≡ countD t → at ≡ deviceStart (width t) t d → not b ≡ false → d < n → take (at + 40 - at) (drop at t) ≡ recordPart t d
+  unfolding width recordPart
   part-is n at f g p h = rw (add-sub-cancel-left, sym e ∙ not-false b p, lt-ltb d (countD t) (rw f at h), g) refl
 
 pub ruleset record-part = (part-refused, part-past, part-is)

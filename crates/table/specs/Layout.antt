@@ -3,10 +3,13 @@ use Prim.Native.Nat.{ℕ, _+_, _*_, _≤_}
 use mathlib.Core.Path.{_≡_}
 use mathlib.Core.List.{List}
 use lib.ListN.{length}
-use Rattle.rules.specs.Station.{countR, countD}
+use Rattle.rules.specs.Station.{width, Wide, limit, countR, countD, deviceStart}
 
-pub record Laid (t : List ℕ) : Type 0 where
+pub record WellSized (t : List ℕ) : Type 0 where
   pub head : 8 ≤ length t
-  pub resources : countR t ≤ 32
-  pub devices : countD t ≤ 32
-  pub long : length t ≡ 8 + 4 * countR t + 40 * countD t
+  pub resources : countR t ≤ limit (width t)
+  pub devices : countD t ≤ limit (width t)
+  pub long : length t ≡ deviceStart (width t) t (countD t)
+  -- these two follow, and stand here beside what they bound
+  pub records : 8 + 4 * countR t ≤ length t
+  pub wide : Wide (width t)

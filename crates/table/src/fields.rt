@@ -2,12 +2,12 @@
 ghost use mathlib.Core.Path.{_≡_};
 ghost use Prim.Native.Nat.{_+_, _*_, _<_, _≤_};
 ghost use lib.ListN.{length};
-ghost use Rattle.rules.specs.Station.{countR, countD, deviceStart, stationOf};
-ghost use Rattle.table.specs.Layout.{Laid};
+ghost use Rattle.rules.specs.Station.{width, countR, countD, deviceStart, station};
+ghost use Rattle.table.specs.Layout.{WellSized};
 
 // R, the number of resources.
 pub fn resources(table: &[u8]) -> usize
-    requires { ⌜ Laid (now table) ⌝ }
+    requires { ⌜ WellSized (now table) ⌝ }
     ensures { λ r. ⌜ (r ≡ countR (now (table .entry))) × (r ≤ 32) ⌝ }
 {
     table[3] as usize
@@ -15,7 +15,7 @@ pub fn resources(table: &[u8]) -> usize
 
 // D, the number of devices.
 pub fn devices(table: &[u8]) -> usize
-    requires { ⌜ Laid (now table) ⌝ }
+    requires { ⌜ WellSized (now table) ⌝ }
     ensures { λ r. ⌜ (r ≡ countD (now (table .entry))) × (r ≤ 32) ⌝ }
 {
     table[6] as usize
@@ -23,32 +23,32 @@ pub fn devices(table: &[u8]) -> usize
 
 // The byte at which device d's record starts.
 pub fn start(table: &[u8], d: usize) -> usize
-    requires { ⌜ Laid (now table) × (d < countD (now table)) ⌝ }
-    ensures { λ r. ⌜ (r ≡ deviceStart 4 (now (table .entry)) d) × (r + 40 ≤ length (now (table .entry))) ⌝ }
+    requires { ⌜ WellSized (now table) × (d < countD (now table)) ⌝ }
+    ensures { λ r. ⌜ (r ≡ deviceStart (width (now (table .entry))) (now (table .entry)) d) × (r + 40 ≤ length (now (table .entry))) ⌝ }
 {
     8 + 4 * resources(table) + 40 * d
 }
 
 // A resource's systemlevel.
 pub fn level(table: &[u8], r: usize) -> u8
-    requires { ⌜ Laid (now table) × (r < countR (now table)) ⌝ }
-    ensures { λ v. ⌜ v ≡ stationOf 4 (now (table .entry)) .resource r .level ⌝ }
+    requires { ⌜ WellSized (now table) × (r < countR (now table)) ⌝ }
+    ensures { λ v. ⌜ v ≡ station (now (table .entry)) .resource r .level ⌝ }
 {
     table[8 + 4 * r]
 }
 
 // A resource's resourceorder.
 pub fn order(table: &[u8], r: usize) -> u16
-    requires { ⌜ Laid (now table) × (r < countR (now table)) ⌝ }
-    ensures { λ v. ⌜ v ≡ stationOf 4 (now (table .entry)) .resource r .order ⌝ }
+    requires { ⌜ WellSized (now table) × (r < countR (now table)) ⌝ }
+    ensures { λ v. ⌜ v ≡ station (now (table .entry)) .resource r .order ⌝ }
 {
     words::read16(table, 8 + 4 * r + 2)
 }
 
 // A device's parent, or 255.
 pub fn parent(table: &[u8], d: usize) -> u8
-    requires { ⌜ Laid (now table) × (d < countD (now table)) ⌝ }
-    ensures { λ v. ⌜ v ≡ stationOf 4 (now (table .entry)) .device d .parent ⌝ }
+    requires { ⌜ WellSized (now table) × (d < countD (now table)) ⌝ }
+    ensures { λ v. ⌜ v ≡ station (now (table .entry)) .device d .parent ⌝ }
 {
     let at = start(table, d);
     table[at]
@@ -56,8 +56,8 @@ pub fn parent(table: &[u8], d: usize) -> u8
 
 // The `_PS` mask.
 pub fn ps(table: &[u8], d: usize) -> u8
-    requires { ⌜ Laid (now table) × (d < countD (now table)) ⌝ }
-    ensures { λ v. ⌜ v ≡ stationOf 4 (now (table .entry)) .device d .ps ⌝ }
+    requires { ⌜ WellSized (now table) × (d < countD (now table)) ⌝ }
+    ensures { λ v. ⌜ v ≡ station (now (table .entry)) .device d .ps ⌝ }
 {
     let at = start(table, d);
     table[at + 1]
@@ -65,8 +65,8 @@ pub fn ps(table: &[u8], d: usize) -> u8
 
 // The `_PR` mask.
 pub fn pr(table: &[u8], d: usize) -> u8
-    requires { ⌜ Laid (now table) × (d < countD (now table)) ⌝ }
-    ensures { λ v. ⌜ v ≡ stationOf 4 (now (table .entry)) .device d .pr ⌝ }
+    requires { ⌜ WellSized (now table) × (d < countD (now table)) ⌝ }
+    ensures { λ v. ⌜ v ≡ station (now (table .entry)) .device d .pr ⌝ }
 {
     let at = start(table, d);
     table[at + 2]
@@ -74,8 +74,8 @@ pub fn pr(table: &[u8], d: usize) -> u8
 
 // Bit 0 `_PRW`, bit 1 `_DSW`.
 pub fn flags(table: &[u8], d: usize) -> u8
-    requires { ⌜ Laid (now table) × (d < countD (now table)) ⌝ }
-    ensures { λ v. ⌜ v ≡ stationOf 4 (now (table .entry)) .device d .flags ⌝ }
+    requires { ⌜ WellSized (now table) × (d < countD (now table)) ⌝ }
+    ensures { λ v. ⌜ v ≡ station (now (table .entry)) .device d .flags ⌝ }
 {
     let at = start(table, d);
     table[at + 3]
@@ -83,8 +83,8 @@ pub fn flags(table: &[u8], d: usize) -> u8
 
 // Set k: `_PR0` to `_PR3`, and `_PRW` for 4.
 pub fn set(table: &[u8], d: usize, k: usize) -> u32
-    requires { ⌜ Laid (now table) × (d < countD (now table)) × (k < 5) ⌝ }
-    ensures { λ v. ⌜ v ≡ stationOf 4 (now (table .entry)) .device d .sets k ⌝ }
+    requires { ⌜ WellSized (now table) × (d < countD (now table)) × (k < 5) ⌝ }
+    ensures { λ v. ⌜ v ≡ station (now (table .entry)) .device d .sets k ⌝ }
 {
     let at = start(table, d);
     words::read32(table, at + 4 + 4 * k)
@@ -92,8 +92,8 @@ pub fn set(table: &[u8], d: usize, k: usize) -> u32
 
 // `_SxD`, or 255; S0 has none.
 pub fn sxd(table: &[u8], d: usize, x: usize) -> u8
-    requires { ⌜ Laid (now table) × (d < countD (now table)) × (x < 5) ⌝ }
-    ensures { λ v. ⌜ v ≡ stationOf 4 (now (table .entry)) .device d .sxd x ⌝ }
+    requires { ⌜ WellSized (now table) × (d < countD (now table)) × (x < 5) ⌝ }
+    ensures { λ v. ⌜ v ≡ station (now (table .entry)) .device d .sxd x ⌝ }
 {
     if x == 0 {
         return 255;
@@ -104,8 +104,8 @@ pub fn sxd(table: &[u8], d: usize, x: usize) -> u8
 
 // `_SxW`, or 255.
 pub fn sxw(table: &[u8], d: usize, x: usize) -> u8
-    requires { ⌜ Laid (now table) × (d < countD (now table)) × (x < 5) ⌝ }
-    ensures { λ v. ⌜ v ≡ stationOf 4 (now (table .entry)) .device d .sxw x ⌝ }
+    requires { ⌜ WellSized (now table) × (d < countD (now table)) × (x < 5) ⌝ }
+    ensures { λ v. ⌜ v ≡ station (now (table .entry)) .device d .sxw x ⌝ }
 {
     let at = start(table, d);
     table[at + 28 + x]
@@ -113,8 +113,8 @@ pub fn sxw(table: &[u8], d: usize, x: usize) -> u8
 
 // The deepest sleep state of `_PRW`.
 pub fn deepest(table: &[u8], d: usize) -> u8
-    requires { ⌜ Laid (now table) × (d < countD (now table)) ⌝ }
-    ensures { λ v. ⌜ v ≡ stationOf 4 (now (table .entry)) .device d .deepest ⌝ }
+    requires { ⌜ WellSized (now table) × (d < countD (now table)) ⌝ }
+    ensures { λ v. ⌜ v ≡ station (now (table .entry)) .device d .deepest ⌝ }
 {
     let at = start(table, d);
     table[at + 33]

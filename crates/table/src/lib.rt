@@ -1,6 +1,7 @@
 // Whether any bytes are a power table, answers 1 to 6, and the bytes of one device's record.
 pub mod fields;
 
+use rules::Reason;
 use rules::Verdict;
 ghost use mathlib.Core.Path.{_≡_};
 ghost use mathlib.Core.Bool.{true, not};
@@ -11,7 +12,7 @@ ghost use Rattle.rules.specs.Answers.{passes};
 ghost use Rattle.rules.specs.Station.{countR, countD};
 ghost use Rattle.rules.specs.Table.{headerGood, countsGood, lengthGood, resourceGood, fieldsGood, deviceGood, deviceRefusal, tableVerdict};
 ghost use Rattle.rules.specs.Outcomes.{recordPart};
-ghost use Rattle.table.specs.Layout.{Laid};
+ghost use Rattle.table.specs.Layout.{WellSized};
 
 // 1: the 8 bytes, the mark, version 1 and a zero at byte 7.
 pub fn header_good(table: &[u8]) -> bool
@@ -32,7 +33,7 @@ pub fn header_good(table: &[u8]) -> bool
 // 2: at most 32 resources and devices.
 fn counts_good(table: &[u8]) -> bool
     requires { ⌜ 8 ≤ length (now table) ⌝ }
-    ensures { λ b. ⌜ b ≡ countsGood 4 (now (table .entry)) ⌝ }
+    ensures { λ b. ⌜ b ≡ countsGood (now (table .entry)) ⌝ }
 {
     (table[3] <= 32) & (table[6] <= 32)
 }
@@ -40,7 +41,7 @@ fn counts_good(table: &[u8]) -> bool
 // 3: the header, the resources and the devices take all bytes.
 fn length_good(table: &[u8]) -> bool
     requires { ⌜ 8 ≤ length (now table) ⌝ }
-    ensures { λ b. ⌜ b ≡ lengthGood 4 (now (table .entry)) ⌝ }
+    ensures { λ b. ⌜ b ≡ lengthGood (now (table .entry)) ⌝ }
 {
     let resources = words::wide(table[3]) as usize;
     let devices = words::wide(table[6]) as usize;
@@ -49,7 +50,7 @@ fn length_good(table: &[u8]) -> bool
 
 // Whether resource r has a bad field.
 fn resource_bad(table: &[u8], r: usize) -> bool
-    requires { ⌜ Laid (now table) × (r < countR (now table)) ⌝ }
+    requires { ⌜ WellSized (now table) × (r < countR (now table)) ⌝ }
     ensures { λ b. ⌜ b ≡ not (resourceGood (now (table .entry)) r) ⌝ }
 {
     !record::bad::resource_good(table, r)
@@ -57,7 +58,7 @@ fn resource_bad(table: &[u8], r: usize) -> bool
 
 // 4: the lowest bad resource, R if none is bad.
 fn lowest_resource(table: &[u8]) -> usize
-    requires { ⌜ Laid (now table) ⌝ }
+    requires { ⌜ WellSized (now table) ⌝ }
     ensures { λ r. ⌜ r ≡ least (λ i. not (resourceGood (now (table .entry)) i)) (countR (now (table .entry))) ⌝ }
 {
     let n = crate::fields::resources(table);
@@ -74,8 +75,8 @@ fn lowest_resource(table: &[u8]) -> usize
 
 // Whether every field of device d is good, asked of a device that is refused.
 fn fields_good(table: &[u8], d: usize) -> bool
-    requires { ⌜ Laid (now table) × (d < countD (now table)) ⌝ }
-    ensures { λ b. ⌜ b ≡ fieldsGood 4 (now (table .entry)) d ⌝ }
+    requires { ⌜ WellSized (now table) × (d < countD (now table)) ⌝ }
+    ensures { λ b. ⌜ b ≡ fieldsGood (now (table .entry)) d ⌝ }
 {
     let at = crate::fields::start(table, d);
     record::bad::bad_field(table, at, d, crate::fields::resources(table)) == 40
@@ -83,8 +84,8 @@ fn fields_good(table: &[u8], d: usize) -> bool
 
 // Whether device d has a bad field, or its objects do not agree.
 fn device_bad(table: &[u8], d: usize) -> bool
-    requires { ⌜ Laid (now table) × (d < countD (now table)) ⌝ }
-    ensures { λ b. ⌜ b ≡ not (deviceGood 4 (now (table .entry)) d) ⌝ }
+    requires { ⌜ WellSized (now table) × (d < countD (now table)) ⌝ }
+    ensures { λ b. ⌜ b ≡ not (deviceGood (now (table .entry)) d) ⌝ }
 {
     let at = crate::fields::start(table, d);
     if !record::quick::record_good(table, at, d, crate::fields::resources(table)) {
@@ -95,8 +96,8 @@ fn device_bad(table: &[u8], d: usize) -> bool
 
 // 5 and 6: the lowest bad device, D if none is bad.
 fn lowest_device(table: &[u8]) -> usize
-    requires { ⌜ Laid (now table) ⌝ }
-    ensures { λ d. ⌜ d ≡ least (λ i. not (deviceGood 4 (now (table .entry)) i)) (countD (now (table .entry))) ⌝ }
+    requires { ⌜ WellSized (now table) ⌝ }
+    ensures { λ d. ⌜ d ≡ least (λ i. not (deviceGood (now (table .entry)) i)) (countD (now (table .entry))) ⌝ }
 {
     let n = crate::fields::devices(table);
     let mut i = 0;
@@ -112,23 +113,23 @@ fn lowest_device(table: &[u8]) -> usize
 
 // The answer for a bad device: 5 before 6.
 fn refusal(table: &[u8], d: usize) -> Verdict
-    requires { ⌜ Laid (now table) × (d < countD (now table)) ⌝ }
-    ensures { λ v. ⌜ v ≡ deviceRefusal 4 (now (table .entry)) d ⌝ }
+    requires { ⌜ WellSized (now table) × (d < countD (now table)) ⌝ }
+    ensures { λ v. ⌜ v ≡ deviceRefusal (now (table .entry)) d ⌝ }
 {
     if fields_good(table, d) {
-        return Verdict::BadObjects(d);
+        return Verdict::Refused(Reason::BadObjects, d);
     }
-    Verdict::BadDevice(d)
+    Verdict::Refused(Reason::BadDevice, d)
 }
 
 // Answers 4 to 6 of bytes that pass 1 to 3.
 fn check_records(table: &[u8]) -> Verdict
-    requires { ⌜ Laid (now table) × (headerGood (now table) ≡ true) ⌝ }
-    ensures { λ v. ⌜ v ≡ tableVerdict 4 (now (table .entry)) ⌝ }
+    requires { ⌜ WellSized (now table) × (headerGood (now table) ≡ true) ⌝ }
+    ensures { λ v. ⌜ v ≡ tableVerdict (now (table .entry)) ⌝ }
 {
     let r = lowest_resource(table);
     if r < crate::fields::resources(table) {
-        return Verdict::BadResource(r);
+        return Verdict::Refused(Reason::BadResource, r);
     }
     let d = lowest_device(table);
     if d < crate::fields::devices(table) {
@@ -140,37 +141,37 @@ fn check_records(table: &[u8]) -> Verdict
 // Answers 2 to 6 of bytes whose header is good.
 pub fn check_past_header(table: &[u8]) -> Verdict
     requires { ⌜ headerGood (now table) ≡ true ⌝ }
-    ensures { λ v. ⌜ v ≡ tableVerdict 4 (now (table .entry)) ⌝ }
+    ensures { λ v. ⌜ v ≡ tableVerdict (now (table .entry)) ⌝ }
 {
     if !counts_good(table) {
-        return Verdict::TooMany;
+        return Verdict::Refused(Reason::TooMany, 0);
     }
     if !length_good(table) {
-        return Verdict::WrongLength;
+        return Verdict::Refused(Reason::WrongLength, 0);
     }
     check_records(table)
 }
 
 // Answers 1 to 6 of any bytes, done with no calls if they are a power table.
 pub fn check_table(table: &[u8]) -> Verdict
-    ensures { λ v. ⌜ v ≡ tableVerdict 4 (now (table .entry)) ⌝ }
+    ensures { λ v. ⌜ v ≡ tableVerdict (now (table .entry)) ⌝ }
 {
     if !header_good(table) {
-        return Verdict::NotATable;
+        return Verdict::Refused(Reason::NotATable, 0);
     }
     check_past_header(table)
 }
 
 // Whether bytes are a power table.
 pub fn accepted(table: &[u8]) -> bool
-    ensures { λ b. ⌜ b ≡ passes (tableVerdict 4 (now (table .entry))) ⌝ }
+    ensures { λ b. ⌜ b ≡ passes (tableVerdict (now (table .entry))) ⌝ }
 {
     rules::passes(check_table(table))
 }
 
 // A device's own bytes of the table; empty if the table is refused or the number is not below D.
 pub fn record(table: &[u8], d: usize) -> &[u8]
-    ensures { λ r. ⌜ now r ≡ recordPart 4 (now (table .entry)) d ⌝ }
+    ensures { λ r. ⌜ now r ≡ recordPart (now (table .entry)) d ⌝ }
 {
     if !accepted(table) {
         return &table[..0];

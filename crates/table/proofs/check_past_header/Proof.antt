@@ -1,5 +1,5 @@
 -- Each return is the answer of the first check that refuses; what passed meets what the rest asks. Assumes nothing.
-use Rattle.table.proofs.Verdicts.{laid-by, table-answers}
+use Rattle.table.proofs.Verdicts.{sized-by, table-answers}
 use borrow.Author.Needs.{needs}
 use Rattle.table.proofs.check_past_header.Statement.{statement}
 use Rattle.table.proofs.check_past_header.Tie as tie
@@ -7,7 +7,7 @@ use Rattle.table.proofs.check_past_header.Tie as tie
 check-records-requires : tie.Need-check-records-requires
 check-records-requires c κs =
     let counts = c .before .before .before in
-    laid-by _ _ _ (counts .before .before .pre) (counts .counts-good .ensures) (c .before .before .if1 .left) (c .before .length-good .ensures) (c .if2 .left)
+    sized-by _ _ _ (counts .before .before .pre) (counts .counts-good .ensures) (c .before .before .if1 .left) (c .before .length-good .ensures) (c .if2 .left)
 
 pub check-past-header-spec : {M : Type 1} → statement M
 check-past-header-spec =

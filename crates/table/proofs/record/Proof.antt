@@ -1,15 +1,15 @@
 -- Refused bytes and numbers past D have no record; else the part is the device's own bytes. Assumes nothing.
-use Rattle.table.proofs.Verdicts.{laid-told, record-part}
+use Rattle.table.proofs.Verdicts.{sized-told, record-part}
 use borrow.Author.Needs.{needs}
 use Rattle.table.proofs.record.Statement.{statement}
 use Rattle.table.proofs.record.Tie as tie
 
 start-requires : tie.Need-start-requires
-start-requires c κs = (search laid-told, search needs)
+start-requires c κs = (search sized-told, search needs)
 
 pub record-spec : {M : Type 1} → statement M
 record-spec =
     tie.close
-    (tie.spec (λ c κs. search needs) (λ c. search needs) (λ c. search (needs, record-part)) (λ c κs. search laid-told) (λ c. search needs)
+    (tie.spec (λ c κs. search needs) (λ c. search needs) (λ c. search (needs, record-part)) (λ c κs. search sized-told) (λ c. search needs)
     (λ c. search (needs, record-part)) start-requires (λ c. search needs) (λ c. search needs) (λ c. search needs) (λ c. search needs)
     (λ c. search (needs, record-part)))
