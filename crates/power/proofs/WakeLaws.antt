@@ -6,7 +6,7 @@ use mathlib.Core.List.{List}
 use Prim.Native.Nat.{ℕ, _≤_, _<_}
 use borrow.Author.Tests.{lt-ltb, le-ltb, not-true, not-false}
 use lib.Dec.{leb, ltb}
-use Rattle.rules.specs.Station.{Station, hasPRW, countR, stationOf}
+use Rattle.rules.specs.Station.{Station, hasPRW, countR, stationOf, station}
 use Rattle.rules.specs.Power.{supported, wakeRange, wakeFrom, wakePowered, wakeState, wakePair}
 use Rattle.power.proofs.Members.{everyIn}
 
@@ -20,19 +20,19 @@ unfolding wakeFrom
 from-none s d x b e t = rw (sym e ∙ t)
 
 -- ---- the resources: one of them, which the table has or not, and the loop over the members of the set
-pub level-told : (t : List ℕ) (r x k n : ℕ) → n ≡ countR t → r < n → k ≡ stationOf 4 t .resource r .level
-    → leb x k ≡ (not (ltb r (countR t)) || leb x (stationOf 4 t .resource r .level))
+pub level-told : (t : List ℕ) (r x k n : ℕ) → n ≡ countR t → r < n → k ≡ station t .resource r .level
+    → leb x k ≡ (not (ltb r (countR t)) || leb x (station t .resource r .level))
 level-told t r x k n p h q = rw (← p, lt-ltb r n h, q) refl
 
 pub level-free : (t : List ℕ) (r n : ℕ) (a : Bool) → n ≡ countR t → n ≤ r → true ≡ (not (ltb r (countR t)) || a)
 level-free t r n a p h = rw (← p, le-ltb r n h) refl
 
-resources-are : (t : List ℕ) → stationOf 4 t .resources ≡ countR t
+resources-are : (t : List ℕ) → station t .resources ≡ countR t
 unfolding stationOf
 resources-are t = refl
 
-pub powered-starts : (t : List ℕ) (d x set : ℕ) → set ≡ stationOf 4 t .device d .sets 4
-    → everyIn (λ r. leb x (stationOf 4 t .resource r .level)) set (countR t) ≡ wakePowered (stationOf 4 t) d x
+pub powered-starts : (t : List ℕ) (d x set : ℕ) → set ≡ station t .device d .sets 4
+    → everyIn (λ r. leb x (station t .resource r .level)) set (countR t) ≡ wakePowered (station t) d x
 unfolding wakePowered everyIn
 powered-starts t d x set p = rw (p, resources-are t) refl
 

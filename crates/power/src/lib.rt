@@ -4,9 +4,9 @@ pub mod wake;
 ghost use mathlib.Core.Path.{_≡_};
 ghost use Prim.Native.Nat.{_<_};
 ghost use Rattle.sets.specs.Sets.{member};
-ghost use Rattle.rules.specs.Station.{countD, stationOf, hasPS, hasPR, hasPRW};
+ghost use Rattle.rules.specs.Station.{countD, hasPS, hasPR, hasPRW, station};
 ghost use Rattle.rules.specs.Power.{supported, ownSet, listedSet, stateNeeds, wakeNeeds, needs};
-ghost use Rattle.table.specs.Layout.{Laid};
+ghost use Rattle.table.specs.Layout.{WellSized};
 
 // Bit x of a mask.
 pub fn has_bit(mask: u8, x: u8) -> bool
@@ -17,32 +17,32 @@ pub fn has_bit(mask: u8, x: u8) -> bool
 
 // Whether `_PSx` exists.
 pub fn has_ps(table: &[u8], d: usize, x: u8) -> bool
-    requires { ⌜ Laid (now table) × (d < countD (now table)) ⌝ }
-    ensures { λ r. ⌜ r ≡ hasPS (stationOf 4 (now (table .entry)) .device d) x ⌝ }
+    requires { ⌜ WellSized (now table) × (d < countD (now table)) ⌝ }
+    ensures { λ r. ⌜ r ≡ hasPS (station (now (table .entry)) .device d) x ⌝ }
 {
     has_bit(table::fields::ps(table, d), x)
 }
 
 // Whether `_PRx` exists.
 pub fn has_pr(table: &[u8], d: usize, x: u8) -> bool
-    requires { ⌜ Laid (now table) × (d < countD (now table)) ⌝ }
-    ensures { λ r. ⌜ r ≡ hasPR (stationOf 4 (now (table .entry)) .device d) x ⌝ }
+    requires { ⌜ WellSized (now table) × (d < countD (now table)) ⌝ }
+    ensures { λ r. ⌜ r ≡ hasPR (station (now (table .entry)) .device d) x ⌝ }
 {
     has_bit(table::fields::pr(table, d), x)
 }
 
 // Whether `_PRW` exists.
 pub fn has_prw(table: &[u8], d: usize) -> bool
-    requires { ⌜ Laid (now table) × (d < countD (now table)) ⌝ }
-    ensures { λ r. ⌜ r ≡ hasPRW (stationOf 4 (now (table .entry)) .device d) ⌝ }
+    requires { ⌜ WellSized (now table) × (d < countD (now table)) ⌝ }
+    ensures { λ r. ⌜ r ≡ hasPRW (station (now (table .entry)) .device d) ⌝ }
 {
     has_bit(table::fields::flags(table, d), 0)
 }
 
 // D0 and D3hot always; D1 or D2 with either object for it; D3cold with `_PR3`.
 pub fn supported(table: &[u8], d: usize, x: u8) -> bool
-    requires { ⌜ Laid (now table) × (d < countD (now table)) ⌝ }
-    ensures { λ r. ⌜ r ≡ supported (stationOf 4 (now (table .entry))) d x ⌝ }
+    requires { ⌜ WellSized (now table) × (d < countD (now table)) ⌝ }
+    ensures { λ r. ⌜ r ≡ supported (station (now (table .entry))) d x ⌝ }
 {
     if x == 0 {
         return true;
@@ -64,8 +64,8 @@ pub fn supported(table: &[u8], d: usize, x: u8) -> bool
 
 // The set of `_PRx`, empty without it, by the device's `_PR` mask.
 pub fn own_set(table: &[u8], d: usize, mask: u8, x: u8) -> u32
-    requires { ⌜ Laid (now table) × (d < countD (now table)) × (mask ≡ stationOf 4 (now table) .device d .pr) × (x < 5) ⌝ }
-    ensures { λ r. ⌜ r ≡ ownSet (stationOf 4 (now (table .entry)) .device d) x ⌝ }
+    requires { ⌜ WellSized (now table) × (d < countD (now table)) × (mask ≡ station (now table) .device d .pr) × (x < 5) ⌝ }
+    ensures { λ r. ⌜ r ≡ ownSet (station (now (table .entry)) .device d) x ⌝ }
 {
     if has_bit(mask, x) {
         return table::fields::set(table, d, x as usize);
@@ -75,8 +75,8 @@ pub fn own_set(table: &[u8], d: usize, mask: u8, x: u8) -> u32
 
 // The set of `_PRx`, or of the next shallower state that has one; empty if none has.
 pub fn listed_set(table: &[u8], d: usize, x: u8) -> u32
-    requires { ⌜ Laid (now table) × (d < countD (now table)) × (x < 5) ⌝ }
-    ensures { λ r. ⌜ r ≡ listedSet (stationOf 4 (now (table .entry)) .device d) x ⌝ }
+    requires { ⌜ WellSized (now table) × (d < countD (now table)) × (x < 5) ⌝ }
+    ensures { λ r. ⌜ r ≡ listedSet (station (now (table .entry)) .device d) x ⌝ }
 {
     let mask = table::fields::pr(table, d);
     let mut k = x;
@@ -91,8 +91,8 @@ pub fn listed_set(table: &[u8], d: usize, x: u8) -> u32
 
 // What a device needs in state x. The mask is read before any test, so that a loop over the devices reads R once.
 pub fn state_needs(table: &[u8], d: usize, x: u8) -> u32
-    requires { ⌜ Laid (now table) × (d < countD (now table)) ⌝ }
-    ensures { λ r. ⌜ r ≡ stateNeeds (stationOf 4 (now (table .entry)) .device d) x ⌝ }
+    requires { ⌜ WellSized (now table) × (d < countD (now table)) ⌝ }
+    ensures { λ r. ⌜ r ≡ stateNeeds (station (now (table .entry)) .device d) x ⌝ }
 {
     let present = table::fields::pr(table, d);
     if x < 3 {
@@ -106,8 +106,8 @@ pub fn state_needs(table: &[u8], d: usize, x: u8) -> u32
 
 // What a device needs to wake the system: its `_PRW` set while it is armed.
 pub fn wake_needs(table: &[u8], d: usize, e: rules::Entry) -> u32
-    requires { ⌜ Laid (now table) × (d < countD (now table)) ⌝ }
-    ensures { λ r. ⌜ r ≡ wakeNeeds (stationOf 4 (now (table .entry)) .device d) e ⌝ }
+    requires { ⌜ WellSized (now table) × (d < countD (now table)) ⌝ }
+    ensures { λ r. ⌜ r ≡ wakeNeeds (station (now (table .entry)) .device d) e ⌝ }
 {
     if e.armed != 1 {
         return 0;
@@ -120,8 +120,8 @@ pub fn wake_needs(table: &[u8], d: usize, e: rules::Entry) -> u32
 
 // All that a device needs with an entry.
 pub fn needs(table: &[u8], d: usize, e: rules::Entry) -> u32
-    requires { ⌜ Laid (now table) × (d < countD (now table)) ⌝ }
-    ensures { λ r. ⌜ r ≡ needs (stationOf 4 (now (table .entry))) d e ⌝ }
+    requires { ⌜ WellSized (now table) × (d < countD (now table)) ⌝ }
+    ensures { λ r. ⌜ r ≡ needs (station (now (table .entry))) d e ⌝ }
 {
     sets::union(state_needs(table, d, e.state), wake_needs(table, d, e))
 }

@@ -5,14 +5,14 @@ ghost use Prim.Native.Nat.{_<_};
 ghost use lib.Dec.{leb, ltb};
 ghost use Rattle.sets.specs.Sets.{member};
 ghost use Rattle.rules.specs.Index.{least};
-ghost use Rattle.rules.specs.Station.{countR, countD, stationOf};
+ghost use Rattle.rules.specs.Station.{countR, countD, station};
 ghost use Rattle.rules.specs.Power.{wakeFrom, wakePowered, wakeRange, wakeState, wakePair};
-ghost use Rattle.table.specs.Layout.{Laid};
+ghost use Rattle.table.specs.Layout.{WellSized};
 
 // `_PRW` exists, and x is not above its deepest state.
 pub fn wake_from(table: &[u8], d: usize, x: u8) -> bool
-    requires { ⌜ Laid (now table) × (d < countD (now table)) ⌝ }
-    ensures { λ r. ⌜ r ≡ wakeFrom (stationOf 4 (now (table .entry))) d x ⌝ }
+    requires { ⌜ WellSized (now table) × (d < countD (now table)) ⌝ }
+    ensures { λ r. ⌜ r ≡ wakeFrom (station (now (table .entry))) d x ⌝ }
 {
     if crate::has_prw(table, d) {
         return x <= table::fields::deepest(table, d);
@@ -22,8 +22,8 @@ pub fn wake_from(table: &[u8], d: usize, x: u8) -> bool
 
 // Resource r, if the table has it, has systemlevel x or more.
 pub fn powered(table: &[u8], r: usize, x: u8) -> bool
-    requires { ⌜ Laid (now table) ⌝ }
-    ensures { λ b. ⌜ b ≡ (not (ltb r (countR (now (table .entry)))) || leb x (stationOf 4 (now (table .entry)) .resource r .level)) ⌝ }
+    requires { ⌜ WellSized (now table) ⌝ }
+    ensures { λ b. ⌜ b ≡ (not (ltb r (countR (now (table .entry)))) || leb x (station (now (table .entry)) .resource r .level)) ⌝ }
 {
     if r < table::fields::resources(table) {
         return x <= table::fields::level(table, r);
@@ -41,8 +41,8 @@ fn lowest(set: u32) -> u32
 
 // Every `_PRW` resource has systemlevel x or more: from one member of the set to the next, so that a small set takes few turns.
 pub fn wake_powered(table: &[u8], d: usize, x: u8) -> bool
-    requires { ⌜ Laid (now table) × (d < countD (now table)) ⌝ }
-    ensures { λ r. ⌜ r ≡ wakePowered (stationOf 4 (now (table .entry))) d x ⌝ }
+    requires { ⌜ WellSized (now table) × (d < countD (now table)) ⌝ }
+    ensures { λ r. ⌜ r ≡ wakePowered (station (now (table .entry))) d x ⌝ }
 {
     let mut rest = table::fields::set(table, d, 4);
     while 0 < rest {
@@ -55,18 +55,24 @@ pub fn wake_powered(table: &[u8], d: usize, x: u8) -> bool
     true
 }
 
-// Whether x is in the range that `_SxD` and `_SxW` give, 255 for an absent one.
+// Whether x is in the range that `_SxD` and `_SxW` give, 255 for an absent one. Values that no accepted table holds give no range.
 pub fn wake_range(sxd: u8, sxw: u8, x: u8) -> bool
     ensures { λ r. ⌜ r ≡ wakeRange sxd sxw x ⌝ }
 {
     if sxd == 255 {
-        if sxw == 255 {
+        if sxw > 4 {
             return false;
         }
         return x <= sxw;
     }
+    if sxd > 3 {
+        return false;
+    }
     if sxw == 255 {
         return x == sxd;
+    }
+    if sxw > 4 {
+        return false;
     }
     if x <= sxw {
         return sxd <= x;
@@ -76,8 +82,8 @@ pub fn wake_range(sxd: u8, sxw: u8, x: u8) -> bool
 
 // State y is supported and in the wake range for x.
 pub fn wake_state(table: &[u8], d: usize, x: u8, y: u8) -> bool
-    requires { ⌜ Laid (now table) × (d < countD (now table)) × (x < 5) ⌝ }
-    ensures { λ r. ⌜ r ≡ wakeState (stationOf 4 (now (table .entry))) d x y ⌝ }
+    requires { ⌜ WellSized (now table) × (d < countD (now table)) × (x < 5) ⌝ }
+    ensures { λ r. ⌜ r ≡ wakeState (station (now (table .entry))) d x y ⌝ }
 {
     if crate::supported(table, d, y) {
         let sxd = table::fields::sxd(table, d, x as usize);
@@ -89,8 +95,8 @@ pub fn wake_state(table: &[u8], d: usize, x: u8, y: u8) -> bool
 
 // The wake pair (x, y) is legal.
 pub fn wake_pair(table: &[u8], d: usize, x: u8, y: u8) -> bool
-    requires { ⌜ Laid (now table) × (d < countD (now table)) × (x < 5) ⌝ }
-    ensures { λ r. ⌜ r ≡ wakePair (stationOf 4 (now (table .entry))) d x y ⌝ }
+    requires { ⌜ WellSized (now table) × (d < countD (now table)) × (x < 5) ⌝ }
+    ensures { λ r. ⌜ r ≡ wakePair (station (now (table .entry))) d x y ⌝ }
 {
     if !wake_from(table, d, x) {
         return false;

@@ -2,14 +2,14 @@
 use mathlib.Core.Path.{_≡_}
 use Prim.Native.Nat.{_<_}
 use borrow.Author.Needs.{needs}
-use Rattle.rules.specs.Station.{stationOf}
+use Rattle.rules.specs.Station.{station}
 use Rattle.rules.specs.Power.{listedSet}
 use Rattle.power.proofs.StateLaws.{listed-laws}
 use Rattle.power.proofs.listed_set.Statement.{statement}
 use Rattle.power.proofs.listed_set.Tie as tie
 
 abbrev Inv-loop : tie.InvT-loop
-Inv-loop table d x mask k₀ k = (k < 5) × (listedSet (stationOf 4 table .device d) k ≡ listedSet (stationOf 4 table .device d) x)
+Inv-loop table d x mask k₀ k = (k < 5) × (listedSet (station table .device d) k ≡ listedSet (station table .device d) x)
 
 abbrev μ-loop : tie.MeasureT-loop
 μ-loop table d x mask k₀ k = k

@@ -2,7 +2,7 @@
 use mathlib.Core.Path.{_≡_}
 use lib.Dec.{leb}
 use borrow.Author.Needs.{needs}
-use Rattle.rules.specs.Station.{countR, stationOf}
+use Rattle.rules.specs.Station.{countR, station}
 use Rattle.rules.specs.Power.{wakePowered}
 use Rattle.power.proofs.Members.{everyIn, everyIn-laws}
 use Rattle.power.proofs.WakeLaws.{powered-starts}
@@ -10,7 +10,7 @@ use Rattle.power.proofs.wake.wake_powered.Statement.{statement}
 use Rattle.power.proofs.wake.wake_powered.Tie as tie
 
 abbrev Inv-loop : tie.InvT-loop
-Inv-loop table d x rest₀ rest = everyIn (λ r. leb x (stationOf 4 table .resource r .level)) rest (countR table) ≡ wakePowered (stationOf 4 table) d x
+Inv-loop table d x rest₀ rest = everyIn (λ r. leb x (station table .resource r .level)) rest (countR table) ≡ wakePowered (station table) d x
 
 abbrev μ-loop : tie.MeasureT-loop
 μ-loop table d x rest₀ rest = rest

@@ -12,4 +12,6 @@ wake-range-spec =
     (λ c. search (needs, range-laws))
     (λ c. search (needs, range-laws))
     (λ c. search (needs, range-laws))
+    (λ c. search (needs, range-laws))
+    (λ c. search (needs, range-laws))
     (λ c. search (needs, range-laws)))
