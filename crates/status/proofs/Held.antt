@@ -1,12 +1,13 @@
 -- A state, its image and its status say the same: what is loaded and stored, and what a fresh state says. Assumes nothing.
 use mathlib.Core.Path.{_≡_, refl, sym, ap, _∙_, fun-ext}
+use mathlib.Core.Bool.{cond}
 use mathlib.Core.List.{List, [], _∷_, _++_}
 use Prim.Native.Nat.{ℕ, zero, suc, _+_, _*_, _≤_, _<_}
 use native.Mathlib.Nat.{add-zero}
 use native.Mathlib.Numerals.{towards-suc}
 use native.Mathlib.Omega.{arith}
-use borrow.Author.Tests.{ltb-true, ltb-false}
-use lib.Dec.{ltb}
+use borrow.Author.Tests.{eq-eqb, ne-eqb, ltb-true, ltb-false}
+use lib.Dec.{eqb, ltb}
 use lib.ListN.{length, getD, take, drop, replicate, length-append, length-replicate, getD-replicate, drop-of-length-le}
 use lib.Seq.{length-take-le, take-all, getD-take, drop-cons}
 use Rattle.sets.specs.Sets.{firstN}
@@ -16,27 +17,29 @@ use Rattle.words.proofs.Laws.{bytes-length}
 use Rattle.words.proofs.Put.{Emitted, emitted-run, put-all}
 use Rattle.rules.specs.declared.State.{State}
 use Rattle.rules.specs.declared.Entry.{Entry}
-use Rattle.rules.specs.Station.{Station}
-use Rattle.rules.specs.Status.{noEntry, entryAt, entryBytes, entriesOf, statusOf, entriesBytes, imageOf, freshStatus}
+use Rattle.rules.specs.Station.{Station, width, limit, countD, station}
+use Rattle.rules.specs.Status.{noEntry, entryAt, entryBytes, entriesSize, entriesOf, entries, statusOf, status, entriesBytes, imageOf, imageSize, freshStatus}
 use Rattle.rules.proofs.Index.{below-in, below-out}
-use Rattle.status.specs.State.{stateOf, bytesOf, statusIn, freshState}
+use Rattle.table.specs.Layout.{WellSized}
+use Rattle.status.specs.State.{loadState, storeState, statusIn, freshState}
 
 -- ---- one entry
 
-pub entry-in : (b : List ℕ) (k : ℕ) → k < 32 → entriesOf 4 b k ≡ entryAt b (4 * k)
-unfolding entriesOf
-entry-in b k h = below-in 32 noEntry _ k h
+module _ (w : ℕ) (b : List ℕ) where
+  pub entry-in : (k : ℕ) → k < limit w → entriesOf w b k ≡ entryAt b (4 * k)
+  unfolding entriesOf
+  entry-in k h = below-in (limit w) noEntry _ k h
 
-pub entry-out : (b : List ℕ) (k : ℕ) → 32 ≤ k → entriesOf 4 b k ≡ noEntry
-unfolding entriesOf
-entry-out b k h = below-out 32 noEntry _ k h
+  pub entry-out : (k : ℕ) → limit w ≤ k → entriesOf w b k ≡ noEntry
+  unfolding entriesOf
+  entry-out k h = below-out (limit w) noEntry _ k h
 
--- entries are known by those below 32
-pub entries-ext : (b : List ℕ) (f : ℕ → Entry) → ((k : ℕ) → k < 32 → entryAt b (4 * k) ≡ f k) → ((k : ℕ) → 32 ≤ k → f k ≡ noEntry) → entriesOf 4 b ≡ f
-entries-ext b f h out =
-    fun-ext
-    (λ k. decide (ltb k 32) (λ e. entry-in b k (ltb-true k 32 e) ∙ h k (ltb-true k 32 e))
-    (λ e. entry-out b k (ltb-false k 32 e) ∙ sym (out k (ltb-false k 32 e))))
+  -- entries are known by those below the limit
+  pub entries-ext : (f : ℕ → Entry) → ((k : ℕ) → k < limit w → entryAt b (4 * k) ≡ f k) → ((k : ℕ) → limit w ≤ k → f k ≡ noEntry) → entriesOf w b ≡ f
+  entries-ext f h out =
+      fun-ext
+      (λ k. decide (ltb k (limit w)) (λ e. entry-in k (ltb-true k (limit w) e) ∙ h k (ltb-true k (limit w) e))
+      (λ e. entry-out k (ltb-false k (limit w) e) ∙ sym (out k (ltb-false k (limit w) e))))
 
 -- lists that agree at the four bytes from n on have the same entry there
 pub entry-same : (a b : List ℕ) (n : ℕ) → ((i : ℕ) → i < 4 → getD a (n + i) 0 ≡ getD b (n + i) 0) → entryAt a n ≡ entryAt b n
@@ -45,27 +48,47 @@ entry-same a b n h =
     rw (rw add-zero at (h 0 (omega arith)), h 1 (omega arith), h 2 (omega arith), h 3 (omega arith)) refl
 
 -- the code reads an entry as `entryAt` does
-pub entry-read : (b : List ℕ) (d : ℕ) → d < 32
-    → record { state = getD b (4 * d) 0; armed = getD b (4 * d + 1) 0; sleep = getD b (4 * d + 2) 0; wake = getD b (4 * d + 3) 0 } ≡ entriesOf 4 b d
+pub entry-read : (b : List ℕ) (d : ℕ)
+    → record { state = getD b (4 * d) 0; armed = getD b (4 * d + 1) 0; sleep = getD b (4 * d + 2) 0; wake = getD b (4 * d + 3) 0 } ≡ entryAt b (4 * d)
 unfolding entryAt
-entry-read b d h = sym (entry-in b d h)
+entry-read b d = refl
+
+-- and as a device's entry of a table's state
+pub entry-is : (t b : List ℕ) (d : ℕ) (e : Entry) → WellSized t → d < countD t → e ≡ entryAt b (4 * d) → e ≡ entries t b d
+entry-is t b d e z h q = q ∙ sym (entry-in (width t) b d (omega (arith, z .devices)))
+
+-- the size of an image and its on-set, at the table's width
+pub on-read : (t b : List ℕ) (w v : ℕ) → w ≡ width t → v ≡ readLE 4 b (32 * w) → v ≡ status t b .on
+unfolding width statusOf
+on-read t b w v e q = q ∙ ap (λ (n : ℕ). readLE 4 b (32 * n)) e
+
+pub on-inside : (t b : List ℕ) (w : ℕ) → w ≡ width t → length b ≡ imageSize (width t) → 32 * w + 4 ≤ length b
+unfolding width
+on-inside t b w e h = omega arith
+
+-- an entry, or another in its place
+pub other-entry : (i d : ℕ) (e f : Entry) → i ≡ d → e ≡ cond (eqb i d) e f
+other-entry i d e f h = rw (eq-eqb i d h) refl
+
+pub own-entry : (i d : ℕ) (e f g : Entry) → (i ≡ d → ⊥) → g ≡ f → g ≡ cond (eqb i d) e f
+own-entry i d e f g h q = rw (ne-eqb i d h) q
 
 -- ---- what is loaded
 
--- the first 128 bytes hold all entries
-pub entries-front : (b : List ℕ) → entriesOf 4 (take 128 b) ≡ entriesOf 4 b
-entries-front b =
-    entries-ext (take 128 b) (entriesOf 4 b)
-    (λ k h. entry-same (take 128 b) b (4 * k) (λ i l. getD-take 128 b (4 * k + i) 0 (omega arith)) ∙ sym (entry-in b k h)) (entry-out b)
+-- the first bytes hold all entries
+pub entries-front : (w : ℕ) (b : List ℕ) → entriesOf w (take (entriesSize w) b) ≡ entriesOf w b
+entries-front w b =
+    entries-ext w (take (entriesSize w) b) (entriesOf w b)
+    (λ k h. entry-same (take (entriesSize w) b) b (4 * k) (λ i l. getD-take (entriesSize w) b (4 * k + i) 0 (omega arith)) ∙ sym (entry-in w b k h)) (entry-out w b)
 
-pub entries-of : (b : List ℕ) → entriesOf 4 (stateOf b .devices) ≡ statusOf 4 b .entries
-unfolding stateOf statusOf
-entries-of b = entries-front b
+pub entries-of : (b : List ℕ) → entriesOf 4 (loadState b .devices) ≡ statusOf 4 b .entries
+unfolding loadState statusOf
+entries-of b = entries-front 4 b
 
 -- a loop that copied 128 bytes, and the number after them
 pub loaded : (b ds₀ ds : List ℕ) (i on : ℕ) → Emitted ds₀ 0 (take i b) ds i → length ds₀ ≡ 128 → length b ≡ 132 → 128 ≤ i → i ≤ 128 → on ≡ readLE 4 b 128
-    → record { devices = ds; on = on } ≡ stateOf b
-unfolding stateOf
+    → record { devices = ds; on = on } ≡ loadState b
+unfolding loadState
 loaded b ds₀ ds i on e l m g h r =
     let n : i ≡ 128 = omega arith in
     let long : length (take 128 b) ≡ 128 = length-take-le 128 b (omega arith) in
@@ -76,8 +99,8 @@ loaded b ds₀ ds i on e l m g h r =
 
 -- a loop that copied the 128 bytes, and the number written after them
 pub stored : (st : State) (b l m : List ℕ) (i : ℕ) → Emitted b 0 (take i (st .devices)) l i → m ≡ put l 128 (bytesLE 4 (st .on)) → length (st .devices) ≡ 128
-    → length b ≡ 132 → 128 ≤ i → i ≤ 128 → m ≡ bytesOf st
-unfolding bytesOf
+    → length b ≡ 132 → 128 ≤ i → i ≤ 128 → m ≡ storeState st
+unfolding storeState
 stored st b l m i e w d n g h =
     let at : i ≡ 128 = omega arith in
     let on = bytesLE 4 (st .on) in
@@ -102,9 +125,9 @@ entries-drop f ds i (suc k) h l =
     let n : 4 * suc i ≡ 4 * i + 4 = omega arith in
     rw (h i (omega arith), entries-drop f ds (suc i) k (λ j g. h j (omega arith)) (omega arith), n) (sym (entry-cut ds (4 * i) (omega arith)))
 
-pub image-of : (st : State) → length (st .devices) ≡ 128 → imageOf 4 (statusIn st) ≡ bytesOf st
-unfolding imageOf statusIn bytesOf
-image-of st l = ap (λ (b : List ℕ). b ++ bytesLE 4 (st .on)) (entries-drop (entriesOf 4 (st .devices)) (st .devices) 0 32 (entry-in (st .devices)) l)
+pub image-of : (st : State) → length (st .devices) ≡ 128 → imageOf 4 (statusIn st) ≡ storeState st
+unfolding imageOf statusIn storeState
+image-of st l = ap (λ (b : List ℕ). b ++ bytesLE 4 (st .on)) (entries-drop (entriesOf 4 (st .devices)) (st .devices) 0 32 (entry-in 4 (st .devices)) l)
 
 -- ---- what a fresh state says
 
@@ -116,10 +139,10 @@ pub fresh-status : (s : Station) → statusIn (freshState (s .resources)) ≡ fr
 unfolding statusIn freshState freshStatus entryAt
 fresh-status s =
     let none : (k : ℕ) → k < 32 → entryAt (replicate 128 0) (4 * k) ≡ noEntry = λ k h. entry-same (replicate 128 0) [] (4 * k) (λ i l. getD-replicate {A = ℕ} 128 (4 * k + i) 0 0 (omega arith)) in
-    rw (entries-ext (replicate 128 0) (λ k. noEntry) none (λ k h. refl)) refl
+    rw (entries-ext 4 (replicate 128 0) (λ k. noEntry) none (λ k h. refl)) refl
 
-pub fresh-image : (s : Station) → bytesOf (freshState (s .resources)) ≡ imageOf 4 (freshStatus s)
-unfolding freshState
-fresh-image s = sym (image-of (freshState (s .resources)) (length-replicate {A = ℕ} 128 0)) ∙ ap (imageOf 4) (fresh-status s)
+pub fresh-image : (t : List ℕ) → storeState (freshState (station t .resources)) ≡ imageOf (width t) (freshStatus (station t))
+unfolding width freshState
+fresh-image t = sym (image-of (freshState (station t .resources)) (length-replicate {A = ℕ} 128 0)) ∙ ap (imageOf 4) (fresh-status (station t))
 
-pub ruleset held = (entry-read, loaded, stored, fresh-is)
+pub ruleset held = (entry-read, entry-is, on-read, on-inside, other-entry, own-entry, loaded, stored, fresh-is)

@@ -1,7 +1,7 @@
 -- A device's consistency by its parts, and the needed set by its turns: one law for each way out of the code that tests or sums them.
 -- Assumes nothing.
 use mathlib.Core.Path.{_≡_, refl, ap, _∙_}
-use mathlib.Core.Bool.{Bool, true, false, not, _&&_, _||_}
+use mathlib.Core.Bool.{Bool, true, false, not, cond, _&&_, _||_}
 use mathlib.Core.Logic.{⊎-elim}
 use mathlib.Core.List.{List}
 use Prim.Native.Nat.{ℕ, _+_, _*_, _≤_, _<_}
@@ -9,82 +9,89 @@ use native.Mathlib.Numerals.{add-one}
 use native.Mathlib.Omega.{arith}
 use borrow.Author.Tests.{eqb-true, eq-eqb, ne-eqb, leb-true, ltb-true, not-true, not-false}
 use lib.Dec.{eqb, leb, ltb}
-use lib.ListN.{getD}
+use lib.ListN.{length, getD}
 use Rattle.sets.specs.Sets.{union, subset}
 use Rattle.rules.specs.declared.Entry.{Entry}
-use Rattle.rules.specs.declared.Verdict.the-variants.{Done, Inconsistent}
+use Rattle.rules.specs.declared.Verdict.the-variants.{Done, Refused}
+use Rattle.rules.specs.declared.Reason.the-variants.{Inconsistent}
 use Rattle.rules.specs.Answers.{lowest}
-use Rattle.rules.specs.Station.{Station, countD, stationOf}
+use Rattle.rules.specs.Station.{Station, width, limit, countD, stationOf, station}
 use Rattle.rules.specs.Table.{parentGood}
 use Rattle.rules.specs.Power.{supported, needs, neededBelow, needed, wakePair}
-use Rattle.rules.specs.Status.{Status, entryAt, entriesOf, entryGood, entriesGood, underParent, wakeSound, consistentButPower, powered, consistent, consistencyVerdict}
+use Rattle.rules.specs.Status.{Status, entryAt, entries, entryGood, entriesGood, parentAllows, wakeConsistent, consistentButPower, powered, consistent, consistencyVerdict}
+use Rattle.rules.specs.Request.{replaceEntry}
 use Rattle.rules.proofs.Index.{every-at}
 use Rattle.laws.proofs.Tests.{both-true, or-cases}
-use Rattle.table.specs.Layout.{Laid}
+use Rattle.table.specs.Layout.{WellSized}
 use Rattle.status.specs.Ready.{Ready, statusWith}
-use Rattle.status.proofs.Held.{entry-in}
+use Rattle.status.proofs.Held.{entry-in, entry-is}
 use Rattle.status.proofs.Loops.{Looking, lowest-found, lowest-all}
 
 -- D by the table's byte, and as the station has it
-pub devices-are : (t : List ℕ) (n : ℕ) → n ≡ countD t → n ≡ stationOf 4 t .devices
+pub devices-are : (t : List ℕ) (n : ℕ) → n ≡ countD t → n ≡ station t .devices
 unfolding stationOf
 devices-are t n e = e
 
--- ---- under its parent; p is the parent's number
-module _ (t b : List ℕ) (d p : ℕ) (q : p ≡ stationOf 4 t .device d .parent) where
-  pub parent-none : p ≡ 255 → true ≡ underParent (stationOf 4 t) (entriesOf 4 b) d
-  unfolding underParent
+-- ---- the parent, whose number is p
+module _ (t b : List ℕ) (d x p : ℕ) (q : p ≡ station t .device d .parent) where
+  pub parent-none : p ≡ 255 → true ≡ parentAllows (station t) (entries t b) d x
+  unfolding parentAllows
   parent-none e = rw (← q, eq-eqb p 255 e) refl
 
-  pub parent-state : (up own : Entry) → (p ≡ 255 → ⊥) → up ≡ entriesOf 4 b p → own ≡ entriesOf 4 b d
-      → leb (up .state) (own .state) ≡ underParent (stationOf 4 t) (entriesOf 4 b) d
-  unfolding underParent
-  parent-state up own n f g = rw (← q, ne-eqb p 255 n, f, g) refl
+  -- a parent is lower than its child
+  parent-small : Ready t b → d < countD t → (p ≡ 255 → ⊥) → p < countD t
+  unfolding parentGood
+  parent-small r h n =
+      let u = station t .device d .parent in
+      ⊎-elim (λ a. omega (arith, ltb-true u d a)) (λ a. absurd (n (q ∙ eqb-true u 255 a))) (or-cases (ltb u d) (eqb u 255) (r .parents d h))
 
--- a parent is lower than its child
-pub parent-small : (t : List ℕ) (d p : ℕ) → Laid t → d < countD t → parentGood d (stationOf 4 t .device d) ≡ true → p ≡ stationOf 4 t .device d .parent → (p ≡ 255 → ⊥) → p < 32
-unfolding parentGood
-parent-small t d p l h g q n =
-    let r = stationOf 4 t .device d .parent in
-    ⊎-elim (λ a. omega (arith, ltb-true r d a, l .devices)) (λ a. absurd (n (q ∙ eqb-true r 255 a))) (or-cases (ltb r d) (eqb r 255) g)
+  pub parent-read : Ready t b → d < countD t → (p ≡ 255 → ⊥) → 4 * p + 4 ≤ length b
+  parent-read r h n = let l = parent-small r h n in omega (arith, r .sized .devices, r .long)
+
+  pub parent-state : (up : Entry) → Ready t b → d < countD t → (p ≡ 255 → ⊥) → up ≡ entryAt b (4 * p) → leb (up .state) x ≡ parentAllows (station t) (entries t b) d x
+  unfolding parentAllows
+  parent-state up r h n f =
+      rw (← q, ne-eqb p 255 n, ← entry-is t b p up (r .sized) (parent-small r h n) f) refl
 
 -- ---- the wake rules; legal is what the test of the pair returned
-module _ (s : Station) (b : List ℕ) (d : ℕ) (h : d < 32) where
-  armed-is : getD b (4 * d + 1) 0 ≡ entriesOf 4 b d .armed
+module _ (t b : List ℕ) (d : ℕ) (r : Ready t b) (h : d < countD t) where
+  armed-is : getD b (4 * d + 1) 0 ≡ entries t b d .armed
   unfolding entryAt
-  armed-is = rw (entry-in b d h) refl
+  armed-is = rw (entry-in (width t) b d (omega (arith, r .sized .devices))) refl
 
-  pub wake-unarmed : (getD b (4 * d + 1) 0 ≡ 1 → ⊥) → true ≡ wakeSound s d (entriesOf 4 b d)
-  unfolding wakeSound
+  pub wake-unarmed : (getD b (4 * d + 1) 0 ≡ 1 → ⊥) → true ≡ wakeConsistent (station t) d (entries t b d)
+  unfolding wakeConsistent
   wake-unarmed n = rw (← armed-is, ne-eqb (getD b (4 * d + 1) 0) 1 n) refl
 
-  module _ (e : Entry) (legal : Bool) (a : getD b (4 * d + 1) 0 ≡ 1) (read : e ≡ entriesOf 4 b d) (q : legal ≡ wakePair s d (e .sleep) (e .wake)) where
-    pub wake-illegal : not legal ≡ true → false ≡ wakeSound s d (entriesOf 4 b d)
-    unfolding wakeSound
-    wake-illegal n = rw (← armed-is, eq-eqb (getD b (4 * d + 1) 0) 1 a, ← read, ← q, not-true legal n) refl
+  module _ (e : Entry) (legal : Bool) (a : getD b (4 * d + 1) 0 ≡ 1) (read : e ≡ entryAt b (4 * d)) (q : legal ≡ wakePair (station t) d (e .sleep) (e .wake)) where
+    pub wake-illegal : not legal ≡ true → false ≡ wakeConsistent (station t) d (entries t b d)
+    unfolding wakeConsistent
+    wake-illegal n = rw (← armed-is, eq-eqb (getD b (4 * d + 1) 0) 1 a, ← entry-is t b d e (r .sized) h read, ← q, not-true legal n) refl
 
-    pub wake-legal : not legal ≡ false → leb (e .state) (e .wake) ≡ wakeSound s d (entriesOf 4 b d)
-    unfolding wakeSound
-    wake-legal n = rw (← armed-is, eq-eqb (getD b (4 * d + 1) 0) 1 a, ← read, ← q, not-false legal n) refl
+    pub wake-legal : not legal ≡ false → leb (e .state) (e .wake) ≡ wakeConsistent (station t) d (entries t b d)
+    unfolding wakeConsistent
+    wake-legal n = rw (← armed-is, eq-eqb (getD b (4 * d + 1) 0) 1 a, ← entry-is t b d e (r .sized) h read, ← q, not-false legal n) refl
 
 -- ---- the three rules apart from power
-module _ (s : Station) (entries : ℕ → Entry) (d : ℕ) (e : Entry) (known : Bool) (read : e ≡ entries d) (a : known ≡ supported s d (e .state)) where
-  pub apart-known : not known ≡ true → false ≡ consistentButPower s entries d
+module _ (t b : List ℕ) (d : ℕ) (r : Ready t b) (h : d < countD t) (e : Entry) (known : Bool) (read : e ≡ entryAt b (4 * d)) (a : known ≡ supported (station t) d (e .state)) where
+  pub apart-known : not known ≡ true → false ≡ consistentButPower (station t) (entries t b) d
   unfolding consistentButPower
-  apart-known n = rw (← read, ← a, not-true known n) refl
+  apart-known n = rw (← entry-is t b d e (r .sized) h read, ← a, not-true known n) refl
 
-  pub apart-under : (under : Bool) → not known ≡ false → under ≡ underParent s entries d → not under ≡ true → false ≡ consistentButPower s entries d
-  unfolding consistentButPower
-  apart-under under m b n = rw (← read, ← a, not-false known m, ← b, not-true under n) refl
+  module _ (under : Bool) (m : not known ≡ false) (u : under ≡ parentAllows (station t) (entries t b) d (e .state)) where
+    pub apart-under : not under ≡ true → false ≡ consistentButPower (station t) (entries t b) d
+    unfolding consistentButPower
+    apart-under n = rw (← entry-is t b d e (r .sized) h read, ← a, not-false known m, ← u, not-true under n) refl
 
-  pub apart-wake : (under wake : Bool) → not known ≡ false → under ≡ underParent s entries d → not under ≡ false → wake ≡ wakeSound s d (entries d) → wake ≡ consistentButPower s entries d
-  unfolding consistentButPower
-  apart-wake under wake m b n c = rw (← read, ← a, not-false known m, ← b, not-false under n) (rw (← read) at c)
+    pub apart-wake : (wake : Bool) → not under ≡ false → wake ≡ wakeConsistent (station t) d (entries t b d) → wake ≡ consistentButPower (station t) (entries t b) d
+    unfolding consistentButPower
+    apart-wake wake n c = rw (← entry-is t b d e (r .sized) h read, ← a, not-false known m, ← u, not-false under n) (rw (← entry-is t b d e (r .sized) h read) at c)
 
 -- ---- power
-pub power-is : (s : Station) (b : List ℕ) (on d : ℕ) (e : Entry) (n : ℕ) (r : Bool) → e ≡ entriesOf 4 b d → n ≡ needs s d e → r ≡ subset n on → r ≡ powered s (statusWith b on) d
+pub power-is : (t b : List ℕ) (on d : ℕ) (e : Entry) (n : ℕ) (v : Bool) → Ready t b → d < countD t → e ≡ entryAt b (4 * d) → n ≡ needs (station t) d e → v ≡ subset n on
+    → v ≡ powered (station t) (statusWith t b on) d
 unfolding powered
-power-is s b on d e n r p q f = rw (← p, ← q) f
+power-is t b on d e n v r h p q f = rw (← entry-is t b d e (r .sized) h p, ← q) f
 
 -- ---- all rules
 module _ (s : Station) (st : Status) (d : ℕ) (apart : Bool) (a : apart ≡ consistentButPower s (st .entries) d) where
@@ -106,40 +113,48 @@ sleep-in e g =
     let a = both-true (low && sleep && wake) (eqb (e .armed) 1 || eqb (e .sleep) 0 && eqb (e .wake) 0) g in
     omega (arith, leb-true (e .sleep) 4 (both-true low sleep (both-true (low && sleep) wake (a .0) .0) .1))
 
-module _ (t b : List ℕ) (d : ℕ) (r : Ready t b) (h : d < countD t) where
-  pub ready-parent : parentGood d (stationOf 4 t .device d) ≡ true
-  ready-parent = r .parents d h
+-- the wake S of an entry is in range
+pub ready-sleep : (t b : List ℕ) (d : ℕ) (e : Entry) → Ready t b → d < countD t → e ≡ entryAt b (4 * d) → e .sleep < 5
+unfolding entriesGood
+ready-sleep t b d e r h q =
+    let l : d < limit (width t) = omega (arith, r .sized .devices) in
+    rw (entry-is t b d e (r .sized) h q) (sleep-in (entries t b d) (both-true _ _ (every-at _ (limit (width t)) d (r .good) l) .0))
 
-  pub ready-sleep : (e : Entry) → e ≡ entriesOf 4 b d → e .sleep < 5
-  unfolding entriesGood
-  ready-sleep e q =
-      let l = r .laid .devices in
-      rw q (sleep-in (entriesOf 4 b d) (both-true _ _ (every-at _ 32 d (r .entries) (omega arith)) .0))
-
-pub ruleset keep-laws = (parent-none, parent-state, parent-small, wake-unarmed, wake-illegal, wake-legal, apart-known, apart-under, apart-wake, power-is, breaks, keeps, ready-parent, ready-sleep)
+pub ruleset keep-laws = (parent-none, parent-read, parent-state, wake-unarmed, wake-illegal, wake-legal, apart-known, apart-under, apart-wake, power-is, breaks, keeps, ready-sleep)
 
 -- ---- all devices
 module _ (s : Station) (st : Status) (n i : ℕ) (look : Looking (consistent s st) n i) (all : n ≡ s .devices) where
-  pub inconsistent : (b : Bool) → i < n → b ≡ consistent s st i → not b ≡ true → Inconsistent i ≡ consistencyVerdict s st
+  pub inconsistent : (b : Bool) → i < n → b ≡ consistent s st i → not b ≡ true → Refused Inconsistent i ≡ consistencyVerdict s st
   unfolding consistencyVerdict
-  inconsistent b h e t = lowest-found (consistent s st) n i b Inconsistent look h e t ∙ ap (λ (k : ℕ). lowest (λ j. not (consistent s st j)) k Inconsistent) all
+  inconsistent b h e t = lowest-found (consistent s st) n i b (Refused Inconsistent) look h e t ∙ ap (λ (k : ℕ). lowest (λ j. not (consistent s st j)) k (Refused Inconsistent)) all
 
   pub consistent-all : n ≤ i → Done 0 ≡ consistencyVerdict s st
   unfolding consistencyVerdict
-  consistent-all h = lowest-all (consistent s st) n i Inconsistent look h ∙ ap (λ (k : ℕ). lowest (λ j. not (consistent s st j)) k Inconsistent) all
+  consistent-all h = lowest-all (consistent s st) n i (Refused Inconsistent) look h ∙ ap (λ (k : ℕ). lowest (λ j. not (consistent s st j)) k (Refused Inconsistent)) all
 
--- ---- the needed set
-module _ (s : Station) (entries : ℕ → Entry) where
-  pub need-none : 0 ≡ neededBelow s entries 0
+-- ---- the needed set, device d's entry being e
+below-limit : (t : List ℕ) (i : ℕ) → WellSized t → i < station t .devices → i < limit (width t)
+unfolding stationOf
+below-limit t i z l = omega (arith, z .devices)
+
+module _ (t b : List ℕ) (d : ℕ) (e : Entry) where
+  abbrev replaced : ℕ → Entry
+  replaced = replaceEntry (entries t b) d e
+
+  pub need-none : 0 ≡ neededBelow (station t) (replaceEntry (entries t b) d e) 0
   unfolding neededBelow
   need-none = refl
 
-  pub need-next : (i a m r : ℕ) (e : Entry) → a ≡ neededBelow s entries i → e ≡ entries i → m ≡ needs s i e → r ≡ union a m → r ≡ neededBelow s entries (i + 1)
+  pub need-next : (i n a m r : ℕ) (f : Entry) → a ≡ neededBelow (station t) (replaceEntry (entries t b) d e) i → WellSized t → n ≡ station t .devices → i < n → f ≡ cond (eqb i d) e (entryAt b (4 * i))
+      → m ≡ needs (station t) i f → r ≡ union a m → r ≡ neededBelow (station t) (replaceEntry (entries t b) d e) (i + 1)
   unfolding neededBelow
-  need-next i a m r e p q f g = g ∙ rw (add-one i, p, f, q) refl
+  need-next i n a m r f p z v l q g k =
+      let same : f ≡ replaced i = q ∙ (unfold replaceEntry in rw (entry-in (width t) b i (below-limit t i z (rw v at l))) refl) in
+      k ∙ rw (add-one i, p, g, same) refl
 
-  pub need-all : (i n a : ℕ) → a ≡ neededBelow s entries i → n ≡ s .devices → i ≤ n → n ≤ i → a ≡ needed s entries
+  pub need-all : (i n a : ℕ) → a ≡ neededBelow (station t) (replaceEntry (entries t b) d e) i → n ≡ station t .devices → i ≤ n → n ≤ i
+      → a ≡ needed (station t) (replaceEntry (entries t b) d e)
   unfolding needed
-  need-all i n a p q g h = p ∙ ap (neededBelow s entries) (omega arith)
+  need-all i n a p q g h = p ∙ ap (neededBelow (station t) replaced) (omega arith)
 
 pub ruleset turn-laws = (devices-are, inconsistent, consistent-all, need-none, need-next, need-all)

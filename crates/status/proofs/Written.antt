@@ -14,12 +14,12 @@ use Rattle.sets.proofs.Laws.{decide}
 use Rattle.rules.specs.declared.State.{State}
 use Rattle.rules.specs.declared.Entry.{Entry}
 use Rattle.rules.specs.declared.Request.{Request}
-use Rattle.rules.specs.Station.{Station}
-use Rattle.rules.specs.Status.{entryAt, entryBytes, entriesOf, statusOf, imageOf}
-use Rattle.rules.specs.Power.{needed}
-use Rattle.rules.specs.Request.{newEntry, entriesAfter}
+use Rattle.rules.specs.Station.{width, limit, station}
+use Rattle.rules.specs.Status.{entryAt, entryBytes, entriesOf, statusOf, status, imageOf, imageSize}
+use Rattle.rules.specs.Request.{newEntry, replaceEntry, entriesAfter}
 use Rattle.rules.specs.Calls.{endSet, statusAfter}
-use Rattle.status.specs.State.{stateOf, bytesOf, statusIn, withEntry}
+use Rattle.rules.specs.Outcomes.{stateAfter}
+use Rattle.status.specs.State.{loadState, storeState, statusIn, withEntry}
 use Rattle.status.proofs.Held.{entry-in, entry-out, entry-same, entries-of, image-of}
 
 -- ---- a run of stores
@@ -47,7 +47,7 @@ entry-written st d e h l =
     let vs = e .state ∷ e .armed ∷ e .sleep ∷ e .wake ∷ [] in
     let new = sets (st .devices) (4 * d) vs in
     let at : (j : ℕ) → j < 4 → getD new (4 * d + j) 0 ≡ getD vs j 0 = λ j g. sets-same vs (st .devices) (4 * d) j g (omega arith) in
-    entry-in new d h ∙ rw (rw add-zero at (at 0 (omega arith)), at 1 (omega arith), at 2 (omega arith), at 3 (omega arith)) refl
+    entry-in 4 new d h ∙ rw (rw add-zero at (at 0 (omega arith)), at 1 (omega arith), at 2 (omega arith), at 3 (omega arith)) refl
 
 pub entry-kept : (st : State) (d k : ℕ) (e : Entry) → (k ≡ d → ⊥) → entriesOf 4 (withEntry st d e .devices) k ≡ entriesOf 4 (st .devices) k
 unfolding withEntry entryBytes
@@ -57,10 +57,10 @@ entry-kept st d k e n =
     let new = sets old (4 * d) vs in
     let apart : (k < d) ⊎ (d < k) = decide (ltb k d) (λ a. inl (ltb-true k d a)) (λ a. inr (omega (arith, ltb-false k d a))) in
     decide (ltb k 32)
-    (λ a. entry-in new k (ltb-true k 32 a)
+    (λ a. entry-in 4 new k (ltb-true k 32 a)
     ∙ entry-same new old (4 * k) (λ i g. sets-other vs old (4 * d) (4 * k + i) (⊎-elim (λ b. inl (omega arith)) (λ b. inr (omega arith)) apart))
-    ∙ sym (entry-in old k (ltb-true k 32 a)))
-    (λ a. entry-out new k (ltb-false k 32 a) ∙ sym (entry-out old k (ltb-false k 32 a)))
+    ∙ sym (entry-in 4 old k (ltb-true k 32 a)))
+    (λ a. entry-out 4 new k (ltb-false k 32 a) ∙ sym (entry-out 4 old k (ltb-false k 32 a)))
 
 -- the four stores, as the code makes them
 pub with-is : (st : State) (d : ℕ) (e : Entry)
@@ -68,30 +68,26 @@ pub with-is : (st : State) (d : ℕ) (e : Entry)
 unfolding withEntry entryBytes
 with-is st d e = simp towards-suc
 
--- ---- a request's new entry
-
--- with it written, the entries are those after the request
-pub after-entries : (st : State) (q : Request) (e : Entry) → q .device < 32 → length (st .devices) ≡ 128 → e ≡ newEntry (entriesOf 4 (st .devices) (q .device)) q
-    → entriesOf 4 (withEntry st (q .device) e .devices) ≡ entriesAfter (entriesOf 4 (st .devices)) q
-unfolding entriesAfter
-after-entries st q e h l n =
-    fun-ext
-    (λ k. decide (eqb k (q .device)) (λ z. rw (z, eqb-true k (q .device) z) (entry-written st (q .device) e h l ∙ n))
-    (λ z. rw z (entry-kept st (q .device) k e (eqb-false k (q .device) z))))
+-- with it written, that entry is replaced and the others are as before
+pub with-replaced : (st : State) (d : ℕ) (e : Entry) → d < 32 → length (st .devices) ≡ 128 → entriesOf 4 (withEntry st d e .devices) ≡ replaceEntry (entriesOf 4 (st .devices)) d e
+unfolding replaceEntry
+with-replaced st d e h l =
+    fun-ext (λ k. decide (eqb k d) (λ z. rw (z, eqb-true k d z) (entry-written st d e h l)) (λ z. rw z (entry-kept st d k e (eqb-false k d z))))
 
 pub with-long : (st : State) (d : ℕ) (e : Entry) → length (withEntry st d e .devices) ≡ length (st .devices)
 unfolding withEntry
 with-long st d e = length-sets (st .devices) (4 * d) (entryBytes e)
 
--- and the image of that, with the set at the request's end, is the image after the request
-pub after-image : (s : Station) (b : List ℕ) (q : Request) (e : Entry) (on : ℕ) → length b ≡ 132 → q .device < 32 → e ≡ newEntry (entriesOf 4 (stateOf b .devices) (q .device)) q
-    → on ≡ needed s (entriesOf 4 (withEntry (stateOf b) (q .device) e .devices))
-    → bytesOf (record { devices = withEntry (stateOf b) (q .device) e .devices; on = on }) ≡ imageOf 4 (statusAfter s (statusOf 4 b) q)
-unfolding statusAfter endSet statusIn
-after-image s b q e on l h n f =
-    let st = stateOf b in
-    let long : length (st .devices) ≡ 128 = unfold stateOf in length-take-le 128 b (omega arith) in
+-- the state with the request's new entry and the set at its end is the one after the request
+pub after-image : (t b : List ℕ) (q : Request) (e : Entry) (on : ℕ) → length b ≡ imageSize (width t) → q .device < limit (width t)
+    → e ≡ newEntry (status t b .entries (q .device)) q → on ≡ endSet (station t) (status t b .entries) q
+    → storeState (record { devices = withEntry (loadState b) (q .device) e .devices; on = on }) ≡ stateAfter t b q
+unfolding width statusAfter statusIn stateAfter
+after-image t b q e on l h n f =
+    let st = loadState b in
+    let long : length (st .devices) ≡ 128 = unfold loadState in length-take-le 128 b (omega arith) in
     let new : State = record { devices = withEntry st (q .device) e .devices; on = on } in
-    let es : entriesOf 4 (new .devices) ≡ entriesAfter (statusOf 4 b .entries) q = after-entries st q e h long n ∙ ap (λ (x : ℕ → Entry). entriesAfter x q) (entries-of b) in
-    let same : statusIn new ≡ statusAfter s (statusOf 4 b) q = rw (f, es) refl in
+    let es : entriesOf 4 (new .devices) ≡ entriesAfter (statusOf 4 b .entries) q =
+    with-replaced st (q .device) e h long ∙ rw (entries-of b, n) refl in
+    let same : statusIn new ≡ statusAfter (station t) (statusOf 4 b) q = rw (f, es) refl in
     sym (image-of new (with-long st (q .device) e ∙ long)) ∙ ap (imageOf 4) same

@@ -4,17 +4,17 @@ use mathlib.Core.Path.{_≡_}
 use mathlib.Core.Bool.{true}
 use mathlib.Core.List.{List}
 use lib.ListN.{length}
-use Rattle.rules.specs.Station.{countD, stationOf}
+use Rattle.rules.specs.Station.{width, limit, countD, station}
 use Rattle.rules.specs.Table.{parentGood}
-use Rattle.rules.specs.Status.{Status, entriesOf, entriesGood}
-use Rattle.table.specs.Layout.{Laid}
+use Rattle.rules.specs.Status.{Status, entriesSize, entries, entriesGood}
+use Rattle.table.specs.Layout.{WellSized}
 
 pub record Ready (t b : List ℕ) : Type 0 where
-  pub laid : Laid t
-  pub parents : (d : ℕ) → d < countD t → parentGood d (stationOf 4 t .device d) ≡ true
-  pub long : 128 ≤ length b
-  pub entries : entriesGood 32 (stationOf 4 t) (entriesOf 4 b) ≡ true
+  pub sized : WellSized t
+  pub parents : (d : ℕ) → d < countD t → parentGood d (station t .device d) ≡ true
+  pub long : entriesSize (width t) ≤ length b
+  pub good : entriesGood (limit (width t)) (station t) (entries t b) ≡ true
 
 -- the status of these bytes with an on-set
-abbrev pub statusWith : List ℕ → ℕ → Status
-statusWith b on = record { entries = entriesOf 4 b; on = on }
+abbrev pub statusWith : List ℕ → List ℕ → ℕ → Status
+statusWith t b on = record { entries = entries t b; on = on }

@@ -10,12 +10,12 @@ use Rattle.rules.specs.declared.Entry.{Entry}
 use Rattle.rules.specs.Status.{Status, entryBytes, entriesOf}
 
 -- the state that the 132 bytes of an image hold
-unfoldable pub stateOf : List ℕ → State
-stateOf b = record { devices = take 128 b; on = readLE 4 b 128 }
+unfoldable pub loadState : List ℕ → State
+loadState b = record { devices = take 128 b; on = readLE 4 b 128 }
 
 -- the image that a state is written as
-unfoldable pub bytesOf : State → List ℕ
-bytesOf st = st .devices ++ bytesLE 4 (st .on)
+unfoldable pub storeState : State → List ℕ
+storeState st = st .devices ++ bytesLE 4 (st .on)
 
 -- what a state says of the devices and resources
 unfoldable pub statusIn : State → Status

@@ -1,9 +1,10 @@
 // The state image as a state by value and back, and a device's entry in it.
 ghost use mathlib.Core.Path.{_≡_};
-ghost use Prim.Native.Nat.{_<_, _≤_};
+ghost use Prim.Native.Nat.{_+_, _*_, _<_, _≤_};
 ghost use lib.ListN.{length};
-ghost use Rattle.rules.specs.Status.{entriesOf};
-ghost use Rattle.status.specs.State.{stateOf, bytesOf, freshState, withEntry};
+ghost use Rattle.rules.specs.Station.{width};
+ghost use Rattle.rules.specs.Status.{entryAt, imageSize, status};
+ghost use Rattle.status.specs.State.{loadState, storeState, freshState, withEntry};
 
 // Every device in D0, none armed, the given number of resources on.
 pub fn fresh_state(resources: u32) -> rules::State
@@ -20,7 +21,7 @@ pub fn fresh_state(resources: u32) -> rules::State
 // The state that an image holds.
 pub fn load(image: &[u8]) -> rules::State
     requires { ⌜ length (now image) ≡ 132 ⌝ }
-    ensures { λ r. ⌜ r ≡ stateOf (now (image .entry)) ⌝ }
+    ensures { λ r. ⌜ r ≡ loadState (now (image .entry)) ⌝ }
 {
     let blank = fresh_state(0);
     let mut devices = blank.devices;
@@ -36,7 +37,7 @@ pub fn load(image: &[u8]) -> rules::State
 // The state's image, written over all of the lent bytes.
 pub fn store(state: rules::State, image: &mut [u8])
     requires { ⌜ length (now image) ≡ 132 ⌝ }
-    ensures { λ _. ⌜ now (image .exit) ≡ bytesOf state ⌝ }
+    ensures { λ _. ⌜ now (image .exit) ≡ storeState state ⌝ }
 {
     let devices = state.devices;
     let mut i = 0;
@@ -47,10 +48,25 @@ pub fn store(state: rules::State, image: &mut [u8])
     words::write32(image, 128, state.on);
 }
 
+// The bytes that the image of a table's state has.
+pub fn size(table: &[u8]) -> usize
+    ensures { λ r. ⌜ r ≡ imageSize (width (now (table .entry))) ⌝ }
+{
+    33 * table::fields::width(table)
+}
+
+// The resources that an image of that size has on.
+pub fn on_set(table: &[u8], image: &[u8]) -> u32
+    requires { ⌜ length (now image) ≡ imageSize (width (now table)) ⌝ }
+    ensures { λ r. ⌜ r ≡ status (now (table .entry)) (now (image .entry)) .on ⌝ }
+{
+    words::read32(image, 32 * table::fields::width(table))
+}
+
 // Device d's entry, of bytes that start with the device part.
 pub fn entry(devices: &[u8], d: usize) -> rules::Entry
-    requires { ⌜ (128 ≤ length (now devices)) × (d < 32) ⌝ }
-    ensures { λ r. ⌜ r ≡ entriesOf 4 (now (devices .entry)) d ⌝ }
+    requires { ⌜ 4 * d + 4 ≤ length (now devices) ⌝ }
+    ensures { λ r. ⌜ r ≡ entryAt (now (devices .entry)) (4 * d) ⌝ }
 {
     let at = 4 * d;
     rules::Entry {

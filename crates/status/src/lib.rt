@@ -4,44 +4,45 @@ pub mod image;
 pub mod needed;
 pub mod values;
 
+use rules::Reason;
+use rules::Verdict;
 ghost use mathlib.Core.Path.{_≡_};
 ghost use Rattle.rules.specs.declared.Verdict.the-variants.{Done};
-ghost use Rattle.rules.specs.Station.{stationOf};
 ghost use Rattle.rules.specs.Table.{tableVerdict};
 ghost use Rattle.rules.specs.Status.{stateVerdict};
 ghost use Rattle.rules.specs.Outcomes.{fresh};
 
 // Whether a state image is good for an accepted table.
-pub fn check_state(table: &[u8], image: &[u8]) -> rules::Verdict
-    requires { ⌜ tableVerdict 4 (now table) ≡ Done 0 ⌝ }
-    ensures { λ r. ⌜ r ≡ stateVerdict 4 (stationOf 4 (now (table .entry))) (now (image .entry)) ⌝ }
+pub fn check_state(table: &[u8], image: &[u8]) -> Verdict
+    requires { ⌜ tableVerdict (now table) ≡ Done 0 ⌝ }
+    ensures { λ r. ⌜ r ≡ stateVerdict (now (table .entry)) (now (image .entry)) ⌝ }
 {
-    if image.len() != 132 {
-        return rules::Verdict::BadState;
+    if image.len() != crate::image::size(table) {
+        return Verdict::Refused(Reason::BadState, 0);
     }
     if !crate::values::entries_good(table, image) {
-        return rules::Verdict::BadState;
+        return Verdict::Refused(Reason::BadState, 0);
     }
-    let on = words::read32(image, 128);
+    let on = crate::image::on_set(table, image);
     if !crate::values::on_good(table, on) {
-        return rules::Verdict::BadState;
+        return Verdict::Refused(Reason::BadState, 0);
     }
     crate::consistency::consistency(table, image, on)
 }
 
 // A fresh state for a table that is good, into bytes that are an image's; a refusal leaves every byte.
-pub fn fresh(table: &[u8], state: &mut [u8]) -> rules::Verdict
-    ensures { λ r. ⌜ (r ≡ fresh 4 (now (table .entry)) (now (state .entry)) .verdict) × (now (state .exit) ≡ fresh 4 (now (table .entry)) (now (state .entry)) .state) ⌝ }
+pub fn fresh(table: &[u8], state: &mut [u8]) -> Verdict
+    ensures { λ r. ⌜ (r ≡ fresh (now (table .entry)) (now (state .entry)) .verdict) × (now (state .exit) ≡ fresh (now (table .entry)) (now (state .entry)) .state) ⌝ }
 {
     let verdict = table::check_table(table);
     if !rules::passes(verdict) {
         return verdict;
     }
-    if state.len() != 132 {
-        return rules::Verdict::BadState;
+    if state.len() != crate::image::size(table) {
+        return Verdict::Refused(Reason::BadState, 0);
     }
     let resources = table::fields::resources(table);
     let made = crate::image::fresh_state(resources as u32);
     crate::image::store(made, state);
-    rules::Verdict::Done(0)
+    Verdict::Done(0)
 }

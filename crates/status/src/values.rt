@@ -1,13 +1,13 @@
 // Whether the values of a state image are in range, answer 7, apart from its length.
 ghost use mathlib.Core.Path.{_≡_};
 ghost use mathlib.Core.Bool.{_||_};
-ghost use Prim.Native.Nat.{_<_, _≤_};
+ghost use Prim.Native.Nat.{_+_, _*_, _<_, _≤_};
 ghost use lib.Dec.{ltb};
 ghost use lib.ListN.{length};
 ghost use Rattle.rules.specs.Index.{every};
-ghost use Rattle.rules.specs.Station.{stationOf};
-ghost use Rattle.rules.specs.Status.{entriesOf, entryGood, entryZero, entriesGood, onGood};
-ghost use Rattle.table.specs.Layout.{Laid};
+ghost use Rattle.rules.specs.Station.{width, limit, station};
+ghost use Rattle.rules.specs.Status.{entryAt, entriesSize, entries, entryGood, entryZero, entriesGood, onGood};
+ghost use Rattle.table.specs.Layout.{WellSized};
 
 // Each number in its range, and no wake pair unless armed.
 pub fn entry_good(e: rules::Entry) -> bool
@@ -19,8 +19,8 @@ pub fn entry_good(e: rules::Entry) -> bool
 
 // Entry k is good. Read as one number, an entry that is not armed is good when that is at most 4; only the others are taken apart.
 fn place_good(devices: &[u8], k: usize) -> bool
-    requires { ⌜ (128 ≤ length (now devices)) × (k < 32) ⌝ }
-    ensures { λ r. ⌜ r ≡ entryGood (entriesOf 4 (now (devices .entry)) k) ⌝ }
+    requires { ⌜ 4 * k + 4 ≤ length (now devices) ⌝ }
+    ensures { λ r. ⌜ r ≡ entryGood (entryAt (now (devices .entry)) (4 * k)) ⌝ }
 {
     if words::read32(devices, 4 * k) <= 4 {
         return true;
@@ -30,8 +30,8 @@ fn place_good(devices: &[u8], k: usize) -> bool
 
 // Each of the first n entries is good.
 fn first_good(devices: &[u8], n: usize) -> bool
-    requires { ⌜ (128 ≤ length (now devices)) × (n ≤ 32) ⌝ }
-    ensures { λ r. ⌜ r ≡ every (λ k. entryGood (entriesOf 4 (now (devices .entry)) k)) n ⌝ }
+    requires { ⌜ 4 * n ≤ length (now devices) ⌝ }
+    ensures { λ r. ⌜ r ≡ every (λ k. entryGood (entryAt (now (devices .entry)) (4 * k))) n ⌝ }
 {
     let mut i = 0;
     while i < n {
@@ -44,36 +44,36 @@ fn first_good(devices: &[u8], n: usize) -> bool
     true
 }
 
-// Each entry from n on is zero: the union of all, each read as one number, so that no turn waits for a test.
-fn zero_from(devices: &[u8], n: usize) -> bool
-    requires { ⌜ (128 ≤ length (now devices)) × (n ≤ 32) ⌝ }
-    ensures { λ r. ⌜ r ≡ every (λ k. ltb k n || entryZero (entriesOf 4 (now (devices .entry)) k)) 32 ⌝ }
+// Each entry from n to the end is zero: the union of all, each read as one number, so that no turn waits for a test.
+fn zero_from(devices: &[u8], n: usize, end: usize) -> bool
+    requires { ⌜ (n ≤ end) × (4 * end ≤ length (now devices)) ⌝ }
+    ensures { λ r. ⌜ r ≡ every (λ k. ltb k n || entryZero (entryAt (now (devices .entry)) (4 * k))) end ⌝ }
 {
     let mut all: u32 = 0;
     let mut i = n;
-    while i < 32 {
+    while i < end {
         all = sets::union(all, words::read32(devices, 4 * i));
         i += 1;
     }
     all == 0
 }
 
-// Each of the 32 entries is good, and those from D on are zero; zero is good, so those need no other test.
+// Each entry is good, and those from D on are zero; zero is good, so those need no other test.
 pub fn entries_good(table: &[u8], devices: &[u8]) -> bool
-    requires { ⌜ Laid (now table) × (128 ≤ length (now devices)) ⌝ }
-    ensures { λ r. ⌜ r ≡ entriesGood 32 (stationOf 4 (now (table .entry))) (entriesOf 4 (now (devices .entry))) ⌝ }
+    requires { ⌜ WellSized (now table) × (entriesSize (width (now table)) ≤ length (now devices)) ⌝ }
+    ensures { λ r. ⌜ r ≡ entriesGood (limit (width (now (table .entry)))) (station (now (table .entry))) (entries (now (table .entry)) (now (devices .entry))) ⌝ }
 {
     let n = table::fields::devices(table);
     if !first_good(devices, n) {
         return false;
     }
-    zero_from(devices, n)
+    zero_from(devices, n, table::fields::limit(table))
 }
 
 // No resource from R on.
 pub fn on_good(table: &[u8], on: u32) -> bool
-    requires { ⌜ Laid (now table) ⌝ }
-    ensures { λ r. ⌜ r ≡ onGood (stationOf 4 (now (table .entry))) on ⌝ }
+    requires { ⌜ WellSized (now table) ⌝ }
+    ensures { λ r. ⌜ r ≡ onGood (station (now (table .entry))) on ⌝ }
 {
     sets::fits(on, table::fields::resources(table) as u32)
 }

@@ -2,8 +2,23 @@
 ghost use mathlib.Core.Path.{_≡_};
 ghost use Prim.Native.Nat.{_+_, _*_, _<_, _≤_};
 ghost use lib.ListN.{length};
-ghost use Rattle.rules.specs.Station.{width, countR, countD, deviceStart, station};
+ghost use Rattle.rules.specs.Station.{width, limit, countR, countD, deviceStart, station};
 ghost use Rattle.table.specs.Layout.{WellSized};
+
+// The bytes of a set.
+pub fn width(table: &[u8]) -> usize
+    ensures { λ r. ⌜ (r ≡ width (now (table .entry))) × (r ≤ 8) ⌝ }
+{
+    let _ = table;
+    4
+}
+
+// How many resources and devices there can be.
+pub fn limit(table: &[u8]) -> usize
+    ensures { λ r. ⌜ (r ≡ limit (width (now (table .entry)))) × (r ≤ 64) ⌝ }
+{
+    8 * width(table)
+}
 
 // R, the number of resources.
 pub fn resources(table: &[u8]) -> usize

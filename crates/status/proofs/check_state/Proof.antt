@@ -8,6 +8,7 @@ pub check-state-spec : {M : Type 1} → statement M
 check-state-spec =
     tie.close
     (tie.spec
+    (λ c κs. search needs)
     (λ c. search (needs, state-laws))
     (λ c κs. search (needs, state-laws))
     (λ c. search (needs, state-laws))

@@ -2,7 +2,7 @@
 use Prim.Native.Nat.{_≤_, _-_}
 use mathlib.Core.Path.{_≡_}
 use borrow.Author.Needs.{needs}
-use Rattle.rules.specs.Station.{stationOf}
+use Rattle.rules.specs.Station.{station}
 use Rattle.rules.specs.Status.{consistent}
 use Rattle.status.specs.Ready.{statusWith}
 use Rattle.status.proofs.Loops.{Looking, looks}
@@ -11,7 +11,7 @@ use Rattle.status.proofs.consistency.consistency.Statement.{statement}
 use Rattle.status.proofs.consistency.consistency.Tie as tie
 
 abbrev Inv-loop : tie.InvT-loop
-Inv-loop table devices on n i₀ i = (i ≤ n) × (n ≡ stationOf 4 table .devices) × Looking (consistent (stationOf 4 table) (statusWith devices on)) n i
+Inv-loop table devices on n i₀ i = (i ≤ n) × (n ≡ station table .devices) × Looking (consistent (station table) (statusWith table devices on)) n i
 
 abbrev μ-loop : tie.MeasureT-loop
 μ-loop table devices on n i₀ i = n - i

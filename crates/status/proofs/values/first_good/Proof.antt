@@ -1,17 +1,17 @@
 -- The loop stops at the first entry that is not good. Assumes nothing.
-use Prim.Native.Nat.{_≤_, _-_}
+use Prim.Native.Nat.{_*_, _≤_, _-_}
 use mathlib.Core.Path.{_≡_}
 use borrow.Author.Needs.{needs}
 use borrow.Author.Tests.{not-true, not-false}
 use Rattle.rules.specs.Index.{every}
-use Rattle.rules.specs.Status.{entriesOf, entryGood}
+use Rattle.rules.specs.Status.{entryAt, entryGood}
 use Rattle.laws.proofs.Every.{everyFrom, everyOf}
 use Rattle.status.proofs.values.first_good.Statement.{statement}
 use Rattle.status.proofs.values.first_good.Tie as tie
 
 abbrev Inv-loop : tie.InvT-loop
 Inv-loop devices n i₀ i =
-    (i ≤ n) × (everyFrom (λ k. entryGood (entriesOf 4 devices k)) i n ≡ every (λ k. entryGood (entriesOf 4 devices k)) n)
+    (i ≤ n) × (everyFrom (λ k. entryGood (entryAt devices (4 * k))) i n ≡ every (λ k. entryGood (entryAt devices (4 * k))) n)
 
 abbrev μ-loop : tie.MeasureT-loop
 μ-loop devices n i₀ i = n - i

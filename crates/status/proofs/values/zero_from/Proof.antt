@@ -9,10 +9,10 @@ use Rattle.status.proofs.values.zero_from.Statement.{statement}
 use Rattle.status.proofs.values.zero_from.Tie as tie
 
 abbrev Inv-loop : tie.InvT-loop
-Inv-loop devices n all₀ i₀ all i = (n ≤ i) × (i ≤ 32) × (eqb all 0 ≡ every (zeroFrom devices n) i)
+Inv-loop devices n end all₀ i₀ all i = (n ≤ i) × (i ≤ end) × (eqb all 0 ≡ every (zeroFrom devices n) i)
 
 abbrev μ-loop : tie.MeasureT-loop
-μ-loop devices n all₀ i₀ all i = 32 - i
+μ-loop devices n end all₀ i₀ all i = end - i
 
 loop-holds : tie.Need-loop-holds Inv-loop μ-loop
 loop-holds c = search (needs, range-laws)
@@ -21,7 +21,7 @@ loop-again : tie.Need-loop-again Inv-loop μ-loop
 loop-again c = search (needs, range-laws)
 
 returns : tie.Need-returns Inv-loop μ-loop
-returns c = zero-done _ _ (c .before .loop .i) _ (search needs) (search needs) (search needs)
+returns c = zero-done _ _ (c .before .loop .i) _ _ (search needs) (search needs) (search needs)
 
 pub zero-from-spec : {M : Type 1} → statement M
 zero-from-spec =

@@ -2,18 +2,20 @@
 use Prim.Native.Nat.{_≤_, _-_}
 use mathlib.Core.Path.{_≡_}
 use borrow.Author.Needs.{needs}
-use Rattle.rules.specs.Station.{stationOf}
+use Rattle.rules.specs.Station.{station}
 use Rattle.rules.specs.Power.{neededBelow}
-use Rattle.rules.specs.Status.{entriesOf}
+use Rattle.rules.specs.Status.{entries}
+use Rattle.rules.specs.Request.{replaceEntry}
 use Rattle.status.proofs.Keeps.{turn-laws}
-use Rattle.status.proofs.needed.needed.Statement.{statement}
-use Rattle.status.proofs.needed.needed.Tie as tie
+use Rattle.status.proofs.needed.needed_with.Statement.{statement}
+use Rattle.status.proofs.needed.needed_with.Tie as tie
 
 abbrev Inv-loop : tie.InvT-loop
-Inv-loop table devices n all₀ i₀ all i = (i ≤ n) × (n ≡ stationOf 4 table .devices) × (all ≡ neededBelow (stationOf 4 table) (entriesOf 4 devices) i)
+Inv-loop table devices d e n all₀ i₀ all i =
+    (i ≤ n) × (n ≡ station table .devices) × (all ≡ neededBelow (station table) (replaceEntry (entries table devices) d e) i)
 
 abbrev μ-loop : tie.MeasureT-loop
-μ-loop table devices n all₀ i₀ all i = n - i
+μ-loop table devices d e n all₀ i₀ all i = n - i
 
 loop-holds : tie.Need-loop-holds Inv-loop μ-loop
 loop-holds c = search (needs, turn-laws)
@@ -24,8 +26,8 @@ loop-again c = search (needs, turn-laws)
 returns : tie.Need-returns Inv-loop μ-loop
 returns c = search (needs, turn-laws)
 
-pub needed-spec : {M : Type 1} → statement M
-needed-spec =
+pub needed-with-spec : {M : Type 1} → statement M
+needed-with-spec =
     tie.close
     (tie.spec
     Inv-loop
