@@ -8,79 +8,78 @@ use borrow.Author.Tests.{not-true, not-false}
 use Rattle.rules.specs.declared.Entry.{Entry}
 use Rattle.rules.specs.declared.Request.{Request}
 use Rattle.rules.specs.declared.Verdict.{Verdict}
-use Rattle.rules.specs.declared.Verdict.the-variants.{Done, NotATable, NoRoom}
+use Rattle.rules.specs.declared.Verdict.the-variants.{Done, Refused}
+use Rattle.rules.specs.declared.Reason.the-variants.{NotATable, NoRoom}
 use Rattle.rules.specs.Answers.{passes, firstOf}
-use Rattle.rules.specs.Station.{Station, stationOf}
+use Rattle.rules.specs.Station.{Station, station}
 use Rattle.rules.specs.Table.{headerGood, tableVerdict}
-use Rattle.rules.specs.Status.{statusOf, entriesOf, stateVerdict}
+use Rattle.rules.specs.Status.{statusOf, entries, stateVerdict}
 use Rattle.rules.specs.Request.{requestVerdict}
-use Rattle.rules.specs.Outcomes.{requestStage}
-use Rattle.rules.proofs.Answers.{first-pass, first-stop, first-through, first-alone, unless-of, unless-stop}
+use Rattle.rules.specs.Outcomes.{requestStage, stagesVerdict}
+use Rattle.rules.proofs.Answers.{done-passes, refused-stops, first-pass, first-stop, first-through, first-alone, unless-of, unless-stop}
 use Rattle.laws.proofs.Accepted.{accepted}
-use Rattle.laws.proofs.States.{sound-of}
-use Rattle.table.proofs.Verdicts.{laid-of, no-table}
+use Rattle.laws.proofs.States.{consistent-of}
+use Rattle.table.proofs.Verdicts.{sized-of, no-table}
 use Rattle.status.specs.Ready.{Ready}
-use Rattle.request.specs.Stages.{stagesOf, stagesVerdict}
 
 -- a table that passes is done
-pub table-done : (t : List ℕ) → passes (tableVerdict 4 t) ≡ true → tableVerdict 4 t ≡ Done 0
+pub table-done : (t : List ℕ) → passes (tableVerdict t) ≡ true → tableVerdict t ≡ Done 0
 unfolding tableVerdict
 table-done t e = first-through _ (Done 0) e
 
 -- an accepted table and an accepted state
-pub ready-of : (t b : List ℕ) → passes (tableVerdict 4 t) ≡ true → passes (stateVerdict 4 (stationOf 4 t) b) ≡ true → Ready t b
+pub ready-of : (t b : List ℕ) → passes (tableVerdict t) ≡ true → passes (stateVerdict t b) ≡ true → Ready t b
 unfolding statusOf
 ready-of t b e f =
-    let a = accepted 4 t e in
-    let s = sound-of 4 (stationOf 4 t) b f in
-    record { laid = laid-of t e; parents = λ d h. a .device d h .parent; long = omega (arith, s .0); entries = s .1 .entries }
+    let a = accepted t e in
+    let s = consistent-of t b f in
+    record { sized = sized-of t e; parents = λ d h. a .device d h .parent; long = omega (arith, s .0); good = s .1 .entries }
 
 request-alone : (s : Station) (entries : ℕ → Entry) (q : Request) → firstOf (requestVerdict s entries q ∷ []) (Done 0) ≡ requestVerdict s entries q
 unfolding requestVerdict
 request-alone s entries q = first-alone _
 
 -- v and u are the answers of the first two stages, p and r whether they pass
-module _ (t b : List ℕ) (q : Request) (room : Bool) (v : Verdict) (p : Bool) (e : v ≡ tableVerdict 4 t) (f : p ≡ passes v) where
+module _ (t b : List ℕ) (q : Request) (room : Bool) (v : Verdict) (p : Bool) (e : v ≡ tableVerdict t) (f : p ≡ passes v) where
   pub stop-table : not p ≡ true → v ≡ stagesVerdict room t b q
-  unfolding stagesVerdict stagesOf
-  stop-table n = rw e (sym (first-stop (tableVerdict 4 t) _ (Done 0) (sym (ap passes e) ∙ sym f ∙ not-true p n)))
+  unfolding stagesVerdict
+  stop-table n = rw e (sym (first-stop (tableVerdict t) _ (Done 0) (sym (ap passes e) ∙ sym f ∙ not-true p n)))
 
   module _ (yes : not p ≡ false) where
-    on-table : passes (tableVerdict 4 t) ≡ true
+    on-table : passes (tableVerdict t) ≡ true
     on-table = sym (ap passes e) ∙ sym f ∙ not-false p yes
 
-    pub state-asks : tableVerdict 4 t ≡ Done 0
+    pub state-asks : tableVerdict t ≡ Done 0
     state-asks = table-done t on-table
 
-    module _ (u : Verdict) (r : Bool) (g : u ≡ stateVerdict 4 (stationOf 4 t) b) (h : r ≡ passes u) where
+    module _ (u : Verdict) (r : Bool) (g : u ≡ stateVerdict t b) (h : r ≡ passes u) where
       pub stop-state : not r ≡ true → u ≡ stagesVerdict room t b q
-      unfolding stagesVerdict stagesOf
+      unfolding stagesVerdict
       stop-state n =
-          rw g (sym (first-pass (tableVerdict 4 t) _ (Done 0) on-table ∙ first-stop (stateVerdict 4 (stationOf 4 t) b) _ (Done 0) (sym (ap passes g) ∙ sym h ∙ not-true r n)))
+          rw g (sym (first-pass (tableVerdict t) _ (Done 0) on-table ∙ first-stop (stateVerdict t b) _ (Done 0) (sym (ap passes g) ∙ sym h ∙ not-true r n)))
 
       module _ (yes2 : not r ≡ false) where
-        on-state : passes (stateVerdict 4 (stationOf 4 t) b) ≡ true
+        on-state : passes (stateVerdict t b) ≡ true
         on-state = sym (ap passes g) ∙ sym h ∙ not-false r yes2
 
         pub request-asks : Ready t b
         request-asks = ready-of t b on-table on-state
 
-        pub stop-room : not room ≡ true → NoRoom ≡ stagesVerdict room t b q
-        unfolding stagesVerdict stagesOf
+        pub stop-room : not room ≡ true → Refused NoRoom 0 ≡ stagesVerdict room t b q
+        unfolding stagesVerdict
         stop-room n =
-            sym (first-pass (tableVerdict 4 t) _ (Done 0) on-table ∙ first-pass (stateVerdict 4 (stationOf 4 t) b) _ (Done 0) on-state
-            ∙ rw (unless-stop room NoRoom (not-true room n)) (first-stop NoRoom _ (Done 0) (unfold passes in refl)))
+            sym (first-pass (tableVerdict t) _ (Done 0) on-table ∙ first-pass (stateVerdict t b) _ (Done 0) on-state
+            ∙ rw (unless-stop room NoRoom 0 (not-true room n)) (first-stop (Refused NoRoom 0) _ (Done 0) (refused-stops NoRoom 0)))
 
-        pub last-request : not room ≡ false → (x : Verdict) → x ≡ requestVerdict (stationOf 4 t) (entriesOf 4 b) q → x ≡ stagesVerdict room t b q
-        unfolding stagesVerdict stagesOf requestStage statusOf
+        pub last-request : not room ≡ false → (x : Verdict) → x ≡ requestVerdict (station t) (entries t b) q → x ≡ stagesVerdict room t b q
+        unfolding stagesVerdict requestStage statusOf
         last-request n x k =
-            k ∙ sym (first-pass (tableVerdict 4 t) _ (Done 0) on-table ∙ first-pass (stateVerdict 4 (stationOf 4 t) b) _ (Done 0) on-state
-            ∙ rw (unless-of room NoRoom (not-false room n)) (first-pass (Done 0) _ (Done 0) (unfold passes in refl))
-            ∙ request-alone (stationOf 4 t) (entriesOf 4 b) q)
+            k ∙ sym (first-pass (tableVerdict t) _ (Done 0) on-table ∙ first-pass (stateVerdict t b) _ (Done 0) on-state
+            ∙ rw (unless-of room NoRoom 0 (not-false room n)) (first-pass (Done 0) _ (Done 0) (done-passes 0))
+            ∙ request-alone (station t) (entries t b) q)
 
 -- h: whether the header is good
-pub stop-header : (t b : List ℕ) (q : Request) (room h : Bool) → h ≡ headerGood t → not h ≡ true → NotATable ≡ stagesVerdict room t b q
-unfolding passes
-stop-header t b q room h e n = stop-table t b q room NotATable false (no-table t h e n) refl refl
+pub stop-header : (t b : List ℕ) (q : Request) (room h : Bool) → h ≡ headerGood t → not h ≡ true → Refused NotATable 0 ≡ stagesVerdict room t b q
+stop-header t b q room h e n = stop-table t b q room (Refused NotATable 0) false (no-table t h e n) (sym (refused-stops NotATable 0)) refl
 
 pub ruleset in-turn = (stop-table, state-asks, stop-state, request-asks, stop-room, last-request)

@@ -3,24 +3,27 @@ use mathlib.Core.Path.{_≡_, refl, sym, ap, _∙_}
 use mathlib.Core.Bool.{Bool, true, false, not, _&&_, _||_, or-false}
 use mathlib.Core.Logic.{⊎-elim}
 use mathlib.Core.List.{List}
-use Prim.Native.Nat.{ℕ, _-_, _<_, _≤_}
+use Prim.Native.Nat.{ℕ, _*_, _-_, _<_, _≤_}
 use native.Mathlib.Omega.{arith}
 use borrow.Author.Tests.{eqb-true, leb-true, eq-eqb, ne-eqb, le-leb, lt-leb, lt-ltb, le-ltb, not-true, not-false}
 use lib.Dec.{eqb, leb, ltb}
 use Rattle.rules.specs.declared.Entry.{Entry}
 use Rattle.rules.specs.declared.Request.{Request}
 use Rattle.rules.specs.declared.Verdict.{Verdict}
-use Rattle.rules.specs.declared.Verdict.the-variants.{Done, BadRequest, Unsupported, Shallower, ParentDeeper, ChildShallower, TooDeepToWake, NoWake, WakeUnpowered, BadWakeState}
+use Rattle.rules.specs.declared.Verdict.the-variants.{Done, Refused}
+use Rattle.rules.specs.declared.Reason.the-variants.{BadRequest, Unsupported, Shallower, ParentDeeper, ChildShallower, TooDeepToWake, NoWake, WakeUnpowered, BadWakeState}
 use Rattle.rules.specs.Index.{leastFrom, least}
 use Rattle.rules.specs.Answers.{passes, firstOf, unless}
-use Rattle.rules.specs.Station.{Station, countD, stationOf}
+use Rattle.rules.specs.Station.{Station, countD, stationOf, station}
 use Rattle.rules.specs.Power.{supported, wakeFrom, wakePowered, wakeState}
-use Rattle.rules.specs.Request.{isMove, isArm, isDisarm, formGood, notShallowerOrD0, parentAllows, childBars, wakeAllows, moveVerdict, armVerdict, kindVerdict, requestVerdict, newEntry}
+use Rattle.rules.specs.Request.{isMove, isArm, isDisarm, formGood, notShallowerOrD0, childBars, wakeAllows, moveVerdict, armVerdict, kindVerdict, requestVerdict, newEntry, numbersGood}
+use Rattle.rules.specs.Status.{entryAt, entries, parentAllows}
 use Rattle.rules.proofs.Index.{starts, found, next, done}
 use Rattle.rules.proofs.Answers.{lowest-stop, lowest-none, first-pass, first-alone}
 use Rattle.laws.proofs.Tests.{both-true, or-cases}
 use Rattle.laws.proofs.States.{form-device}
-use Rattle.request.specs.Form.{numbersGood}
+use Rattle.status.specs.Ready.{Ready}
+use Rattle.status.proofs.Keeps.{devices-are, entry-ready}
 
 -- ---- 10
 module _ (q : Request) where
@@ -52,17 +55,17 @@ module _ (q : Request) where
   unfolding numbersGood
   no-kind x y z = rw (ne-eqb (q .kind) 1 x, ne-eqb (q .kind) 2 y, ne-eqb (q .kind) 3 z) refl
 
-pub form-out : (t : List ℕ) (q : Request) (n : ℕ) → (n ≡ countD t) × (n ≤ 32) → n ≤ q .device → false ≡ formGood (stationOf 4 t) q
+pub form-out : (t : List ℕ) (q : Request) (n : ℕ) → n ≡ countD t → n ≤ q .device → false ≡ formGood (station t) q
 unfolding formGood stationOf
 form-out t q n e h = rw (le-ltb (q .device) (countD t) (omega arith)) refl
 
-pub form-in : (t : List ℕ) (q : Request) (n : ℕ) (b : Bool) → (n ≡ countD t) × (n ≤ 32) → q .device < n → b ≡ numbersGood q → b ≡ formGood (stationOf 4 t) q
-unfolding formGood numbersGood stationOf
+pub form-in : (t : List ℕ) (q : Request) (n : ℕ) (b : Bool) → n ≡ countD t → q .device < n → b ≡ numbersGood q → b ≡ formGood (station t) q
+unfolding formGood stationOf
 form-in t q n b e h f = rw (lt-ltb (q .device) (countD t) (omega arith)) f
 
--- what a form that is good says of the numbers
+-- what numbers that are good say of each
 small : (s : Station) (q : Request) → formGood s q ≡ true → (q .a ≤ 4) × (q .b ≤ 4)
-unfolding formGood
+unfolding formGood numbersGood
 small s q e =
     let move = isMove q && leb (q .a) 4 && eqb (q .b) 0 in
     let arm = isArm q && leb (q .a) 4 && leb (q .b) 4 in
@@ -81,8 +84,8 @@ small s q e =
 pub form-small : (s : Station) (q : Request) (f : Bool) → f ≡ formGood s q → not f ≡ false → (q .a ≤ 4) × (q .b ≤ 4)
 form-small s q f form good = small s q (sym form ∙ not-false f good)
 
-pub form-device-below : (t : List ℕ) (q : Request) (f : Bool) → f ≡ formGood (stationOf 4 t) q → not f ≡ false → q .device < countD t
-form-device-below t q f form good = unfold stationOf in form-device (stationOf 4 t) q (sym form ∙ not-false f good)
+pub form-device-below : (t : List ℕ) (q : Request) (f : Bool) → f ≡ formGood (station t) q → not f ≡ false → q .device < countD t
+form-device-below t q f form good = unfold stationOf in form-device (station t) q (sym form ∙ not-false f good)
 
 pub ruleset forms = (move-far, move-form, arm-far, arm-form, disarm-far, disarm-form, no-kind, form-out, form-in)
 
@@ -105,15 +108,7 @@ is-armed e x h = rw h refl
 
 pub ruleset device-alone = (to-d0, to-other, not-armed, is-armed)
 
--- ---- 13 and 14
-pub no-parent : (s : Station) (entries : ℕ → Entry) (d x p : ℕ) → p ≡ s .device d .parent → p ≡ 255 → true ≡ parentAllows s entries d x
-unfolding parentAllows
-no-parent s entries d x p e h = rw (sym e ∙ h) refl
-
-pub its-parent : (s : Station) (entries : ℕ → Entry) (d x p : ℕ) (u : Entry) → p ≡ s .device d .parent → (p ≡ 255 → ⊥) → u ≡ entries p → leb (u .state) x ≡ parentAllows s entries d x
-unfolding parentAllows
-its-parent s entries d x p u e h f = rw (← e, ne-eqb p 255 h, f) refl
-
+-- ---- 14
 pub no-child : (s : Station) (entries : ℕ → Entry) (d x c p : ℕ) → p ≡ s .device c .parent → (p ≡ d → ⊥) → false ≡ childBars s entries d x c
 unfolding childBars
 no-child s entries d x c p e h = rw (← e, ne-eqb p d h) refl
@@ -122,73 +117,71 @@ pub its-child : (s : Station) (entries : ℕ → Entry) (d x c p : ℕ) (u : Ent
 unfolding childBars
 its-child s entries d x c p u e h f = rw (← e, eq-eqb p d h, f) refl
 
-pub ruleset family = (no-parent, its-parent, no-child, its-child)
+pub ruleset family = (entry-ready, no-child, its-child)
 
 -- ---- the loop over children
-pub from-none : (f : ℕ → Bool) (n m : ℕ) → (n ≡ m) × (n ≤ 32) → leastFrom f 0 (n - 0) ≡ least f m
-from-none f n m e = starts f n ∙ ap (least f) (e .0)
+pub from-none : (f : ℕ → Bool) (n m : ℕ) → n ≡ m → leastFrom f 0 (n - 0) ≡ least f m
+from-none f n m e = starts f n ∙ ap (least f) e
 
 pub ruleset lowest-bad = (from-none, found, next, done)
 
 -- ---- 11 to 15. Each test's result stands apart from what it tests
-module _ (s : Station) (entries : ℕ → Entry) (d x : ℕ) (u : Entry) (own : u ≡ entries d) (a : Bool) (known : a ≡ supported s d x) where
-  pub move-11 : not a ≡ true → Unsupported ≡ moveVerdict s entries d x
+module _ (t b : List ℕ) (r : Ready t b) (d x : ℕ) (h : d < countD t) (u : Entry) (read : u ≡ entryAt b (4 * d)) (y : Bool) (known : y ≡ supported (station t) d x) where
+  own : u ≡ entries t b d
+  own = entry-ready t b d u r h read
+
+  pub move-11 : not y ≡ true → Refused Unsupported 0 ≡ moveVerdict (station t) (entries t b) d x
   unfolding moveVerdict firstOf unless passes
-  move-11 n = rw (sym known ∙ not-true a n) refl
+  move-11 n = rw (sym known ∙ not-true y n) refl
 
-  module _ (yes : not a ≡ false) (b : Bool) (deep : b ≡ notShallowerOrD0 u x) where
-    pub move-12 : not b ≡ true → Shallower ≡ moveVerdict s entries d x
+  module _ (yes : not y ≡ false) (e : Bool) (deep : e ≡ notShallowerOrD0 u x) where
+    pub move-12 : not e ≡ true → Refused Shallower 0 ≡ moveVerdict (station t) (entries t b) d x
     unfolding moveVerdict firstOf unless passes
-    move-12 n = rw (← own, sym known ∙ not-false a yes, sym deep ∙ not-true b n) refl
+    move-12 n = rw (← own, sym known ∙ not-false y yes, sym deep ∙ not-true e n) refl
 
-    module _ (yes2 : not b ≡ false) (c : Bool) (up : c ≡ parentAllows s entries d x) where
-      pub move-13 : (p : ℕ) → p ≡ s .device d .parent → not c ≡ true → ParentDeeper p ≡ moveVerdict s entries d x
+    module _ (yes2 : not e ≡ false) (c : Bool) (up : c ≡ parentAllows (station t) (entries t b) d x) where
+      pub move-13 : (p : ℕ) → p ≡ station t .device d .parent → not c ≡ true → Refused ParentDeeper p ≡ moveVerdict (station t) (entries t b) d x
       unfolding moveVerdict firstOf unless passes
-      move-13 p e n = rw (← own, sym known ∙ not-false a yes, sym deep ∙ not-false b yes2, sym up ∙ not-true c n, e) refl
+      move-13 p f n = rw (← own, sym known ∙ not-false y yes, sym deep ∙ not-false e yes2, sym up ∙ not-true c n, f) refl
 
-      module _ (yes3 : not c ≡ false) (k m : ℕ) (low : k ≡ least (childBars s entries d x) m) (all : m ≡ s .devices) where
-        low-all : k ≡ least (childBars s entries d x) (s .devices)
-        low-all = low ∙ ap (least (childBars s entries d x)) all
+      module _ (yes3 : not c ≡ false) (k m : ℕ) (low : k ≡ least (childBars (station t) (entries t b) d x) m) (all : m ≡ station t .devices) where
+        low-all : k ≡ least (childBars (station t) (entries t b) d x) (station t .devices)
+        low-all = low ∙ ap (least (childBars (station t) (entries t b) d x)) all
 
-        pub move-14 : k < m → ChildShallower k ≡ moveVerdict s entries d x
+        pub move-14 : k < m → Refused ChildShallower k ≡ moveVerdict (station t) (entries t b) d x
         unfolding moveVerdict firstOf unless passes
-        move-14 h =
-            rw (← own, sym known ∙ not-false a yes, sym deep ∙ not-false b yes2, sym up ∙ not-false c yes3, lowest-stop (childBars s entries d x) (s .devices) k ChildShallower low-all (omega arith)) refl
+        move-14 l =
+            rw (← own, sym known ∙ not-false y yes, sym deep ∙ not-false e yes2, sym up ∙ not-false c yes3, lowest-stop (childBars (station t) (entries t b) d x) (station t .devices) k (Refused ChildShallower) low-all (omega arith)) refl
 
-        pub move-15 : m ≤ k → (g : Bool) → g ≡ wakeAllows u x → not g ≡ true → TooDeepToWake ≡ moveVerdict s entries d x
+        pub move-15 : m ≤ k → (g : Bool) → g ≡ wakeAllows u x → not g ≡ true → Refused TooDeepToWake 0 ≡ moveVerdict (station t) (entries t b) d x
         unfolding moveVerdict firstOf unless passes
-        move-15 h g w n =
-            rw (← own, sym known ∙ not-false a yes, sym deep ∙ not-false b yes2, sym up ∙ not-false c yes3, lowest-none (childBars s entries d x) (s .devices) k ChildShallower low-all (omega arith), sym w ∙ not-true g n) refl
+        move-15 l g w n =
+            rw (← own, sym known ∙ not-false y yes, sym deep ∙ not-false e yes2, sym up ∙ not-false c yes3, lowest-none (childBars (station t) (entries t b) d x) (station t .devices) k (Refused ChildShallower) low-all (omega arith), sym w ∙ not-true g n) refl
 
-        pub move-done : m ≤ k → (g : Bool) → g ≡ wakeAllows u x → not g ≡ false → Done 0 ≡ moveVerdict s entries d x
+        pub move-done : m ≤ k → (g : Bool) → g ≡ wakeAllows u x → not g ≡ false → Done 0 ≡ moveVerdict (station t) (entries t b) d x
         unfolding moveVerdict firstOf unless passes
-        move-done h g w n =
-            rw (← own, sym known ∙ not-false a yes, sym deep ∙ not-false b yes2, sym up ∙ not-false c yes3, lowest-none (childBars s entries d x) (s .devices) k ChildShallower low-all (omega arith), sym w ∙ not-false g n) refl
-
--- the number of devices as the table has it
-pub devices-are : (t : List ℕ) (n : ℕ) → n ≡ countD t → n ≡ stationOf 4 t .devices
-unfolding stationOf
-devices-are t n e = e
+        move-done l g w n =
+            rw (← own, sym known ∙ not-false y yes, sym deep ∙ not-false e yes2, sym up ∙ not-false c yes3, lowest-none (childBars (station t) (entries t b) d x) (station t .devices) k (Refused ChildShallower) low-all (omega arith), sym w ∙ not-false g n) refl
 
 pub ruleset moving = (devices-are, move-11, move-12, move-13, move-14, move-15, move-done)
 
 -- ---- 16 to 18
 module _ (s : Station) (entries : ℕ → Entry) (d x y : ℕ) (a : Bool) (from : a ≡ wakeFrom s d x) where
-  pub arm-16 : not a ≡ true → NoWake ≡ armVerdict s entries d x y
+  pub arm-16 : not a ≡ true → Refused NoWake 0 ≡ armVerdict s entries d x y
   unfolding armVerdict firstOf unless passes
   arm-16 n = rw (sym from ∙ not-true a n) refl
 
   module _ (yes : not a ≡ false) (b : Bool) (level : b ≡ wakePowered s d x) where
-    pub arm-17 : not b ≡ true → WakeUnpowered ≡ armVerdict s entries d x y
+    pub arm-17 : not b ≡ true → Refused WakeUnpowered 0 ≡ armVerdict s entries d x y
     unfolding armVerdict firstOf unless passes
     arm-17 n = rw (sym from ∙ not-false a yes, sym level ∙ not-true b n) refl
 
     module _ (yes2 : not b ≡ false) (c : Bool) (state : c ≡ wakeState s d x y) where
-      pub arm-18 : not c ≡ true → BadWakeState ≡ armVerdict s entries d x y
+      pub arm-18 : not c ≡ true → Refused BadWakeState 0 ≡ armVerdict s entries d x y
       unfolding armVerdict firstOf unless passes
       arm-18 n = rw (sym from ∙ not-false a yes, sym level ∙ not-false b yes2, sym state ∙ not-true c n) refl
 
-      pub arm-18-shallower : not c ≡ false → (u : Entry) → u ≡ entries d → y < u .state → BadWakeState ≡ armVerdict s entries d x y
+      pub arm-18-shallower : not c ≡ false → (u : Entry) → u ≡ entries d → y < u .state → Refused BadWakeState 0 ≡ armVerdict s entries d x y
       unfolding armVerdict firstOf unless passes
       arm-18-shallower n u e h = rw (sym from ∙ not-false a yes, sym level ∙ not-false b yes2, sym state ∙ not-false c n, ← e, lt-leb (u .state) y h) refl
 
@@ -196,21 +189,21 @@ module _ (s : Station) (entries : ℕ → Entry) (d x y : ℕ) (a : Bool) (from 
       unfolding armVerdict firstOf unless passes
       arm-done n u e h = rw (sym from ∙ not-false a yes, sym level ∙ not-false b yes2, sym state ∙ not-false c n, ← e, le-leb (u .state) y h) refl
 
-pub ruleset arming = (arm-16, arm-17, arm-18, arm-18-shallower, arm-done)
+pub ruleset arming = (entry-ready, arm-16, arm-17, arm-18, arm-18-shallower, arm-done)
 
 -- ---- 10 to 18
 module _ (s : Station) (entries : ℕ → Entry) (q : Request) (f : Bool) (form : f ≡ formGood s q) where
-  pub asked-10 : not f ≡ true → BadRequest ≡ requestVerdict s entries q
+  pub asked-10 : not f ≡ true → Refused BadRequest 0 ≡ requestVerdict s entries q
   unfolding requestVerdict firstOf unless passes
   asked-10 n = rw (sym form ∙ not-true f n) refl
 
   pub asked-move : not f ≡ false → q .kind ≡ 1 → (v : Verdict) → v ≡ moveVerdict s entries (q .device) (q .a) → v ≡ requestVerdict s entries q
   unfolding requestVerdict kindVerdict moveVerdict
-  asked-move n k v e = e ∙ sym (rw (sym form ∙ not-false f n, k) (first-pass (unless true BadRequest) _ (Done 0) (unfold unless passes in refl) ∙ first-alone _))
+  asked-move n k v e = e ∙ sym (rw (sym form ∙ not-false f n, k) (first-pass (unless true BadRequest 0) _ (Done 0) (unfold unless passes in refl) ∙ first-alone _))
 
   pub asked-arm : not f ≡ false → q .kind ≡ 2 → (v : Verdict) → v ≡ armVerdict s entries (q .device) (q .a) (q .b) → v ≡ requestVerdict s entries q
   unfolding requestVerdict kindVerdict armVerdict
-  asked-arm n k v e = e ∙ sym (rw (sym form ∙ not-false f n, k) (first-pass (unless true BadRequest) _ (Done 0) (unfold unless passes in refl) ∙ first-alone _))
+  asked-arm n k v e = e ∙ sym (rw (sym form ∙ not-false f n, k) (first-pass (unless true BadRequest 0) _ (Done 0) (unfold unless passes in refl) ∙ first-alone _))
 
   pub asked-disarm : not f ≡ false → (q .kind ≡ 1 → ⊥) → (q .kind ≡ 2 → ⊥) → Done 0 ≡ requestVerdict s entries q
   unfolding requestVerdict kindVerdict firstOf unless passes

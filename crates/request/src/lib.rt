@@ -2,17 +2,17 @@
 pub mod stages;
 
 use rules::Entry;
+use rules::Reason;
 use rules::Request;
 use rules::Verdict;
 ghost use mathlib.Core.Path.{_≡_};
 ghost use mathlib.Core.Bool.{true};
 ghost use Prim.Native.Nat.{_<_, _≤_};
 ghost use Rattle.rules.specs.Index.{least};
-ghost use Rattle.rules.specs.Station.{countD, stationOf};
-ghost use Rattle.rules.specs.Status.{entriesOf};
-ghost use Rattle.rules.specs.Request.{formGood, notShallowerOrD0, parentAllows, childBars, wakeAllows, moveVerdict, armVerdict, requestVerdict, newEntry};
-ghost use Rattle.request.specs.Form.{numbersGood};
-ghost use Rattle.table.specs.Layout.{Laid};
+ghost use Rattle.rules.specs.Station.{countD, station};
+ghost use Rattle.rules.specs.Status.{entries};
+ghost use Rattle.rules.specs.Request.{formGood, notShallowerOrD0, childBars, wakeAllows, moveVerdict, armVerdict, requestVerdict, newEntry, numbersGood};
+ghost use Rattle.table.specs.Layout.{WellSized};
 ghost use Rattle.status.specs.Ready.{Ready};
 
 // 10: whether kind and numbers are in range and unused ones zero.
@@ -42,8 +42,8 @@ fn numbers_good(q: Request) -> bool
 
 // 10: whether the whole request is in form.
 pub fn form_good(table: &[u8], q: Request) -> bool
-    requires { ⌜ Laid (now table) ⌝ }
-    ensures { λ r. ⌜ r ≡ formGood (stationOf 4 (now (table .entry))) q ⌝ }
+    requires { ⌜ WellSized (now table) ⌝ }
+    ensures { λ r. ⌜ r ≡ formGood (station (now (table .entry))) q ⌝ }
 {
     let n = table::fields::devices(table);
     if q.device as usize >= n {
@@ -52,23 +52,10 @@ pub fn form_good(table: &[u8], q: Request) -> bool
     numbers_good(q)
 }
 
-// 13: whether the parent, if there is one, is not deeper than the target.
-fn parent_allows(table: &[u8], devices: &[u8], d: usize, x: u8) -> bool
-    requires { ⌜ Ready (now table) (now devices) × (d < countD (now table)) ⌝ }
-    ensures { λ r. ⌜ r ≡ parentAllows (stationOf 4 (now (table .entry))) (entriesOf 4 (now (devices .entry))) d x ⌝ }
-{
-    let p = table::fields::parent(table, d);
-    if p == 255 {
-        return true;
-    }
-    let up = status::image::entry(devices, p as usize);
-    up.state <= x
-}
-
 // 14: whether c is a child of d and shallower than the target.
 fn child_bars(table: &[u8], devices: &[u8], d: usize, x: u8, c: usize) -> bool
     requires { ⌜ Ready (now table) (now devices) × (d < countD (now table)) × (c < countD (now table)) ⌝ }
-    ensures { λ r. ⌜ r ≡ childBars (stationOf 4 (now (table .entry))) (entriesOf 4 (now (devices .entry))) d x c ⌝ }
+    ensures { λ r. ⌜ r ≡ childBars (station (now (table .entry))) (entries (now (table .entry)) (now (devices .entry))) d x c ⌝ }
 {
     let p = table::fields::parent(table, c);
     if p as usize != d {
@@ -81,7 +68,7 @@ fn child_bars(table: &[u8], devices: &[u8], d: usize, x: u8, c: usize) -> bool
 // 14: the lowest such child, or D.
 fn lowest_child(table: &[u8], devices: &[u8], d: usize, x: u8) -> usize
     requires { ⌜ Ready (now table) (now devices) × (d < countD (now table)) ⌝ }
-    ensures { λ r. ⌜ r ≡ least (childBars (stationOf 4 (now (table .entry))) (entriesOf 4 (now (devices .entry))) d x) (countD (now (table .entry))) ⌝ }
+    ensures { λ r. ⌜ r ≡ least (childBars (station (now (table .entry))) (entries (now (table .entry)) (now (devices .entry))) d x) (countD (now (table .entry))) ⌝ }
 {
     let n = table::fields::devices(table);
     let mut i = 0;
@@ -97,24 +84,27 @@ fn lowest_child(table: &[u8], devices: &[u8], d: usize, x: u8) -> usize
 // 11 to 15: a move of device d to state x.
 fn move_verdict(table: &[u8], devices: &[u8], d: usize, x: u8) -> Verdict
     requires { ⌜ Ready (now table) (now devices) × (d < countD (now table)) ⌝ }
-    ensures { λ r. ⌜ r ≡ moveVerdict (stationOf 4 (now (table .entry))) (entriesOf 4 (now (devices .entry))) d x ⌝ }
+    ensures { λ r. ⌜ r ≡ moveVerdict (station (now (table .entry))) (entries (now (table .entry)) (now (devices .entry))) d x ⌝ }
 {
     let e = status::image::entry(devices, d);
     if !power::supported(table, d, x) {
-        return Verdict::Unsupported;
+        return Verdict::Refused(Reason::Unsupported, 0);
     }
     if !not_shallower_or_d0(e, x) {
-        return Verdict::Shallower;
+        return Verdict::Refused(Reason::Shallower, 0);
     }
-    if !parent_allows(table, devices, d, x) {
-        return Verdict::ParentDeeper(table::fields::parent(table, d) as usize);
+    if !status::consistency::parent_allows(table, devices, d, x) {
+        return Verdict::Refused(
+            Reason::ParentDeeper,
+            table::fields::parent(table, d) as usize,
+        );
     }
     let c = lowest_child(table, devices, d, x);
     if c < table::fields::devices(table) {
-        return Verdict::ChildShallower(c);
+        return Verdict::Refused(Reason::ChildShallower, c);
     }
     if !wake_allows(e, x) {
-        return Verdict::TooDeepToWake;
+        return Verdict::Refused(Reason::TooDeepToWake, 0);
     }
     Verdict::Done(0)
 }
@@ -142,20 +132,20 @@ fn wake_allows(e: Entry, x: u8) -> bool
 // 16 to 18: device d armed for sleep state x and wake state y.
 fn arm_verdict(table: &[u8], devices: &[u8], d: usize, x: u8, y: u8) -> Verdict
     requires { ⌜ Ready (now table) (now devices) × (d < countD (now table)) × (x < 5) ⌝ }
-    ensures { λ r. ⌜ r ≡ armVerdict (stationOf 4 (now (table .entry))) (entriesOf 4 (now (devices .entry))) d x y ⌝ }
+    ensures { λ r. ⌜ r ≡ armVerdict (station (now (table .entry))) (entries (now (table .entry)) (now (devices .entry))) d x y ⌝ }
 {
     if !power::wake::wake_from(table, d, x) {
-        return Verdict::NoWake;
+        return Verdict::Refused(Reason::NoWake, 0);
     }
     if !power::wake::wake_powered(table, d, x) {
-        return Verdict::WakeUnpowered;
+        return Verdict::Refused(Reason::WakeUnpowered, 0);
     }
     if !power::wake::wake_state(table, d, x, y) {
-        return Verdict::BadWakeState;
+        return Verdict::Refused(Reason::BadWakeState, 0);
     }
     let e = status::image::entry(devices, d);
     if e.state > y {
-        return Verdict::BadWakeState;
+        return Verdict::Refused(Reason::BadWakeState, 0);
     }
     Verdict::Done(0)
 }
@@ -163,10 +153,10 @@ fn arm_verdict(table: &[u8], devices: &[u8], d: usize, x: u8, y: u8) -> Verdict
 // 10 to 18.
 pub fn request_verdict(table: &[u8], devices: &[u8], q: Request) -> Verdict
     requires { ⌜ Ready (now table) (now devices) ⌝ }
-    ensures { λ r. ⌜ r ≡ requestVerdict (stationOf 4 (now (table .entry))) (entriesOf 4 (now (devices .entry))) q ⌝ }
+    ensures { λ r. ⌜ r ≡ requestVerdict (station (now (table .entry))) (entries (now (table .entry)) (now (devices .entry))) q ⌝ }
 {
     if !form_good(table, q) {
-        return Verdict::BadRequest;
+        return Verdict::Refused(Reason::BadRequest, 0);
     }
     let d = q.device as usize;
     if q.kind == 1 {

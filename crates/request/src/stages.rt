@@ -1,10 +1,11 @@
 // The checks of table, state, room and request, one after the other.
+use rules::Reason;
 use rules::Request;
 use rules::Verdict;
 ghost use mathlib.Core.Path.{_≡_};
 ghost use mathlib.Core.Bool.{true};
 ghost use Rattle.rules.specs.Table.{headerGood};
-ghost use Rattle.request.specs.Stages.{stagesVerdict};
+ghost use Rattle.rules.specs.Outcomes.{stagesVerdict};
 
 // The first refusal past the header, or done. Apart from the header, so that a caller can refuse what is no table before it calls.
 pub fn past_header(table: &[u8], state: &[u8], room: bool, q: Request) -> Verdict
@@ -20,7 +21,7 @@ pub fn past_header(table: &[u8], state: &[u8], room: bool, q: Request) -> Verdic
         return of_state;
     }
     if !room {
-        return Verdict::NoRoom;
+        return Verdict::Refused(Reason::NoRoom, 0);
     }
     crate::request_verdict(table, state, q)
 }
@@ -30,7 +31,7 @@ pub fn verdict(table: &[u8], state: &[u8], room: bool, q: Request) -> Verdict
     ensures { λ r. ⌜ r ≡ stagesVerdict room (now (table .entry)) (now (state .entry)) q ⌝ }
 {
     if !table::header_good(table) {
-        return Verdict::NotATable;
+        return Verdict::Refused(Reason::NotATable, 0);
     }
     past_header(table, state, room, q)
 }

@@ -32,6 +32,10 @@ pub devices-are : (t : List ℕ) (n : ℕ) → n ≡ countD t → n ≡ station 
 unfolding stationOf
 devices-are t n e = e
 
+-- an entry that was read by its place is the device's
+pub entry-ready : (t b : List ℕ) (d : ℕ) (e : Entry) → Ready t b → d < countD t → e ≡ entryAt b (4 * d) → e ≡ entries t b d
+entry-ready t b d e r h q = entry-is t b d e (r .sized) h q
+
 -- ---- the parent, whose number is p
 module _ (t b : List ℕ) (d x p : ℕ) (q : p ≡ station t .device d .parent) where
   pub parent-none : p ≡ 255 → true ≡ parentAllows (station t) (entries t b) d x
@@ -51,7 +55,7 @@ module _ (t b : List ℕ) (d x p : ℕ) (q : p ≡ station t .device d .parent) 
   pub parent-state : (up : Entry) → Ready t b → d < countD t → (p ≡ 255 → ⊥) → up ≡ entryAt b (4 * p) → leb (up .state) x ≡ parentAllows (station t) (entries t b) d x
   unfolding parentAllows
   parent-state up r h n f =
-      rw (← q, ne-eqb p 255 n, ← entry-is t b p up (r .sized) (parent-small r h n) f) refl
+      rw (← q, ne-eqb p 255 n, ← entry-ready t b p up r (parent-small r h n) f) refl
 
 -- ---- the wake rules; legal is what the test of the pair returned
 module _ (t b : List ℕ) (d : ℕ) (r : Ready t b) (h : d < countD t) where
@@ -66,32 +70,32 @@ module _ (t b : List ℕ) (d : ℕ) (r : Ready t b) (h : d < countD t) where
   module _ (e : Entry) (legal : Bool) (a : getD b (4 * d + 1) 0 ≡ 1) (read : e ≡ entryAt b (4 * d)) (q : legal ≡ wakePair (station t) d (e .sleep) (e .wake)) where
     pub wake-illegal : not legal ≡ true → false ≡ wakeConsistent (station t) d (entries t b d)
     unfolding wakeConsistent
-    wake-illegal n = rw (← armed-is, eq-eqb (getD b (4 * d + 1) 0) 1 a, ← entry-is t b d e (r .sized) h read, ← q, not-true legal n) refl
+    wake-illegal n = rw (← armed-is, eq-eqb (getD b (4 * d + 1) 0) 1 a, ← entry-ready t b d e r h read, ← q, not-true legal n) refl
 
     pub wake-legal : not legal ≡ false → leb (e .state) (e .wake) ≡ wakeConsistent (station t) d (entries t b d)
     unfolding wakeConsistent
-    wake-legal n = rw (← armed-is, eq-eqb (getD b (4 * d + 1) 0) 1 a, ← entry-is t b d e (r .sized) h read, ← q, not-false legal n) refl
+    wake-legal n = rw (← armed-is, eq-eqb (getD b (4 * d + 1) 0) 1 a, ← entry-ready t b d e r h read, ← q, not-false legal n) refl
 
 -- ---- the three rules apart from power
 module _ (t b : List ℕ) (d : ℕ) (r : Ready t b) (h : d < countD t) (e : Entry) (known : Bool) (read : e ≡ entryAt b (4 * d)) (a : known ≡ supported (station t) d (e .state)) where
   pub apart-known : not known ≡ true → false ≡ consistentButPower (station t) (entries t b) d
   unfolding consistentButPower
-  apart-known n = rw (← entry-is t b d e (r .sized) h read, ← a, not-true known n) refl
+  apart-known n = rw (← entry-ready t b d e r h read, ← a, not-true known n) refl
 
   module _ (under : Bool) (m : not known ≡ false) (u : under ≡ parentAllows (station t) (entries t b) d (e .state)) where
     pub apart-under : not under ≡ true → false ≡ consistentButPower (station t) (entries t b) d
     unfolding consistentButPower
-    apart-under n = rw (← entry-is t b d e (r .sized) h read, ← a, not-false known m, ← u, not-true under n) refl
+    apart-under n = rw (← entry-ready t b d e r h read, ← a, not-false known m, ← u, not-true under n) refl
 
     pub apart-wake : (wake : Bool) → not under ≡ false → wake ≡ wakeConsistent (station t) d (entries t b d) → wake ≡ consistentButPower (station t) (entries t b) d
     unfolding consistentButPower
-    apart-wake wake n c = rw (← entry-is t b d e (r .sized) h read, ← a, not-false known m, ← u, not-false under n) (rw (← entry-is t b d e (r .sized) h read) at c)
+    apart-wake wake n c = rw (← entry-ready t b d e r h read, ← a, not-false known m, ← u, not-false under n) (rw (← entry-ready t b d e r h read) at c)
 
 -- ---- power
 pub power-is : (t b : List ℕ) (on d : ℕ) (e : Entry) (n : ℕ) (v : Bool) → Ready t b → d < countD t → e ≡ entryAt b (4 * d) → n ≡ needs (station t) d e → v ≡ subset n on
     → v ≡ powered (station t) (statusWith t b on) d
 unfolding powered
-power-is t b on d e n v r h p q f = rw (← entry-is t b d e (r .sized) h p, ← q) f
+power-is t b on d e n v r h p q f = rw (← entry-ready t b d e r h p, ← q) f
 
 -- ---- all rules
 module _ (s : Station) (st : Status) (d : ℕ) (apart : Bool) (a : apart ≡ consistentButPower s (st .entries) d) where
@@ -118,7 +122,7 @@ pub ready-sleep : (t b : List ℕ) (d : ℕ) (e : Entry) → Ready t b → d < c
 unfolding entriesGood
 ready-sleep t b d e r h q =
     let l : d < limit (width t) = omega (arith, r .sized .devices) in
-    rw (entry-is t b d e (r .sized) h q) (sleep-in (entries t b d) (both-true _ _ (every-at _ (limit (width t)) d (r .good) l) .0))
+    rw (entry-ready t b d e r h q) (sleep-in (entries t b d) (both-true _ _ (every-at _ (limit (width t)) d (r .good) l) .0))
 
 pub ruleset keep-laws = (parent-none, parent-read, parent-state, wake-unarmed, wake-illegal, wake-legal, apart-known, apart-under, apart-wake, power-is, breaks, keeps, ready-sleep)
 

@@ -2,8 +2,8 @@ use mathlib.Core.Path.{_≡_}
 use Prim.Native.Nat.{_-_, _≤_}
 use borrow.Author.Needs.{needs}
 use Rattle.rules.specs.Index.{leastFrom, least}
-use Rattle.rules.specs.Station.{countD, stationOf}
-use Rattle.rules.specs.Status.{entriesOf}
+use Rattle.rules.specs.Station.{countD, station}
+use Rattle.rules.specs.Status.{entries}
 use Rattle.rules.specs.Request.{childBars}
 use Rattle.request.proofs.Rules.{lowest-bad}
 use Rattle.request.proofs.lowest_child.Statement.{statement}
@@ -12,7 +12,7 @@ use Rattle.request.proofs.lowest_child.Tie as tie
 abbrev Inv-loop : tie.InvT-loop
 Inv-loop table devices d x n i₀ i =
     (i ≤ n)
-    × (leastFrom (childBars (stationOf 4 table) (entriesOf 4 devices) d x) i (n - i) ≡ least (childBars (stationOf 4 table) (entriesOf 4 devices) d x) (countD table))
+    × (leastFrom (childBars (station table) (entries table devices) d x) i (n - i) ≡ least (childBars (station table) (entries table devices) d x) (countD table))
 
 abbrev μ-loop : tie.MeasureT-loop
 μ-loop table devices d x n i₀ i = n - i
