@@ -1,23 +1,25 @@
 -- Words and calls: what each way out of the functions that read and make a word says. Assumes nothing.
 use mathlib.Core.Path.{_≡_, refl, _∙_}
 use mathlib.Core.Bool.{and-false}
-use Prim.Native.Nat.{ℕ, _+_, _-_, _^_, _≤_, _<_}
+use Prim.Native.Nat.{ℕ, _+_, _-_, _≤_, _<_}
 use native.Mathlib.Omega.{arith}
 use borrow.Author.Tests.{eq-eqb, ne-eqb, le-leb, lt-leb}
 use Rattle.rules.specs.declared.Wake.{Wake}
 use Rattle.rules.specs.declared.Wake.the-variants.{Enable, Disable}
 use Rattle.rules.specs.declared.Call.{Call}
 use Rattle.rules.specs.declared.Call.the-variants.{ResourceOn, ResourceOff, SetState, SetWake}
-use Rattle.rules.specs.declared.Word.{Word}
-use Rattle.rules.specs.declared.Word.the-variants.{Is, NoCall}
-use Rattle.rules.specs.Calls.{wordOf, wakeWord, wakeOf, callOfBytes}
+use Rattle.rules.specs.declared.OptionalCall.{OptionalCall}
+use Rattle.rules.specs.declared.OptionalCall.the-variants.{Is, NoCall}
+use Rattle.rules.specs.Calls.{wakeOf, callOfBytes}
+use Rattle.calls.specs.Ranges.{WakeInRange, InRange}
 
--- ---- a word that fits
-pub wake-room : (d x y : ℕ) (k : Wake) → wakeWord d k < 2 ^ 32 → k ≡ Enable x y → 128 + y < 256
-wake-room d x y k h e = omega (arith, rw e at h)
+-- ---- a call in range
 
-pub wake-fits : (c : Call) (d : ℕ) (k : Wake) → wordOf c < 2 ^ 32 → c ≡ SetWake d k → wakeWord d k < 2 ^ 32
-wake-fits c d k h e = rw e at h
+pub wake-room : (k : Wake) (x y : ℕ) → WakeInRange k → k ≡ Enable x y → 128 + y < 256
+wake-room k x y h e = omega (arith, rw e at h)
+
+pub wake-range : (c : Call) (d : ℕ) (k : Wake) → InRange c → c ≡ SetWake d k → WakeInRange k
+wake-range c d k h e = (rw e at h) .1
 
 -- ---- the last two bytes of a `_DSW` call
 module _ (d x y : ℕ) where
@@ -49,7 +51,7 @@ pub ruleset wakes = (wake-off, wake-no-state, wake-sleep, wake-low, wake-high, w
 
 -- ---- the four bytes of a call
 module _ (k d x y : ℕ) where
-  pub is-wake : (r : Word) → k ≡ 4 → r ≡ wakeOf d x y → r ≡ callOfBytes k d x y
+  pub is-wake : (r : OptionalCall) → k ≡ 4 → r ≡ wakeOf d x y → r ≡ callOfBytes k d x y
   unfolding callOfBytes
   is-wake r p e = e ∙ rw p refl
 

@@ -1,15 +1,16 @@
 -- A call of document 01 is read back from its word, and a word that says a call is that call's word: no two words say the same. Assumes nothing.
-use mathlib.Core.Path.{_≡_, refl, sym, _∙_, subst}
+use mathlib.Core.Path.{_≡_, refl, sym, ap, _∙_, subst}
 use mathlib.Core.Bool.{Bool, true, false, cond, _&&_}
+use mathlib.Core.Logic.{_↔_}
 use Prim.Native.Nat.{ℕ, _+_, _-_, _*_, _/_, _%_, _<_}
 use native.Mathlib.Omega.{arith}
-use borrow.Author.Tests.{eqb-true, leb-true}
+use borrow.Author.Tests.{eqb-true, leb-true, eq-eqb}
 use lib.Dec.{eqb, leb}
 use Rattle.rules.specs.declared.Wake.the-variants.{Enable, Disable}
 use Rattle.rules.specs.declared.Call.{Call}
 use Rattle.rules.specs.declared.Call.the-variants.{ResourceOn, ResourceOff, SetState, SetWake}
-use Rattle.rules.specs.declared.Word.{Word}
-use Rattle.rules.specs.declared.Word.the-variants.{Is, NoCall}
+use Rattle.rules.specs.declared.OptionalCall.{OptionalCall}
+use Rattle.rules.specs.declared.OptionalCall.the-variants.{Is, NoCall}
 use Rattle.rules.specs.Calls.{word4, wordOf, wakeOf, callOfBytes, callOf}
 use Rattle.laws.proofs.Tests.{both-true}
 use Rattle.calls.specs.Ranges.{InRange}
@@ -40,11 +41,11 @@ call-of-word (SetWake d Disable) h =
     of-bytes 4 d 0 0 (omega arith) (h .0) (omega arith) ∙ sym (is-wake 4 d 0 0 _ refl (wake-off d 0 0 refl refl))
 
 -- the other way: whatever call a tree of tests ends in has the word w
-Right : ℕ → Word → Type 0
+Right : ℕ → OptionalCall → Type 0
 Right w (Is c) = wordOf c ≡ w
 Right w NoCall = Unit {0}
 
-at-cond : (w : ℕ) (b : Bool) (p q : Word) → (b ≡ true → Right w p) → Right w q → Right w (cond b p q)
+at-cond : (w : ℕ) (b : Bool) (p q : OptionalCall) → (b ≡ true → Right w p) → Right w q → Right w (cond b p q)
 at-cond w true p q f g = f refl
 at-cond w false p q f g = g
 
@@ -57,7 +58,7 @@ unfolding Right
 none w = tt
 
 -- a call under three tests
-at-call : (w : ℕ) (a b c : Bool) (p : Call) (q : Word) → (a ≡ true → b ≡ true → c ≡ true → wordOf p ≡ w) → Right w q → Right w (cond (a && b && c) (Is p) q)
+at-call : (w : ℕ) (a b c : Bool) (p : Call) (q : OptionalCall) → (a ≡ true → b ≡ true → c ≡ true → wordOf p ≡ w) → Right w q → Right w (cond (a && b && c) (Is p) q)
 at-call w a b c p q f g =
     at-cond w (a && b && c) (Is p) q
     (λ t. let u = both-true (a && b) c t in let v = both-true a b (u .0) in ends w p (f (v .0) (v .1) (u .1))) g
@@ -84,3 +85,9 @@ whole w = omega arith
 pub word-of-call : (w : ℕ) (c : Call) → callOf w ≡ Is c → wordOf c ≡ w
 unfolding Right callOf
 word-of-call w c e = subst (Right w) e (bytes-right w _ _ _ _ (whole w))
+
+-- so to compare a word with a call's word is to read it and find that call
+pub says-call : (w : ℕ) (c : Call) → InRange c → eqb w (wordOf c) ≡ true ↔ callOf w ≡ Is c
+says-call w c h = (λ e. ap callOf (eqb-true w (wordOf c) e) ∙ call-of-word c h, λ e. eq-eqb w (wordOf c) (sym (word-of-call w c e)))
+
+pub ruleset inverse = (call-of-word, word-of-call, says-call)

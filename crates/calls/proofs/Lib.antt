@@ -1,6 +1,6 @@
 pub mod Coding
 pub mod Inverse
 pub mod Switch
-pub mod Device
+pub mod OwnCall
 pub mod Keys
 pub mod Insertion

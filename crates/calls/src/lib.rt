@@ -3,12 +3,13 @@ pub mod order;
 pub mod own;
 
 ghost use mathlib.Core.Path.{_≡_};
-ghost use Prim.Native.Nat.{_<_, _^_};
+ghost use lib.Dec.{eqb};
 ghost use Rattle.rules.specs.Calls.{word4, wordOf, wakeWord, callOf, callOfBytes, wakeOf};
+ghost use Rattle.calls.specs.Ranges.{WakeInRange, InRange};
 ghost use Rattle.calls.specs.Switch.{switchWord};
 use rules::Call;
+use rules::OptionalCall;
 use rules::Wake;
-use rules::Word;
 
 // The word with these bytes, lowest first.
 fn word4(a: u8, b: u8, c: u8, d: u8) -> u32
@@ -22,7 +23,7 @@ fn word4(a: u8, b: u8, c: u8, d: u8) -> u32
 
 // The word of a `_DSW` call.
 fn wake_word(device: u8, wake: Wake) -> u32
-    requires { ⌜ wakeWord device wake < 2 ^ 32 ⌝ }
+    requires { ⌜ WakeInRange wake ⌝ }
     ensures { λ r. ⌜ r ≡ wakeWord device wake ⌝ }
 {
     match wake {
@@ -31,42 +32,50 @@ fn wake_word(device: u8, wake: Wake) -> u32
     }
 }
 
-// The word of a call. All fit but one with a wake state of 128 or more.
+// The word of a call that document 01 has. Of another, with a high wake state, it might not fit.
 pub fn word_of(call: Call) -> u32
-    requires { ⌜ wordOf call < 2 ^ 32 ⌝ }
+    requires { ⌜ InRange call ⌝ }
     ensures { λ r. ⌜ r ≡ wordOf call ⌝ }
 {
     match call {
         Call::ResourceOn(r) => word4(1, r, 0, 0),
         Call::ResourceOff(r) => word4(2, r, 0, 0),
-        Call::SetState { device, state } => word4(3, device, state, 0),
+        Call::SetState { device, method } => word4(3, device, method, 0),
         Call::SetWake { device, wake } => wake_word(device, wake),
     }
 }
 
+// Whether a word is that of a call that document 01 has: whether it says that call.
+pub fn says(word: u32, call: Call) -> bool
+    requires { ⌜ InRange call ⌝ }
+    ensures { λ b. ⌜ b ≡ eqb word (wordOf call) ⌝ }
+{
+    word == word_of(call)
+}
+
 // What `_DSW`'s last two bytes say: two zeros, or S and 128 + D.
-fn wake_of(device: u8, x: u8, y: u8) -> Word
+fn wake_of(device: u8, x: u8, y: u8) -> OptionalCall
     ensures { λ r. ⌜ r ≡ wakeOf device x y ⌝ }
 {
     if y == 0 {
         if x == 0 {
-            return Word::Is(Call::SetWake {
+            return OptionalCall::Is(Call::SetWake {
                 device,
                 wake: Wake::Disable,
             });
         }
-        return Word::NoCall;
+        return OptionalCall::NoCall;
     }
     if x > 4 {
-        return Word::NoCall;
+        return OptionalCall::NoCall;
     }
     if y < 128 {
-        return Word::NoCall;
+        return OptionalCall::NoCall;
     }
     if y > 132 {
-        return Word::NoCall;
+        return OptionalCall::NoCall;
     }
-    Word::Is(Call::SetWake {
+    OptionalCall::Is(Call::SetWake {
         device,
         wake: Wake::Enable {
             sleep: x,
@@ -76,38 +85,38 @@ fn wake_of(device: u8, x: u8, y: u8) -> Word
 }
 
 // The call with these bytes, if there is one.
-fn call_of_bytes(kind: u8, number: u8, x: u8, y: u8) -> Word
+fn call_of_bytes(kind: u8, number: u8, x: u8, y: u8) -> OptionalCall
     ensures { λ r. ⌜ r ≡ callOfBytes kind number x y ⌝ }
 {
     if kind == 4 {
         return wake_of(number, x, y);
     }
     if y != 0 {
-        return Word::NoCall;
+        return OptionalCall::NoCall;
     }
     if kind == 3 {
         if x <= 3 {
-            return Word::Is(Call::SetState {
+            return OptionalCall::Is(Call::SetState {
                 device: number,
-                state: x,
+                method: x,
             });
         }
-        return Word::NoCall;
+        return OptionalCall::NoCall;
     }
     if x != 0 {
-        return Word::NoCall;
+        return OptionalCall::NoCall;
     }
     if kind == 1 {
-        return Word::Is(Call::ResourceOn(number));
+        return OptionalCall::Is(Call::ResourceOn(number));
     }
     if kind == 2 {
-        return Word::Is(Call::ResourceOff(number));
+        return OptionalCall::Is(Call::ResourceOff(number));
     }
-    Word::NoCall
+    OptionalCall::NoCall
 }
 
 // What a word says: a call, or none.
-pub fn call_of(word: u32) -> Word
+pub fn call_of(word: u32) -> OptionalCall
     ensures { λ r. ⌜ r ≡ callOf word ⌝ }
 {
     call_of_bytes(

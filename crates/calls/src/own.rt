@@ -1,22 +1,14 @@
-// The device's own call of a request: which it is, as a word, and whether it comes last.
+// The device's own call of a request: which it is, and whether it comes last.
 ghost use mathlib.Core.Path.{_≡_};
-ghost use mathlib.Core.List.{map};
 ghost use Prim.Native.Nat.{_<_, _≤_};
-ghost use Rattle.rules.specs.Station.{countD, stationOf};
-ghost use Rattle.rules.specs.Calls.{wordOf, methodFor, moveCall, wakeCall, ownLast};
-ghost use Rattle.table.specs.Layout.{Laid};
-ghost use Rattle.calls.specs.Own.{ownWords, callsMethod, ownOf};
-use crate::word_of;
+ghost use Rattle.rules.specs.Station.{countD, station};
+ghost use Rattle.rules.specs.Calls.{methodFor, callsMethod, moveCall, wakeCall, ownCall, ownLast};
+ghost use Rattle.table.specs.Layout.{WellSized};
 use rules::Call;
 use rules::Entry;
+use rules::OptionalCall;
 use rules::Request;
 use rules::Wake;
-
-// The word of the own call, or that there is none.
-pub enum Own {
-    Word(u32),
-    NoCall,
-}
 
 // Whether a move to state x calls a method, if it exists: the state changes, and not from D3hot to D3cold.
 fn calls_method(state: u8, x: u32) -> bool
@@ -43,55 +35,55 @@ fn method_for(x: u32) -> u32
 }
 
 // `_PSx`, for a move of device d to state x.
-fn move_call(table: &[u8], e: Entry, d: u32, x: u32) -> Own
-    requires { ⌜ Laid (now table) × (d < countD (now table)) × (x ≤ 4) ⌝ }
-    ensures { λ r. ⌜ ownWords r ≡ map wordOf (moveCall (stationOf 4 (now (table .entry))) e d x) ⌝ }
+fn move_call(table: &[u8], e: Entry, d: u32, x: u32) -> OptionalCall
+    requires { ⌜ WellSized (now table) × (d < countD (now table)) × (x ≤ 4) ⌝ }
+    ensures { λ r. ⌜ r ≡ moveCall (station (now (table .entry))) e d x ⌝ }
 {
     if !calls_method(e.state, x) {
-        return Own::NoCall;
+        return OptionalCall::NoCall;
     }
     let m = method_for(x);
     if !sets::has(words::wide(table::fields::ps(table, d as usize)), m) {
-        return Own::NoCall;
+        return OptionalCall::NoCall;
     }
-    Own::Word(word_of(Call::SetState {
+    OptionalCall::Is(Call::SetState {
         device: d as u8,
-        state: m as u8,
-    }))
+        method: m as u8,
+    })
 }
 
 // `_DSW`, for arming and disarming.
-fn wake_call(table: &[u8], e: Entry, q: Request) -> Own
-    requires { ⌜ Laid (now table) × (q .device < countD (now table)) × (q .a ≤ 4) × (q .b ≤ 4) ⌝ }
-    ensures { λ r. ⌜ ownWords r ≡ map wordOf (wakeCall (stationOf 4 (now (table .entry))) e q) ⌝ }
+fn wake_call(table: &[u8], e: Entry, q: Request) -> OptionalCall
+    requires { ⌜ WellSized (now table) × (q .device < countD (now table)) × (q .a ≤ 4) × (q .b ≤ 4) ⌝ }
+    ensures { λ r. ⌜ r ≡ wakeCall (station (now (table .entry))) e q ⌝ }
 {
     let d = q.device;
     if !sets::has(words::wide(table::fields::flags(table, d as usize)), 1) {
-        return Own::NoCall;
+        return OptionalCall::NoCall;
     }
     if q.kind == 2 {
         let wake = Wake::Enable {
             sleep: q.a as u8,
             state: q.b as u8,
         };
-        return Own::Word(word_of(Call::SetWake {
+        return OptionalCall::Is(Call::SetWake {
             device: d as u8,
             wake,
-        }));
+        });
     }
     if e.armed == 1 {
-        return Own::Word(word_of(Call::SetWake {
+        return OptionalCall::Is(Call::SetWake {
             device: d as u8,
             wake: Wake::Disable,
-        }));
+        });
     }
-    Own::NoCall
+    OptionalCall::NoCall
 }
 
 // The own call of a request in range, for a device whose entry is e.
-pub fn own_call(table: &[u8], e: Entry, q: Request) -> Own
-    requires { ⌜ Laid (now table) × (q .device < countD (now table)) × (q .a ≤ 4) × (q .b ≤ 4) ⌝ }
-    ensures { λ r. ⌜ ownWords r ≡ map wordOf (ownOf (stationOf 4 (now (table .entry))) e q) ⌝ }
+pub fn own_call(table: &[u8], e: Entry, q: Request) -> OptionalCall
+    requires { ⌜ WellSized (now table) × (q .device < countD (now table)) × (q .a ≤ 4) × (q .b ≤ 4) ⌝ }
+    ensures { λ r. ⌜ r ≡ ownCall (station (now (table .entry))) e q ⌝ }
 {
     if q.kind == 1 {
         return move_call(table, e, q.device, q.a);

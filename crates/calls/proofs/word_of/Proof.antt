@@ -1,11 +1,11 @@
--- `planner::word::word_of` meets its contract. Each arm is the word of its call. Assumes nothing.
-use Rattle.calls.proofs.Coding.{wake-fits}
+-- `calls::word_of` meets its contract. Each arm is the word of its call. Assumes nothing.
+use Rattle.calls.proofs.Coding.{wake-range}
 use borrow.Author.Needs.{needs}
 use Rattle.calls.proofs.word_of.Statement.{statement}
 use Rattle.calls.proofs.word_of.Tie as tie
 
 wake-word-requires : tie.Need-wake-word-requires
-wake-word-requires c κs = search wake-fits
+wake-word-requires c κs = search wake-range
 
 returns : tie.Need-returns
 returns c = cc

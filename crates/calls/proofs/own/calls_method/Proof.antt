@@ -1,5 +1,5 @@
 -- `calls::own::calls_method` meets its contract. A law for each way out. Assumes nothing.
-use Rattle.calls.proofs.Device.{same-state, from-hot, from-other}
+use Rattle.calls.proofs.OwnCall.{same-state, from-hot, from-other}
 use borrow.Author.Needs.{needs}
 use Rattle.calls.proofs.own.calls_method.Statement.{statement}
 use Rattle.calls.proofs.own.calls_method.Tie as tie

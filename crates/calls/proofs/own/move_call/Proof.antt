@@ -1,5 +1,5 @@
 -- `calls::own::move_call` meets its contract. A law for each way out. Assumes nothing.
-use Rattle.calls.proofs.Device.{moving}
+use Rattle.calls.proofs.OwnCall.{owning}
 use borrow.Author.Needs.{needs}
 use Rattle.calls.proofs.own.move_call.Statement.{statement}
 use Rattle.calls.proofs.own.move_call.Tie as tie
@@ -9,13 +9,12 @@ move-call-spec =
     tie.close
     (tie.spec
     (λ c κs. search needs)
-    (λ c. search (needs, moving))
+    (λ c. search (needs, owning))
     (λ c κs. search needs)
     (λ c κs. search needs)
     (λ c κs. search needs)
     (λ c κs. search needs)
-    (λ c. search (needs, moving))
+    (λ c. search (needs, owning))
     (λ c. search needs)
     (λ c. search needs)
-    (λ c κs. search needs)
-    (λ c. search (needs, moving)))
+    (λ c. search (needs, owning)))

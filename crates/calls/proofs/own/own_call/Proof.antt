@@ -1,5 +1,5 @@
 -- `calls::own::own_call` meets its contract. A law for each kind of request. Assumes nothing.
-use Rattle.calls.proofs.Device.{owning}
+use Rattle.calls.proofs.OwnCall.{owning}
 use borrow.Author.Needs.{needs}
 use Rattle.calls.proofs.own.own_call.Statement.{statement}
 use Rattle.calls.proofs.own.own_call.Tie as tie

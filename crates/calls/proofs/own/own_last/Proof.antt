@@ -1,5 +1,5 @@
 -- `calls::own::own_last` meets its contract. A law for each way out. Assumes nothing.
-use Rattle.calls.proofs.Device.{owning}
+use Rattle.calls.proofs.OwnCall.{owning}
 use borrow.Author.Needs.{needs}
 use Rattle.calls.proofs.own.own_last.Statement.{statement}
 use Rattle.calls.proofs.own.own_last.Tie as tie

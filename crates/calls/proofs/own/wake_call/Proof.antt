@@ -1,5 +1,5 @@
 -- `calls::own::wake_call` meets its contract. A law for each way out. Assumes nothing.
-use Rattle.calls.proofs.Device.{waking}
+use Rattle.calls.proofs.OwnCall.{owning}
 use borrow.Author.Needs.{needs}
 use Rattle.calls.proofs.own.wake_call.Statement.{statement}
 use Rattle.calls.proofs.own.wake_call.Tie as tie
@@ -12,13 +12,11 @@ wake-call-spec =
     (λ c κs. search needs)
     (λ c κs. search needs)
     (λ c κs. search needs)
-    (λ c. search (needs, waking))
+    (λ c. search (needs, owning))
     (λ c. search needs)
     (λ c. search needs)
     (λ c. search needs)
-    (λ c κs. search needs)
-    (λ c. search (needs, waking))
+    (λ c. search (needs, owning))
     (λ c. search needs)
-    (λ c κs. search needs)
-    (λ c. search (needs, waking))
-    (λ c. search (needs, waking)))
+    (λ c. search (needs, owning))
+    (λ c. search (needs, owning)))
