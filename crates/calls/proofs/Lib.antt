@@ -3,4 +3,7 @@ pub mod Inverse
 pub mod Switch
 pub mod OwnCall
 pub mod Keys
+pub mod Runs
 pub mod Insertion
+pub mod Rewriting
+pub mod Sorting

@@ -1,19 +1,27 @@
--- The words of a request's calls, from the device's entry and the sets to turn on and off. Assumes nothing.
+-- The words of a change's calls, the state by value after it, and what a plan that has passed every check leaves. Assumes nothing.
 use Prim.Native.Nat.{ℕ}
 use mathlib.Core.Path.{_≡_}
-use mathlib.Core.Bool.{false, _&&_}
 use mathlib.Core.List.{List, map, reverse}
-use Rattle.sets.specs.Sets.{member}
-use Rattle.rules.specs.declared.Entry.{Entry}
+use lib.ListN.{length}
+use Rattle.words.specs.Words.{put}
+use Rattle.rules.specs.declared.Change.{Change}
 use Rattle.rules.specs.declared.Request.{Request}
+use Rattle.rules.specs.declared.State.{State}
 use Rattle.rules.specs.Station.{Station}
-use Rattle.rules.specs.Calls.{wordOf, ownLast, rising, arrange}
-use Rattle.calls.specs.Own.{ownOf}
+use Rattle.rules.specs.Calls.{wordOf, listOf, rising, arrange}
+use Rattle.rules.specs.Outcomes.{planned, stateAfter}
+use Rattle.status.specs.State.{withEntry}
 
--- the words of all calls, where these sets are to be turned on and off
-unfoldable pub planWords : Station → Entry → Request → ℕ → ℕ → List ℕ
-planWords s e q on off = map wordOf (arrange (ownLast q) (ownOf s e q) (rising s on) (reverse (rising s off)))
+-- the words of all calls of a change
+unfoldable pub changeWords : Station → Change → List ℕ
+changeWords s c = map wordOf (arrange (c .last) (listOf (c .own)) (rising s (c .on)) (reverse (rising s (c .off))))
 
--- no resource is in both sets
-unfoldable pub Apart : ℕ → ℕ → Type 0
-Apart a b = (r : ℕ) → member a r && member b r ≡ false
+-- the state with the change's entry for device d, and the set that is then needed on
+unfoldable pub changedState : State → ℕ → Change → State
+changedState st d c = record { devices = withEntry st d (c .entry) .devices; on = c .needed }
+
+-- the count, the state and the plan of an accepted request
+pub record Written (t b : List ℕ) (q : Request) (plan : List ℕ) (n : ℕ) (b′ plan′ : List ℕ) : Type 0 where
+  pub count : n ≡ length (planned t b q)
+  pub state : b′ ≡ stateAfter t b q
+  pub words : plan′ ≡ put plan 0 (planned t b q)

@@ -1,51 +1,58 @@
 // Plans one request: answers 1 to 18, the calls into a lent plan, and the state after them. A refusal writes neither.
-use rules::Entry;
+use rules::Change;
 use rules::Request;
 use rules::State;
 use rules::Verdict;
 ghost use mathlib.Core.Path.{_≡_};
 ghost use Prim.Native.Nat.{_<_, _≤_};
 ghost use lib.ListN.{length};
-ghost use Rattle.rules.specs.Station.{countD, stationOf};
-ghost use Rattle.rules.specs.Outcomes.{planWords};
-ghost use Rattle.table.specs.Layout.{Laid};
-ghost use Rattle.planner.specs.After.{afterOf, Asked, Carried};
+ghost use Rattle.rules.specs.Station.{width};
+ghost use Rattle.rules.specs.Outcomes.{planRoom, planWords};
+ghost use Rattle.request.specs.Permitted.{PermittedRequest};
+ghost use Rattle.planner.specs.Plan.{changedState, Written};
 
-// The state after the request: the device's new entry, and exactly what is then needed on.
-pub fn next_state(table: &[u8], before: State, d: usize, e: Entry) -> State
-    requires { ⌜ Laid (now table) × (d < countD (now table)) ⌝ }
-    ensures { λ r. ⌜ r ≡ afterOf (stationOf 4 (now (table .entry))) before d e ⌝ }
+// The words that a plan must have room for.
+pub fn room(table: &[u8]) -> usize
+    ensures { λ r. ⌜ (r ≡ planRoom (width (now (table .entry)))) × (r ≤ 65) ⌝ }
 {
-    let entered = status::image::with_entry(before, d, e);
+    table::fields::limit(table) + 1
+}
+
+// The state after a change: the device's new entry, and exactly what is then needed on.
+fn changed_state(before: State, d: usize, c: Change) -> State
+    requires { ⌜ d < 32 ⌝ }
+    ensures { λ r. ⌜ r ≡ changedState before d c ⌝ }
+{
+    let entered = status::image::with_entry(before, d, c.entry);
     let devices = entered.devices;
-    let on = status::needed::needed(table, &devices);
-    State { devices, on }
+    State {
+        devices,
+        on: c.needed,
+    }
 }
 
 // The calls and the state of a request that has passed every check.
-pub fn carry(table: &[u8], state: &mut [u8], q: Request, plan: &mut [u32]) -> usize
-    requires { ⌜ Asked (now table) (now state) q × (33 ≤ length (now plan)) ⌝ }
-    ensures { λ r. ⌜ Carried (now (table .entry)) (now (state .entry)) q (now (plan .entry)) r (now (state .exit)) (now (plan .exit)) ⌝ }
+pub fn write_plan(table: &[u8], state: &mut [u8], q: Request, plan: &mut [u32]) -> usize
+    requires { ⌜ PermittedRequest (now table) (now state) q × (planRoom (width (now table)) ≤ length (now plan)) ⌝ }
+    ensures { λ r. ⌜ Written (now (table .entry)) (now (state .entry)) q (now (plan .entry)) r (now (state .exit)) (now (plan .exit)) ⌝ }
 {
-    let d = q.device as usize;
+    let on = status::image::on_set(table, state);
+    let c = request::change::change(table, state, on, q);
     let before = status::image::load(state);
-    let e = status::image::entry(state, d);
-    let after = next_state(table, before, d, request::new_entry(e, q));
-    let on = sets::minus(after.on, before.on);
-    let off = sets::minus(before.on, after.on);
-    let count = crate::write::write_calls(table, e, q, on, off, plan);
+    let after = changed_state(before, q.device as usize, c);
+    let count = crate::write::write_calls(table, c, plan);
     status::image::store(after, state);
     count
 }
 
 // Plans one request on a plan of words.
 pub fn plan_words(table: &[u8], state: &mut [u8], q: Request, plan: &mut [u32]) -> Verdict
-    ensures { λ r. ⌜ (r ≡ planWords 4 (now (table .entry)) (now (state .entry)) q (now (plan .entry)) .verdict) × (now (state .exit) ≡ planWords 4 (now (table .entry)) (now (state .entry)) q (now (plan .entry)) .state) × (now (plan .exit) ≡ planWords 4 (now (table .entry)) (now (state .entry)) q (now (plan .entry)) .plan) ⌝ }
+    ensures { λ r. ⌜ (r ≡ planWords (now (table .entry)) (now (state .entry)) q (now (plan .entry)) .verdict) × (now (state .exit) ≡ planWords (now (table .entry)) (now (state .entry)) q (now (plan .entry)) .state) × (now (plan .exit) ≡ planWords (now (table .entry)) (now (state .entry)) q (now (plan .entry)) .plan) ⌝ }
 {
-    let room = plan.len() >= 33;
-    let v = request::stages::verdict(table, state, room, q);
+    let fits = plan.len() >= room(table);
+    let v = request::stages::verdict(table, state, fits, q);
     if !rules::passes(v) {
         return v;
     }
-    Verdict::Done(carry(table, state, q, plan))
+    Verdict::Done(write_plan(table, state, q, plan))
 }

@@ -64,7 +64,7 @@ unfolding formGood stationOf
 form-in t q n b e h f = rw (lt-ltb (q .device) (countD t) (omega arith)) f
 
 -- what numbers that are good say of each
-small : (s : Station) (q : Request) → formGood s q ≡ true → (q .a ≤ 4) × (q .b ≤ 4)
+pub small : (s : Station) (q : Request) → formGood s q ≡ true → (q .a ≤ 4) × (q .b ≤ 4)
 unfolding formGood numbersGood
 small s q e =
     let move = isMove q && leb (q .a) 4 && eqb (q .b) 0 in
