@@ -2,10 +2,8 @@
 use mathlib.Core.Path.{_≡_, refl, sym, ap, _∙_}
 use mathlib.Core.Bool.{Bool, true, false, not, _&&_}
 use mathlib.Core.List.{List}
-use Prim.Native.Nat.{ℕ, _+_, _*_, _^_, _≤_, _<_}
-use native.Mathlib.Omega.{arith}
+use Prim.Native.Nat.{ℕ, _*_, _^_, _<_}
 use borrow.Author.Tests.{not-false}
-use lib.ListN.{length}
 use Rattle.sets.specs.Sets.{member, minus}
 use Rattle.sets.proofs.Bits.{both}
 use Rattle.sets.proofs.Laws.{member-minus, minus-lt}
@@ -15,7 +13,7 @@ use Rattle.rules.specs.declared.OptionalCall.{OptionalCall}
 use Rattle.rules.specs.declared.Verdict.{Verdict}
 use Rattle.rules.specs.declared.Change.{Change}
 use Rattle.rules.specs.Answers.{passes}
-use Rattle.rules.specs.Station.{width, countR, countD, stationOf, station}
+use Rattle.rules.specs.Station.{countR, stationOf, station}
 use Rattle.rules.specs.Power.{needed}
 use Rattle.rules.specs.Status.{entryAt, entries, statusOf, status}
 use Rattle.rules.specs.Request.{newEntry, replaceEntry}
@@ -56,11 +54,7 @@ minus-disjoint x y r =
     rw (member-minus x y r, member-minus y x r)
     (both (λ (a b : Bool). (a && not b) && (b && not a) ≡ false) refl refl refl refl (member x r) (member y r))
 
--- ---- what the parts ask
 module _ (t b : List ℕ) (q : Request) (g : PermittedRequest t b q) where
-  pub entry-asks : 4 * q .device + 4 ≤ length b
-  entry-asks = omega (arith, g .device, g .long, g .ready .sized .devices)
-
   stages : Stages t b q
   stages = stages-of true t b q (g .passed)
 
@@ -94,7 +88,7 @@ module _ (t b : List ℕ) (q : Request) (g : PermittedRequest t b q) where
             own = own-in-range t e q o own (g .ready .sized) (g .device) (g .first) (g .second);
           }
 
-pub ruleset changes = (entry-asks, change-is, change-good)
+pub ruleset changes = (change-is, change-good)
 
 -- the status of an image is that of its entries with its own on-set
 pub status-with : (t b : List ℕ) (on : ℕ) → on ≡ status t b .on → statusWith t b on ≡ status t b

@@ -8,7 +8,7 @@ use Rattle.sets.specs.Sets.{member}
 use Rattle.rules.specs.declared.Request.{Request}
 use Rattle.rules.specs.declared.Change.{Change}
 use Rattle.rules.specs.Answers.{passes}
-use Rattle.rules.specs.Station.{width, countD}
+use Rattle.rules.specs.Station.{width, countR, countD}
 use Rattle.rules.specs.Status.{imageSize}
 use Rattle.rules.specs.Outcomes.{permittedVerdict}
 use Rattle.calls.specs.Ranges.{OptionalInRange}
