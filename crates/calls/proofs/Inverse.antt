@@ -58,7 +58,8 @@ unfolding Right
 none w = tt
 
 -- a call under three tests
-at-call : (w : ℕ) (a b c : Bool) (p : Call) (q : OptionalCall) → (a ≡ true → b ≡ true → c ≡ true → wordOf p ≡ w) → Right w q → Right w (cond (a && b && c) (Is p) q)
+at-call : (w : ℕ) (a b c : Bool) (p : Call) (q : OptionalCall)
+    → (a ≡ true → b ≡ true → c ≡ true → wordOf p ≡ w) → Right w q → Right w (cond (a && b && c) (Is p) q)
 at-call w a b c p q f g =
     at-cond w (a && b && c) (Is p) q
     (λ t. let u = both-true (a && b) c t in let v = both-true a b (u .0) in ends w p (f (v .0) (v .1) (u .1))) g

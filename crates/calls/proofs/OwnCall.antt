@@ -63,7 +63,8 @@ module _ (s : Station) (e : Entry) (d x : ℕ) (b : Bool) (q : b ≡ callsMethod
 
 -- ---- `_DSW`
 
-module _ (s : Station) (e : Entry) (q : Request) (p w : ℕ) (i : Bool) (ep : p ≡ s .device (q .device) .flags) (ew : w ≡ p) (ei : i ≡ member w 1) where
+module _ (s : Station) (e : Entry) (q : Request) (p w : ℕ) (i : Bool)
+    (ep : p ≡ s .device (q .device) .flags) (ew : w ≡ p) (ei : i ≡ member w 1) where
   has-dsw : i ≡ hasDSW (s .device (q .device))
   has-dsw = rw (← ep, ← ew) ei
 
@@ -119,8 +120,8 @@ unfolding methodFor
 method-in-range x h = decide (eqb x 4) (λ e. rw e (omega arith)) (λ e. rw e (omega (arith, eqb-false x 4 e)))
 
 -- the own call of a request in range for a device of the table
-pub own-in-range : (t : List ℕ) (e : Entry) (q : Request) (c : OptionalCall) → c ≡ ownCall (station t) e q → WellSized t → q .device < countD t → q .a ≤ 4 → q .b ≤ 4
-    → OptionalInRange c
+pub own-in-range : (t : List ℕ) (e : Entry) (q : Request) (c : OptionalCall)
+    → c ≡ ownCall (station t) e q → WellSized t → q .device < countD t → q .a ≤ 4 → q .b ≤ 4 → OptionalInRange c
 unfolding ownCall moveCall wakeCall
 own-in-range t e q c p z d a b =
     let small : q .device < 256 = omega arith in

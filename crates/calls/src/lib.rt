@@ -45,7 +45,7 @@ pub fn word_of(call: Call) -> u32
     }
 }
 
-// Whether a word is that of a call that document 01 has: whether it says that call.
+// Whether a word says this call.
 pub fn says(word: u32, call: Call) -> bool
     requires { ⌜ InRange call ⌝ }
     ensures { λ b. ⌜ b ≡ eqb word (wordOf call) ⌝ }

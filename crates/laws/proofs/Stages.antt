@@ -13,7 +13,7 @@ use Rattle.rules.specs.Table.{tableVerdict}
 use Rattle.rules.specs.Status.{status, stateVerdict}
 use Rattle.rules.specs.Request.{requestVerdict}
 use Rattle.rules.specs.Outcomes.{requestStage, stagesVerdict, planned, planVerdict}
-use Rattle.rules.proofs.Answers.{first-both, first-pass, first-none, unless-of, done-passes}
+use Rattle.rules.proofs.Answers.{first-both, first-pass, first-none, unless-of, unless-at, done-passes}
 
 -- the stages that a permitted request has passed
 pub record Stages (t b : List ℕ) (q : Request) : Type 0 where
@@ -34,6 +34,11 @@ module _ (room : Bool) (t b : List ℕ) (q : Request) where
   unfolding stagesVerdict requestStage
   stages-pass g e =
       first-pass _ _ _ (g .table) ∙ first-pass _ _ _ (g .state) ∙ first-pass _ _ _ (rw (unless-of room NoRoom 0 e) (done-passes 0)) ∙ first-pass _ _ _ (g .request) ∙ first-none (Done 0)
+
+  -- without room they refuse
+  pub room-passed : passes (stagesVerdict room t b q) ≡ true → room ≡ true
+  unfolding stagesVerdict
+  room-passed e = unless-at room NoRoom 0 (first-both _ _ _ (first-both _ _ _ (first-both _ _ _ e .1) .1) .0)
 
   -- an accepted plan has passed them, and is done with the count of its calls
   pub plan-stages : passes (planVerdict room t b q) ≡ true → Stages t b q

@@ -1,41 +1,43 @@
 -- The plan as runs of words that follow one another: the own call's, the ONs' and the OFFs'. Two sets with no resource in common have at most R words.
 -- Assumes nothing.
 use mathlib.Core.Path.{_≡_, refl, sym, ap, _∙_}
-use mathlib.Core.Bool.{Bool, true, false, _&&_, not}
-use mathlib.Core.List.{List, [], _∷_, _++_, map, reverse, reverseAux, map-append, map-map, append-assoc}
+use mathlib.Core.Bool.{true, false}
+use mathlib.Core.List.{List, [], _∷_, _++_, map, map-append, map-map, append-assoc}
 use Prim.Native.Nat.{ℕ, zero, suc, _+_, _≤_, _<_}
 use native.Mathlib.Omega.{arith}
 use lib.ListN.{length, length-append, length-map, set}
 use Rattle.sets.specs.Sets.{member}
-use Rattle.sets.proofs.Bits.{both}
-use Rattle.sets.proofs.Laws.{decide, member-minus}
+use Rattle.sets.proofs.Laws.{decide}
 use Rattle.words.specs.Words.{put}
 use Rattle.words.proofs.Put.{put-none, put-put, sets-put}
-use Rattle.rules.specs.Station.{Station, countR, stationOf}
-use Rattle.rules.specs.declared.Entry.{Entry}
-use Rattle.rules.specs.declared.Request.{Request}
+use Rattle.rules.specs.Station.{Station, width, limit, countR, stationOf, station}
 use Rattle.rules.specs.declared.Call.{Call}
-use Rattle.rules.specs.Status.{Status}
-use Rattle.rules.specs.Request.{isMove, isArm}
-use Rattle.rules.specs.Calls.{wordOf, only, moveCall, wakeCall, ownCall, ownLast, endSet, toTurnOn, toTurnOff, membersFrom, earlier, orderIn, rising, arrange}
-use Rattle.rules.specs.Check.{onWord, offWord}
+use Rattle.rules.specs.declared.OptionalCall.{OptionalCall}
+use Rattle.rules.specs.declared.OptionalCall.the-variants.{Is, NoCall}
+use Rattle.rules.specs.declared.Change.{Change}
+use Rattle.rules.specs.Calls.{wordOf, listOf, membersFrom, earlier, orderIn, rising, arrange}
+use Rattle.rules.specs.Outcomes.{planRoom}
 use Rattle.laws.proofs.Sort.{length-sort}
-use Rattle.calls.specs.declared.own.Own.{Own}
-use Rattle.calls.specs.declared.own.Own.the-variants.{Word, NoCall}
-use Rattle.calls.specs.Phases.{switchWords, phaseWords}
-use Rattle.calls.specs.Own.{ownWords, ownOf}
-use Rattle.planner.specs.Plan.{planWords, Apart}
+use Rattle.table.specs.Layout.{WellSized}
+use Rattle.calls.specs.Switch.{switchWord}
+use Rattle.calls.specs.Phases.{inOrder, switchWords, phaseWords}
+use Rattle.calls.proofs.Keys.{switch-long}
+use Rattle.request.specs.Permitted.{Disjoint, GoodChange}
+use Rattle.planner.specs.Plan.{changeWords}
 
 -- ---- the own call's word
 
-pub own-room : (o : Own) (w at n : ℕ) → at + length (ownWords o) ≤ n → o ≡ Word w → at < n
-own-room o w at n h e = omega (arith, rw e at h)
+pub own-room : (o : OptionalCall) (c : Call) (at n : ℕ) → at + length (listOf o) ≤ n → o ≡ Is c → at < n
+unfolding listOf
+own-room o c at n h e = omega (arith, rw e at h)
 
-pub own-word : (o : Own) (w at : ℕ) (d : List ℕ) → at + length (ownWords o) ≤ length d → o ≡ Word w
-    → (at + 1 ≡ at + length (ownWords o)) × (set d at w ≡ put d at (ownWords o))
-own-word o w at d h e = rw e (refl, sets-put d at (w ∷ []) (rw e at h))
+pub own-word : (o : OptionalCall) (c : Call) (w at : ℕ) (d : List ℕ) → at + length (listOf o) ≤ length d → o ≡ Is c → w ≡ wordOf c
+    → (at + 1 ≡ at + length (map wordOf (listOf o))) × (set d at w ≡ put d at (map wordOf (listOf o)))
+unfolding listOf
+own-word o c w at d h e f = rw (e, f) (refl, sets-put d at (wordOf c ∷ []) (rw e at h))
 
-pub own-none : (o : Own) (at : ℕ) (d : List ℕ) → o ≡ NoCall → (at ≡ at + length (ownWords o)) × (d ≡ put d at (ownWords o))
+pub own-none : (o : OptionalCall) (at : ℕ) (d : List ℕ) → o ≡ NoCall → (at ≡ at + length (map wordOf (listOf o))) × (d ≡ put d at (map wordOf (listOf o)))
+unfolding listOf
 own-none o at d e = rw e (omega arith, sym (put-none d at))
 
 -- ---- one run after another, as two calls' `ensures` give them
@@ -58,96 +60,70 @@ phase-long s on off = length-append (switchWords false s on) (switchWords true s
 
 -- ---- their lengths
 
-length-aux : (l k : List ℕ) → length (reverseAux l k) ≡ length l + length k
-length-aux [] k = omega arith
-length-aux (x ∷ l) k = omega (arith, length-aux l (x ∷ k))
-
-switch-long : (off : Bool) (s : Station) (m : ℕ) → length (switchWords off s m) ≡ length (rising s m)
-unfolding switchWords
-switch-long true s m = omega (arith, length-map (reverse (rising s m)) offWord, length-aux (rising s m) [])
-switch-long false s m = length-map (rising s m) onWord
-
-members-apart : (a b i k : ℕ) → Apart a b → length (membersFrom a i k) + length (membersFrom b i k) ≤ k
-unfolding membersFrom Apart
-members-apart a b i zero h = omega arith
-members-apart a b i (suc k) h =
-    let ih = members-apart a b (suc i) k h in
+members-fit : (a b i k : ℕ) → Disjoint a b → length (membersFrom a i k) + length (membersFrom b i k) ≤ k
+unfolding membersFrom Disjoint
+members-fit a b i zero h = omega arith
+members-fit a b i (suc k) h =
+    let ih = members-fit a b (suc i) k h in
     decide (member a i)
     (λ p. rw (p, rw p at (h i)) (omega arith))
     (λ p. rw p (decide (member b i) (λ q. rw q (omega arith)) (λ q. rw q (omega arith))))
 
 -- two sets with no resource in common have at most R resources together
-pub rising-apart : (s : Station) (a b : ℕ) → Apart a b → length (rising s a) + length (rising s b) ≤ s .resources
+rising-fit : (s : Station) (a b : ℕ) → Disjoint a b → length (rising s a) + length (rising s b) ≤ s .resources
 unfolding rising
-rising-apart s a b h =
+rising-fit s a b h =
     let n = s .resources in
     let before = earlier (orderIn s) in
-    omega (arith, length-sort before (membersFrom a 0 n), length-sort before (membersFrom b 0 n), members-apart a b 0 n h)
+    omega (arith, length-sort before (membersFrom a 0 n), length-sort before (membersFrom b 0 n), members-fit a b 0 n h)
 
-pub phase-fits : (s : Station) (on off : ℕ) → Apart on off → length (phaseWords s on off) ≤ s .resources
-phase-fits s on off h = omega (arith, phase-long s on off, switch-long false s on, switch-long true s off, rising-apart s on off h)
+phase-fits : (t : List ℕ) (on off : ℕ) → Disjoint on off → length (phaseWords (station t) on off) ≤ countR t
+phase-fits t on off h =
+    let s = station t in
+    unfold stationOf in omega (arith, phase-long s on off, switch-long false s on, switch-long true s off, rising-fit s on off h)
 
-phase-room : (t : List ℕ) (on off : ℕ) → Apart on off → length (phaseWords (stationOf 4 t) on off) ≤ countR t
-unfolding stationOf
-phase-room t = phase-fits (stationOf 4 t)
-
-own-long : (o : Own) → length (ownWords o) ≤ 1
-own-long (Word w) = omega arith
+own-long : (o : OptionalCall) → length (listOf o) ≤ 1
+unfolding listOf
+own-long (Is c) = omega arith
 own-long NoCall = omega arith
-
--- and with the own call's word R + 1
-pub runs-fit : (t : List ℕ) (on off : ℕ) (o : Own) → Apart on off → length (phaseWords (stationOf 4 t) on off) + length (ownWords o) ≤ 1 + countR t
-runs-fit t on off o h = omega (arith, phase-room t on off h, own-long o)
 
 -- ---- all words
 
 ruleset regroup = (map-append, map-map, append-assoc)
 
-module _ (s : Station) (e : Entry) (q : Request) (on off : ℕ) (ws : List ℕ) (o : ws ≡ map wordOf (ownOf s e q)) where
-  pub plan-last : ownLast q ≡ true → planWords s e q on off ≡ phaseWords s on off ++ ws
-  unfolding planWords phaseWords switchWords arrange
-  plan-last h = rw (h, o) (simp regroup)
+module _ (t : List ℕ) (c : Change) where
+  abbrev own : List ℕ
+  own = map wordOf (listOf (c .own))
 
-  pub plan-first : ownLast q ≡ false → planWords s e q on off ≡ ws ++ phaseWords s on off
-  unfolding planWords phaseWords switchWords arrange
-  plan-first h = rw (h, o) (simp regroup)
+  abbrev phases : List ℕ
+  phases = phaseWords (station t) (c .on) (c .off)
 
-only-long : (b : Bool) (c : Call) → length (map wordOf (only b c)) ≤ 1
-unfolding only
-only-long true c = omega arith
-only-long false c = omega arith
+  pub own-comes-last : c .last ≡ true → changeWords (station t) c ≡ phaseWords (station t) (c .on) (c .off) ++ map wordOf (listOf (c .own))
+  unfolding changeWords phaseWords switchWords switchWord inOrder arrange
+  own-comes-last h = rw h (simp regroup)
 
-own-one : (s : Station) (e : Entry) (q : Request) → length (map wordOf (ownOf s e q)) ≤ 1
-unfolding ownOf ownCall moveCall wakeCall
-own-one s e q =
-    decide (isMove q) (λ m. rw m (only-long _ _))
-    (λ m. decide (isArm q) (λ a. rw (m, a) (only-long _ _)) (λ a. rw (m, a) (only-long _ _)))
+  pub own-comes-first : c .last ≡ false → changeWords (station t) c ≡ map wordOf (listOf (c .own)) ++ phaseWords (station t) (c .on) (c .off)
+  unfolding changeWords phaseWords switchWords switchWord inOrder arrange
+  own-comes-first h = rw h (simp regroup)
 
--- so a plan has at most R + 1 words
-pub plan-fits : (t : List ℕ) (e : Entry) (q : Request) (on off : ℕ) → Apart on off → length (planWords (stationOf 4 t) e q on off) ≤ 1 + countR t
-plan-fits t e q on off h =
-    let s = stationOf 4 t in
-    let ws = map wordOf (ownOf s e q) in
-    let n = own-one s e q in
-    let m = phase-room t on off h in
-    decide (ownLast q)
-    (λ p. rw (plan-last s e q on off ws refl p) (omega (arith, length-append (phaseWords s on off) ws)))
-    (λ p. rw (plan-first s e q on off ws refl p) (omega (arith, length-append ws (phaseWords s on off))))
+  -- a plan has at most R + 1 words, so each run has room
+  module _ (g : GoodChange t c) where
+    pub runs-fit : length (phaseWords (station t) (c .on) (c .off)) + length (listOf (c .own)) ≤ countR t + 1
+    runs-fit = omega (arith, phase-fits t (c .on) (c .off) (g .disjoint), own-long (c .own))
 
--- two runs are the whole plan
-pub written : {l m : List ℕ} {p r : ℕ} (t : List ℕ) (e : Entry) (q : Request) (on off : ℕ) (d xs ys : List ℕ) → planWords (stationOf 4 t) e q on off ≡ xs ++ ys
-    → Apart on off → countR t ≤ 32 → 33 ≤ length d → (p ≡ 0 + length xs) × (l ≡ put d 0 xs) → (r ≡ p + length ys) × (m ≡ put l p ys)
-    → (r ≡ length (planWords (stationOf 4 t) e q on off)) × (m ≡ put d 0 (planWords (stationOf 4 t) e q on off))
-written t e q on off d xs ys w h k n a b =
-    let f = plan-fits t e q on off h in
-    let u = two-runs d 0 xs ys (planWords (stationOf 4 t) e q on off) w (omega arith) a b in
-    (omega (arith, u .0), u .1)
+    pub change-fits : length (changeWords (station t) c) ≤ countR t + 1
+    change-fits =
+        let n = runs-fit in
+        let m = length-map (listOf (c .own)) wordOf in
+        decide (c .last)
+        (λ p. rw (own-comes-last p) (omega (arith, length-append phases own)))
+        (λ p. rw (own-comes-first p) (omega (arith, length-append own phases)))
 
--- ---- the planner's list is the plan of the sets that the rules give, and these have no resource in common
-
-pub switches-apart : (s : Station) (st : Status) (q : Request) → Apart (toTurnOn s st q) (toTurnOff s st q)
-unfolding Apart toTurnOn toTurnOff
-switches-apart s st q r =
-    let n = endSet s (st .entries) q in
-    rw (member-minus n (st .on) r, member-minus (st .on) n r)
-    (both (λ (x y : Bool). (x && not y) && (y && not x) ≡ false) refl refl refl refl (member n r) (member (st .on) r))
+    -- two runs are the whole plan
+    pub runs-written : {l m : List ℕ} {p r : ℕ} (d xs ys : List ℕ) → changeWords (station t) c ≡ xs ++ ys → WellSized t → planRoom (width t) ≤ length d
+        → (p ≡ 0 + length xs) × (l ≡ put d 0 xs) → (r ≡ p + length ys) × (m ≡ put l p ys)
+        → (r ≡ length (changeWords (station t) c)) × (m ≡ put d 0 (changeWords (station t) c))
+    runs-written d xs ys w z n a b =
+        let f = change-fits in
+        let u = two-runs d 0 xs ys (changeWords (station t) c) w (omega (arith, z .resources)) a b in
+        (omega (arith, u .0), u .1)

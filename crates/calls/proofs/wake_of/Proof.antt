@@ -5,4 +5,12 @@ use Rattle.calls.proofs.wake_of.Statement.{statement}
 use Rattle.calls.proofs.wake_of.Tie as tie
 
 pub wake-of-spec : {M : Type 1} → statement M
-wake-of-spec = tie.close (tie.spec (λ c. search (needs, wakes)) (λ c. search (needs, wakes)) (λ c. search (needs, wakes)) (λ c. search (needs, wakes)) (λ c. search (needs, wakes)) (λ c. search (needs, wakes)))
+wake-of-spec =
+    tie.close
+    (tie.spec
+    (λ c. search (needs, wakes))
+    (λ c. search (needs, wakes))
+    (λ c. search (needs, wakes))
+    (λ c. search (needs, wakes))
+    (λ c. search (needs, wakes))
+    (λ c. search (needs, wakes)))
