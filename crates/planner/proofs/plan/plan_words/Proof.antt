@@ -31,11 +31,15 @@ same-length c = search needs
 -- src/plan.rt:55:9
 returns : tie.Need-returns
 unfolding planWords
-returns c = plan-refused _ _ _ _ _ _ (c .before .before .verdict .ensures) (c .before .passes .ensures) _ _ (c .if1 .taken)
+returns c =
+    plan-refused _ _ _ _ _ _ (rw (c .before .before .before .before .room .ensures .0) at (c .before .before .verdict .ensures)) (c .before .passes .ensures) _ _ (c .if1 .taken)
 
 -- src/plan.rt:57:19
 write-plan-requires : tie.Need-write-plan-requires
-write-plan-requires c κs = search (needs, permitted-by, room-there)
+write-plan-requires c κs =
+    let e = c .before .before .before .before .verdict .ensures in
+    let f = c .before .before .before .passes .ensures in
+    (permitted-by _ _ _ _ _ _ e f (c .before .before .if1 .left), room-there _ _ _ _ _ _ _ (c .before .before .before .before .before .before .room .ensures .0) e f (c .before .before .if1 .left))
 
 -- src/plan.rt:49:1
 same-length-2 : tie.Need-same-length-2
@@ -48,8 +52,9 @@ same-length-3 c = search needs
 -- src/plan.rt:49:1
 returns-2 : tie.Need-returns-2
 unfolding planWords
-returns-2 c = let x = c .before .before .before .before .write-plan .ensures in
-    plan-accepted _ _ _ _ _ _ (c .before .before .before .before .before .before .before .before .before .verdict .ensures) (c .before .before .before .before .before .before .before .before .passes .ensures) _ _ (c .before .before .before .before .before .before .before .if1 .left) _ _ _ (x .count) (x .state) (x .words)
+returns-2 c =
+    let x = c .before .before .before .before .write-plan .ensures in
+    plan-accepted _ _ _ _ _ _ (rw (c .before .before .before .before .before .before .before .before .before .before .before .room .ensures .0) at (c .before .before .before .before .before .before .before .before .before .verdict .ensures)) (c .before .before .before .before .before .before .before .before .passes .ensures) _ _ (c .before .before .before .before .before .before .before .if1 .left) _ _ _ (x .count) (x .state) (x .words)
 
 pub plan-words-spec : {M : Type 1} → statement M
 plan-words-spec =

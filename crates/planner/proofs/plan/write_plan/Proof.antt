@@ -35,7 +35,7 @@ changed-state-requires c κs = search (needs, device-32)
 
 -- src/plan.rt:43:9
 write-calls-requires : tie.Need-write-calls-requires
-write-calls-requires c κs = search needs
+write-calls-requires c κs = (c .before .before .before .before .before .before .before .before .before .before .before .before .pre .0 .ready .sized, c .before .before .before .before .before .change .ensures .1, c .before .before .before .before .before .before .before .before .before .before .before .before .pre .1)
 
 -- src/plan.rt:44:5
 store-requires : tie.Need-store-requires
@@ -51,7 +51,8 @@ same-length-2 c = search needs
 
 -- src/plan.rt:35:1
 returns : tie.Need-returns
-returns c = search (needs, plan-written)
+returns c =
+    plan-written _ _ _ (c .before .before .before .before .before .before .before .before .before .before .before .before .before .before .before .before .before .before .before .pre .0) _ _ (c .before .before .before .before .before .before .before .before .before .before .before .before .before .before .on-set .ensures) (c .before .before .before .before .before .before .before .before .before .before .before .before .change .ensures .0) _ _ _ _ _ _ (c .before .before .before .before .before .before .before .before .before .before .load .ensures) (c .before .before .before .before .before .before .before .before .changed-state .ensures) (c .before .before .before .before .before .before .write-calls .ensures) (c .before .before .store .ensures)
 
 pub write-plan-spec : {M : Type 1} → statement M
 write-plan-spec =

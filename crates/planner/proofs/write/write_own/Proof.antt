@@ -38,11 +38,11 @@ same-length c = search needs
 
 -- src/write.rt:21:1
 returns : tie.Need-returns
-returns c = search (needs, own-word)
+returns c = own-word _ _ _ _ _ (c .before .before .before .before .before .pre .1) (c .before .before .own .given .1) (c .word-of .ensures)
 
 -- src/write.rt:21:1
 returns-2 : tie.Need-returns-2
-returns-2 c = search (needs, own-none)
+returns-2 c = own-none _ _ _ (c .enum-told .given .1)
 
 pub write-own-spec : {M : Type 1} → statement M
 write-own-spec =

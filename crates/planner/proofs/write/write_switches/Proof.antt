@@ -1,4 +1,5 @@
 -- Two runs, one after the other. Assumes nothing.
+use Rattle.rules.specs.Station.{station}
 use Rattle.planner.proofs.Run.{phase-is, phase-long, two-runs}
 use borrow.Author.Needs.{needs}
 use Rattle.planner.proofs.write.write_switches.Statement.{statement}
@@ -9,11 +10,17 @@ use Rattle.calls.proofs.order.emit.Reads as emit-reads
 
 -- src/write.rt:39:9
 emit-requires : tie.Need-emit-requires
-emit-requires c κs = let n = phase-long _ (c .before .before .before .args .on) (c .before .before .before .args .off) in search needs
+emit-requires c κs =
+    let a = c .before .before .before .args in
+    let n = phase-long (station (a .table .now)) (a .on) (a .off) in
+    search needs
 
 -- src/write.rt:40:5
 emit-requires-2 : tie.Need-emit-requires-2
-emit-requires-2 c κs = let n = phase-long _ (c .before .before .before .before .before .before .before .args .on) (c .before .before .before .before .before .before .before .args .off) in search needs
+emit-requires-2 c κs =
+    let a = c .before .before .before .before .before .before .before .args in
+    let n = phase-long (station (a .table .now)) (a .on) (a .off) in
+    search needs
 
 -- src/write.rt:35:1
 same-length : tie.Need-same-length
