@@ -1,3 +1,4 @@
-pub mod OnBytes
+pub mod Readers
+pub mod Tests
 pub mod FirstBad
-pub mod NoneBad
+pub mod AllGood

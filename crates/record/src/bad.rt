@@ -1,8 +1,8 @@
-// The first bad field of a record, which starts at byte `at`: where in the record it starts.
+// The first bad field of a record: where in the record it starts.
 ghost use mathlib.Core.Path.{_≡_};
 ghost use Prim.Native.Nat.{_+_, _*_, _<_, _≤_};
 ghost use lib.ListN.{length};
-ghost use Rattle.rules.specs.Station.{deviceAt};
+ghost use Rattle.rules.specs.Station.{Wide, limit, recordSize, deviceAt};
 ghost use Rattle.rules.specs.Table.{firstBad, resourceFields, resourceGood, headFields, setFields, sxdFields, sxwFields, lastFields, deviceFields};
 
 // Where a resource's first bad field starts, 4 if none is bad.
@@ -27,114 +27,115 @@ pub fn resource_good(table: &[u8], r: usize) -> bool
     bad_resource(table, 8 + 4 * r) == 4
 }
 
-// Where the first bad field of a device's bytes 0 to 3 starts, 40 if none is bad; so the four after it, of the other bytes.
-fn bad_head(table: &[u8], at: usize, d: usize) -> usize
-    requires { ⌜ (at + 40 ≤ length (now table)) × (d < 32) ⌝ }
-    ensures { λ r. ⌜ r ≡ firstBad 40 (headFields d (deviceAt 4 (now (table .entry)) at)) ⌝ }
+// Where the first bad field of a device's bytes 0 to 3 starts, the record's size if none is bad; so the four after it, of the other bytes.
+fn bad_head(table: &[u8], at: usize, w: usize, d: usize) -> usize
+    requires { ⌜ Wide w × (at + recordSize w ≤ length (now table)) × (d < 256) ⌝ }
+    ensures { λ r. ⌜ r ≡ firstBad (recordSize w) (headFields d (deviceAt w (now (table .entry)) at)) ⌝ }
 {
-    if !crate::good::parent_good(table, at, d) {
+    if !crate::good::parent_good(table, at, w, d) {
         return 0;
     }
-    if table[at + 1] >= 16 {
+    if crate::read::ps(table, at, w) >= 16 {
         return 1;
     }
-    if table[at + 2] >= 16 {
+    if crate::read::pr(table, at, w) >= 16 {
         return 2;
     }
-    if table[at + 3] >= 4 {
+    if crate::read::flags(table, at, w) >= 4 {
         return 3;
     }
-    40
+    crate::read::size(w)
 }
 
 // The five sets.
-fn bad_set(table: &[u8], at: usize, resources: usize) -> usize
-    requires { ⌜ (at + 40 ≤ length (now table)) × (resources ≤ 32) ⌝ }
-    ensures { λ r. ⌜ r ≡ firstBad 40 (setFields 4 resources (deviceAt 4 (now (table .entry)) at)) ⌝ }
+fn bad_set(table: &[u8], at: usize, w: usize, resources: usize) -> usize
+    requires { ⌜ Wide w × (at + recordSize w ≤ length (now table)) × (resources ≤ limit w) ⌝ }
+    ensures { λ r. ⌜ r ≡ firstBad (recordSize w) (setFields w resources (deviceAt w (now (table .entry)) at)) ⌝ }
 {
     let mut i = 0;
     while i < 5 {
         let k = i;
         i += 1;
-        if !crate::good::set_good(table, at, k, resources) {
-            return 4 + 4 * k;
+        if !crate::good::set_good(table, at, w, k, resources) {
+            return crate::read::set_start(w, k);
         }
     }
-    40
+    crate::read::size(w)
 }
 
 // `_S1D` to `_S4D`.
-fn bad_sxd(table: &[u8], at: usize) -> usize
-    requires { ⌜ at + 40 ≤ length (now table) ⌝ }
-    ensures { λ r. ⌜ r ≡ firstBad 40 (sxdFields 4 (deviceAt 4 (now (table .entry)) at)) ⌝ }
+fn bad_sxd(table: &[u8], at: usize, w: usize) -> usize
+    requires { ⌜ Wide w × (at + recordSize w ≤ length (now table)) ⌝ }
+    ensures { λ r. ⌜ r ≡ firstBad (recordSize w) (sxdFields w (deviceAt w (now (table .entry)) at)) ⌝ }
 {
     let mut i = 0;
     while i < 4 {
         let k = i;
         i += 1;
-        if !crate::good::sxd_good(table, at, k) {
-            return 24 + k;
+        if !crate::good::sxd_good(table, at, w, k + 1) {
+            return 4 + 5 * w + k;
         }
     }
-    40
+    crate::read::size(w)
 }
 
 // `_S0W` to `_S4W`.
-fn bad_sxw(table: &[u8], at: usize) -> usize
-    requires { ⌜ at + 40 ≤ length (now table) ⌝ }
-    ensures { λ r. ⌜ r ≡ firstBad 40 (sxwFields 4 (deviceAt 4 (now (table .entry)) at)) ⌝ }
+fn bad_sxw(table: &[u8], at: usize, w: usize) -> usize
+    requires { ⌜ Wide w × (at + recordSize w ≤ length (now table)) ⌝ }
+    ensures { λ r. ⌜ r ≡ firstBad (recordSize w) (sxwFields w (deviceAt w (now (table .entry)) at)) ⌝ }
 {
     let mut i = 0;
     while i < 5 {
         let x = i;
         i += 1;
-        if !crate::good::sxw_good(table, at, x) {
-            return 28 + x;
+        if !crate::good::sxw_good(table, at, w, x) {
+            return 8 + 5 * w + x;
         }
     }
-    40
+    crate::read::size(w)
 }
 
-// The deepest sleep state, then zeros to the record's end.
-fn bad_last(table: &[u8], at: usize) -> usize
-    requires { ⌜ at + 40 ≤ length (now table) ⌝ }
-    ensures { λ r. ⌜ r ≡ firstBad 40 (lastFields 4 (now (table .entry)) at (deviceAt 4 (now (table .entry)) at)) ⌝ }
+// The deepest sleep state, then 2 + w zeros to the record's end.
+fn bad_last(table: &[u8], at: usize, w: usize) -> usize
+    requires { ⌜ Wide w × (at + recordSize w ≤ length (now table)) ⌝ }
+    ensures { λ r. ⌜ r ≡ firstBad (recordSize w) (lastFields w (now (table .entry)) at (deviceAt w (now (table .entry)) at)) ⌝ }
 {
-    if !crate::good::deepest_good(table, at) {
-        return 33;
+    if !crate::good::deepest_good(table, at, w) {
+        return 13 + 5 * w;
     }
     let mut i = 0;
-    while i < 6 {
+    while i < 2 + w {
         let k = i;
         i += 1;
-        let good = table[at + 34 + k] == 0;
+        let good = table[at + 14 + 5 * w + k] == 0;
         if !good {
-            return 34 + k;
+            return 14 + 5 * w + k;
         }
     }
-    40
+    crate::read::size(w)
 }
 
-// Where the first bad field of device d's record starts, 40 if none is bad.
-pub fn bad_field(table: &[u8], at: usize, d: usize, resources: usize) -> usize
-    requires { ⌜ (at + 40 ≤ length (now table)) × (d < 32) × (resources ≤ 32) ⌝ }
-    ensures { λ r. ⌜ r ≡ firstBad 40 (deviceFields 4 resources (now (table .entry)) d at) ⌝ }
+// Where the first bad field of device d's record starts, the record's size if none is bad.
+pub fn bad_field(table: &[u8], at: usize, w: usize, d: usize, resources: usize) -> usize
+    requires { ⌜ Wide w × (at + recordSize w ≤ length (now table)) × (d < 256) × (resources ≤ limit w) ⌝ }
+    ensures { λ r. ⌜ r ≡ firstBad (recordSize w) (deviceFields w resources (now (table .entry)) d at) ⌝ }
 {
-    let head = bad_head(table, at, d);
-    if head != 40 {
+    let end = crate::read::size(w);
+    let head = bad_head(table, at, w, d);
+    if head != end {
         return head;
     }
-    let set = bad_set(table, at, resources);
-    if set != 40 {
+    let set = bad_set(table, at, w, resources);
+    if set != end {
         return set;
     }
-    let sxd = bad_sxd(table, at);
-    if sxd != 40 {
+    let sxd = bad_sxd(table, at, w);
+    if sxd != end {
         return sxd;
     }
-    let sxw = bad_sxw(table, at);
-    if sxw != 40 {
+    let sxw = bad_sxw(table, at, w);
+    if sxw != end {
         return sxw;
     }
-    bad_last(table, at)
+    bad_last(table, at, w)
 }

@@ -1,4 +1,7 @@
-// One record of a table: the tests of its fields, its first bad field, and whether it is good, asked quickly.
+// One record of a table: its fields, the tests of them, the first bad field, and whether it is good, asked quickly.
+// Each function takes the bytes, the byte `at` which the record starts, and w, the bytes of a set: 4 or 8.
 pub mod bad;
 pub mod good;
 pub mod quick;
+pub mod read;
+pub mod word;

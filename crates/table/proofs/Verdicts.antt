@@ -9,7 +9,6 @@ use native.Mathlib.Omega.{arith}
 use borrow.Author.Tests.{eqb-true, leb-true, eq-eqb, lt-ltb, le-ltb, le-leb, lt-leb, not-true, not-false}
 use lib.Dec.{eqb, leb}
 use lib.ListN.{length, getD, take, drop}
-use Rattle.sets.proofs.Laws.{decide}
 use Rattle.words.specs.Words.{readLE}
 use Rattle.rules.specs.declared.Verdict.{Verdict}
 use Rattle.rules.specs.declared.Verdict.the-variants.{Done, Refused}
@@ -17,7 +16,7 @@ use Rattle.rules.specs.declared.Reason.{Reason}
 use Rattle.rules.specs.declared.Reason.the-variants.{NotATable, TooMany, WrongLength, BadResource, BadDevice, BadObjects}
 use Rattle.rules.specs.Index.{leastFrom, least}
 use Rattle.rules.specs.Answers.{passes, firstOf, unless, lowest}
-use Rattle.rules.specs.Station.{width, limit, countR, countD, deviceStart, deviceAt}
+use Rattle.rules.specs.Station.{width, limit, recordSize, countR, countD, deviceStart, deviceAt}
 use Rattle.rules.specs.Table.{firstBad, deviceFields, headerGood, countsGood, lengthGood, resourceGood, badField, fieldsGood, objectsGood, deviceRefusal, deviceGood, tableVerdict}
 use Rattle.rules.specs.Outcomes.{recordPart}
 use Rattle.rules.proofs.Index.{found, next, done}
@@ -26,7 +25,8 @@ use Rattle.rules.proofs.Width.{width-wide}
 use Rattle.laws.proofs.Accepted.{accepted, refuses}
 use Rattle.laws.proofs.Tests.{both-true}
 use Rattle.table.specs.Layout.{WellSized}
-use Rattle.record.specs.Good.{noneBad}
+use Rattle.record.specs.Good.{allGood}
+use Rattle.record.proofs.AllGood.{device-good}
 
 -- ---- each check, on the bytes
 module _ (t : List ℕ) where
@@ -39,27 +39,31 @@ module _ (t : List ℕ) where
   unfolding headerGood
   header-test v h e = rw (le-leb 8 (length t) h, e)
 
-  pub counts-test : leb (getD t 3 0) 32 && leb (getD t 6 0) 32 ≡ countsGood t
-  unfolding width countsGood
-  counts-test = refl
+  pub counts-test : (r d most : ℕ) → r ≡ countR t → d ≡ countD t → most ≡ limit (width t) → leb r most && leb d most ≡ countsGood t
+  unfolding countsGood
+  counts-test r d most e f g = rw (e, f, g) refl
 
-  pub length-test : (r d : ℕ) → r ≡ getD t 3 0 → d ≡ getD t 6 0 → eqb (length t) (8 + 4 * r + 40 * d) ≡ lengthGood t
-  unfolding width deviceStart lengthGood
-  length-test r d e f = rw (e, f) refl
+  pub length-test : (d s : ℕ) → d ≡ countD t → s ≡ deviceStart (width t) t d → eqb (length t) s ≡ lengthGood t
+  unfolding lengthGood
+  length-test d s e f = rw (f, e) refl
 
-  pub fields-test : (d at r n : ℕ) → at ≡ deviceStart (width t) t d → r ≡ countR t → n ≡ firstBad 40 (deviceFields 4 r t d at) → eqb n 40 ≡ fieldsGood t d
-  unfolding width fieldsGood badField
-  fields-test d at r n e f g = rw (g, e, f) refl
+  module _ (d at w r : ℕ) (e : at ≡ deviceStart (width t) t d) (i : w ≡ width t) (f : r ≡ countR t) where
+    pub fields-test : (n s : ℕ) → n ≡ firstBad (recordSize w) (deviceFields w r t d at) → s ≡ recordSize w → eqb n s ≡ fieldsGood t d
+    unfolding fieldsGood badField
+    fields-test n s g h = rw (g, h, e, i, f) refl
 
-  -- b: no field of the device's record is bad
-  module _ (d at r : ℕ) (b : Bool) (e : at ≡ deviceStart (width t) t d) (f : r ≡ countR t) (g : b ≡ noneBad (deviceFields 4 r t d at)) where
-    pub field-refused : not b ≡ true → true ≡ not (deviceGood t d)
-    unfolding deviceGood
-    field-refused p = rw (sym (fields-test d at r _ e f refl) ∙ sym g ∙ not-true b p) refl
+    -- b: every field of the device's record is good
+    module _ (b : Bool) (g : b ≡ allGood (deviceFields w r t d at)) where
+      fields-are : fieldsGood t d ≡ b
+      fields-are = sym (fields-test _ _ refl refl) ∙ device-good w r t d at ∙ sym g
 
-    pub objects-decide : (o : Bool) → o ≡ objectsGood (deviceAt 4 t at) → not b ≡ false → not o ≡ not (deviceGood t d)
-    unfolding width deviceGood
-    objects-decide o h p = rw (sym (fields-test d at r _ e f refl) ∙ sym g ∙ not-false b p, h, e) refl
+      pub field-refused : not b ≡ true → true ≡ not (deviceGood t d)
+      unfolding deviceGood
+      field-refused p = rw (fields-are ∙ not-true b p) refl
+
+      pub objects-decide : (o : Bool) → o ≡ objectsGood (deviceAt w t at) → not b ≡ false → not o ≡ not (deviceGood t d)
+      unfolding deviceGood
+      objects-decide o h p = rw (fields-are ∙ not-false b p, h, e, i) refl
 
   pub resource-bad : (r : ℕ) (b : Bool) → b ≡ resourceGood t r → not b ≡ not (resourceGood t r)
   resource-bad r b e = ap not e
@@ -99,7 +103,17 @@ pub sized-by : (t : List ℕ) (c l : Bool) → headerGood t ≡ true → c ≡ c
 unfolding countsGood lengthGood
 sized-by t c l header b y d z =
     let counts = both-true _ _ (sym b ∙ not-false c y) in
-    (record { head = long-of t header; resources = leb-true _ _ (counts .0); devices = leb-true _ _ (counts .1); long = eqb-true _ _ (sym d ∙ not-false l z); records = records-inside t (eqb-true _ _ (sym d ∙ not-false l z)); wide = width-wide t }, header)
+    let long = eqb-true _ _ (sym d ∙ not-false l z) in (
+      record {
+        head = long-of t header;
+        resources = leb-true _ _ (counts .0);
+        devices = leb-true _ _ (counts .1);
+        long = long;
+        records = records-inside t long;
+        wide = width-wide t;
+      },
+      header,
+    )
 
 -- ---- one check of a chain: passed, and refused
 module _ (rest : List Verdict) (last : Verdict) where
@@ -180,7 +194,14 @@ pub ruleset table-answers = (long-of, header-passed, no-table, too-many, wrong-l
 pub sized-of : (t : List ℕ) → passes (tableVerdict t) ≡ true → WellSized t
 sized-of t e =
     let a = accepted t e in
-    record { head = unfold deviceStart in omega (arith, a .long); resources = a .resources; devices = a .devices; long = a .long; records = records-inside t (a .long); wide = width-wide t }
+    record {
+      head = unfold deviceStart in omega (arith, a .long);
+      resources = a .resources;
+      devices = a .devices;
+      long = a .long;
+      records = records-inside t (a .long);
+      wide = width-wide t;
+    }
 
 pub sized-done : (t : List ℕ) (n : ℕ) → tableVerdict t ≡ Done n → WellSized t
 sized-done t n e = sized-of t (ap passes e ∙ done-passes n)
@@ -201,8 +222,9 @@ module _ (t : List ℕ) (d : ℕ) (b : Bool) (e : b ≡ passes (tableVerdict t))
   unfolding recordPart
   part-past n f p h = rw (sym e ∙ not-false b p, le-ltb d (countD t) (rw f at h))
 
-  pub part-is : (n at : ℕ) → n ≡ countD t → at ≡ deviceStart (width t) t d → not b ≡ false → d < n → take (at + 40 - at) (drop at t) ≡ recordPart t d
-  unfolding width recordPart
-  part-is n at f g p h = rw (add-sub-cancel-left, sym e ∙ not-false b p, lt-ltb d (countD t) (rw f at h), g) refl
+  pub part-is : (n at w s : ℕ) → n ≡ countD t → at ≡ deviceStart (width t) t d → w ≡ width t → s ≡ recordSize w → not b ≡ false → d < n
+      → take (at + s - at) (drop at t) ≡ recordPart t d
+  unfolding recordPart
+  part-is n at w s f g i j p h = rw (add-sub-cancel-left, sym e ∙ not-false b p, lt-ltb d (countD t) (rw f at h), g, j, i) refl
 
 pub ruleset record-part = (part-refused, part-past, part-is)

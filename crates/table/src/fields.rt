@@ -2,18 +2,17 @@
 ghost use mathlib.Core.Path.{_≡_};
 ghost use Prim.Native.Nat.{_+_, _*_, _<_, _≤_};
 ghost use lib.ListN.{length};
-ghost use Rattle.rules.specs.Station.{width, limit, countR, countD, deviceStart, station};
+ghost use Rattle.rules.specs.Station.{width, Wide, limit, recordSize, countR, countD, deviceStart, station};
 ghost use Rattle.table.specs.Layout.{WellSized};
 
-// The bytes of a set.
+// The bytes of a set, for any bytes. No other function says what the width of a table is.
 pub fn width(table: &[u8]) -> usize
-    ensures { λ r. ⌜ (r ≡ width (now (table .entry))) × (r ≤ 8) ⌝ }
+    ensures { λ r. ⌜ (r ≡ width (now (table .entry))) × Wide r ⌝ }
 {
-    let _ = table;
     4
 }
 
-// How many resources and devices there can be.
+// The most resources and devices that the width allows.
 pub fn limit(table: &[u8]) -> usize
     ensures { λ r. ⌜ (r ≡ limit (width (now (table .entry)))) × (r ≤ 64) ⌝ }
 {
@@ -36,12 +35,25 @@ pub fn devices(table: &[u8]) -> usize
     table[6] as usize
 }
 
-// The byte at which device d's record starts.
+// The byte at which device d's record starts, or the table ends for D. By a branch, so that each product is by a literal.
+pub fn start_at(table: &[u8], d: usize) -> usize
+    requires { ⌜ (8 ≤ length (now table)) × (d < 256) ⌝ }
+    ensures { λ r. ⌜ r ≡ deviceStart (width (now (table .entry))) (now (table .entry)) d ⌝ }
+{
+    let records = 8 + 4 * (words::wide(table[3]) as usize);
+    if width(table) == 8 {
+        return records + 64 * d;
+    }
+    records + 40 * d
+}
+
+// The same of a device that is there: its record ends inside the table.
 pub fn start(table: &[u8], d: usize) -> usize
     requires { ⌜ WellSized (now table) × (d < countD (now table)) ⌝ }
-    ensures { λ r. ⌜ (r ≡ deviceStart (width (now (table .entry))) (now (table .entry)) d) × (r + 40 ≤ length (now (table .entry))) ⌝ }
+    ensures { λ r. ⌜ r ≡ deviceStart (width (now (table .entry))) (now (table .entry)) d ⌝ }
+    ensures { λ r. ⌜ r + recordSize (width (now (table .entry))) ≤ length (now (table .entry)) ⌝ }
 {
-    8 + 4 * resources(table) + 40 * d
+    start_at(table, d)
 }
 
 // A resource's systemlevel.
@@ -65,8 +77,7 @@ pub fn parent(table: &[u8], d: usize) -> u8
     requires { ⌜ WellSized (now table) × (d < countD (now table)) ⌝ }
     ensures { λ v. ⌜ v ≡ station (now (table .entry)) .device d .parent ⌝ }
 {
-    let at = start(table, d);
-    table[at]
+    record::read::parent(table, start(table, d), width(table))
 }
 
 // The `_PS` mask.
@@ -74,8 +85,7 @@ pub fn ps(table: &[u8], d: usize) -> u8
     requires { ⌜ WellSized (now table) × (d < countD (now table)) ⌝ }
     ensures { λ v. ⌜ v ≡ station (now (table .entry)) .device d .ps ⌝ }
 {
-    let at = start(table, d);
-    table[at + 1]
+    record::read::ps(table, start(table, d), width(table))
 }
 
 // The `_PR` mask.
@@ -83,8 +93,7 @@ pub fn pr(table: &[u8], d: usize) -> u8
     requires { ⌜ WellSized (now table) × (d < countD (now table)) ⌝ }
     ensures { λ v. ⌜ v ≡ station (now (table .entry)) .device d .pr ⌝ }
 {
-    let at = start(table, d);
-    table[at + 2]
+    record::read::pr(table, start(table, d), width(table))
 }
 
 // Bit 0 `_PRW`, bit 1 `_DSW`.
@@ -92,17 +101,15 @@ pub fn flags(table: &[u8], d: usize) -> u8
     requires { ⌜ WellSized (now table) × (d < countD (now table)) ⌝ }
     ensures { λ v. ⌜ v ≡ station (now (table .entry)) .device d .flags ⌝ }
 {
-    let at = start(table, d);
-    table[at + 3]
+    record::read::flags(table, start(table, d), width(table))
 }
 
-// Set k: `_PR0` to `_PR3`, and `_PRW` for 4.
+// Set k: `_PR0` to `_PR3`, and `_PRW` for 4. A table's sets have 32 bits, so that the cast loses none.
 pub fn set(table: &[u8], d: usize, k: usize) -> u32
     requires { ⌜ WellSized (now table) × (d < countD (now table)) × (k < 5) ⌝ }
     ensures { λ v. ⌜ v ≡ station (now (table .entry)) .device d .sets k ⌝ }
 {
-    let at = start(table, d);
-    words::read32(table, at + 4 + 4 * k)
+    record::read::set(table, start(table, d), width(table), k) as u32
 }
 
 // `_SxD`, or 255; S0 has none.
@@ -110,11 +117,7 @@ pub fn sxd(table: &[u8], d: usize, x: usize) -> u8
     requires { ⌜ WellSized (now table) × (d < countD (now table)) × (x < 5) ⌝ }
     ensures { λ v. ⌜ v ≡ station (now (table .entry)) .device d .sxd x ⌝ }
 {
-    if x == 0 {
-        return 255;
-    }
-    let at = start(table, d);
-    table[at + 23 + x]
+    record::read::sxd(table, start(table, d), width(table), x)
 }
 
 // `_SxW`, or 255.
@@ -122,8 +125,7 @@ pub fn sxw(table: &[u8], d: usize, x: usize) -> u8
     requires { ⌜ WellSized (now table) × (d < countD (now table)) × (x < 5) ⌝ }
     ensures { λ v. ⌜ v ≡ station (now (table .entry)) .device d .sxw x ⌝ }
 {
-    let at = start(table, d);
-    table[at + 28 + x]
+    record::read::sxw(table, start(table, d), width(table), x)
 }
 
 // The deepest sleep state of `_PRW`.
@@ -131,6 +133,5 @@ pub fn deepest(table: &[u8], d: usize) -> u8
     requires { ⌜ WellSized (now table) × (d < countD (now table)) ⌝ }
     ensures { λ v. ⌜ v ≡ station (now (table .entry)) .device d .deepest ⌝ }
 {
-    let at = start(table, d);
-    table[at + 33]
+    record::read::deepest(table, start(table, d), width(table))
 }

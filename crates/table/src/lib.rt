@@ -30,12 +30,13 @@ pub fn header_good(table: &[u8]) -> bool
         & (table[7] == 0)
 }
 
-// 2: at most 32 resources and devices.
+// 2: at most as many resources and devices as the width allows.
 fn counts_good(table: &[u8]) -> bool
     requires { ⌜ 8 ≤ length (now table) ⌝ }
     ensures { λ b. ⌜ b ≡ countsGood (now (table .entry)) ⌝ }
 {
-    (table[3] <= 32) & (table[6] <= 32)
+    let most = crate::fields::limit(table);
+    (words::wide(table[3]) as usize <= most) & (words::wide(table[6]) as usize <= most)
 }
 
 // 3: the header, the resources and the devices take all bytes.
@@ -43,9 +44,8 @@ fn length_good(table: &[u8]) -> bool
     requires { ⌜ 8 ≤ length (now table) ⌝ }
     ensures { λ b. ⌜ b ≡ lengthGood (now (table .entry)) ⌝ }
 {
-    let resources = words::wide(table[3]) as usize;
     let devices = words::wide(table[6]) as usize;
-    table.len() == 8 + 4 * resources + 40 * devices
+    table.len() == crate::fields::start_at(table, devices)
 }
 
 // Whether resource r has a bad field.
@@ -79,7 +79,9 @@ fn fields_good(table: &[u8], d: usize) -> bool
     ensures { λ b. ⌜ b ≡ fieldsGood (now (table .entry)) d ⌝ }
 {
     let at = crate::fields::start(table, d);
-    record::bad::bad_field(table, at, d, crate::fields::resources(table)) == 40
+    let w = crate::fields::width(table);
+    record::bad::bad_field(table, at, w, d, crate::fields::resources(table))
+        == record::read::size(w)
 }
 
 // Whether device d has a bad field, or its objects do not agree.
@@ -88,10 +90,11 @@ fn device_bad(table: &[u8], d: usize) -> bool
     ensures { λ b. ⌜ b ≡ not (deviceGood (now (table .entry)) d) ⌝ }
 {
     let at = crate::fields::start(table, d);
-    if !record::quick::record_good(table, at, d, crate::fields::resources(table)) {
+    let w = crate::fields::width(table);
+    if !record::quick::record_good(table, at, w, d, crate::fields::resources(table)) {
         return true;
     }
-    !record::quick::objects_agree(table, at)
+    !record::quick::objects_agree(table, at, w)
 }
 
 // 5 and 6: the lowest bad device, D if none is bad.
@@ -180,5 +183,6 @@ pub fn record(table: &[u8], d: usize) -> &[u8]
         return &table[..0];
     }
     let at = crate::fields::start(table, d);
-    &table[at..at + 40]
+    let end = at + record::read::size(crate::fields::width(table));
+    &table[at..end]
 }

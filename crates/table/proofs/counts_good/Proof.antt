@@ -5,4 +5,7 @@ use Rattle.table.proofs.counts_good.Statement.{statement}
 use Rattle.table.proofs.counts_good.Tie as tie
 
 pub counts-good-spec : {M : Type 1} → statement M
-counts-good-spec = tie.close (tie.spec (λ c. search needs) (λ c. search needs) (λ c. search (needs, table-tests)))
+counts-good-spec =
+    tie.close
+    (tie.spec (λ c κs. search needs) (λ c. search needs) (λ c κs. search needs) (λ c. search needs) (λ c. search needs)
+    (λ c κs. search needs) (λ c. search needs) (λ c. search (needs, table-tests)))

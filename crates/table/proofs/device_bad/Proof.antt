@@ -1,6 +1,5 @@
 -- A bad field is enough; without one the objects decide. Assumes nothing.
 use Rattle.table.proofs.Verdicts.{table-tests}
-use Rattle.table.proofs.Readers.{field-laws}
 use borrow.Author.Needs.{needs}
 use Rattle.table.proofs.device_bad.Statement.{statement}
 use Rattle.table.proofs.device_bad.Tie as tie
@@ -8,5 +7,5 @@ use Rattle.table.proofs.device_bad.Tie as tie
 pub device-bad-spec : {M : Type 1} → statement M
 device-bad-spec =
     tie.close
-    (tie.spec (λ c κs. search (needs, field-laws)) (λ c κs. search (needs, field-laws)) (λ c κs. search (needs, field-laws)) (λ c. search (needs, table-tests)) (λ c κs. search (needs, field-laws))
-    (λ c. search (needs, table-tests)))
+    (tie.spec (λ c κs. search needs) (λ c κs. search needs) (λ c κs. search needs) (λ c κs. search needs)
+    (λ c. search (needs, table-tests)) (λ c κs. search needs) (λ c. search (needs, table-tests)))

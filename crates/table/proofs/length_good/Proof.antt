@@ -1,4 +1,4 @@
--- The sum is that of the table's own counts. Assumes nothing.
+-- The bytes end where a record D would start. Assumes nothing.
 use Rattle.table.proofs.Verdicts.{table-tests}
 use borrow.Author.Needs.{needs}
 use Rattle.table.proofs.length_good.Statement.{statement}
@@ -7,5 +7,4 @@ use Rattle.table.proofs.length_good.Tie as tie
 pub length-good-spec : {M : Type 1} → statement M
 length-good-spec =
     tie.close
-    (tie.spec (λ c. search needs) (λ c κs. search needs) (λ c. search needs) (λ c. search needs) (λ c κs. search needs) (λ c. search needs)
-    (λ c. search needs) (λ c. search needs) (λ c. search needs) (λ c. search needs) (λ c. search (needs, table-tests)))
+    (tie.spec (λ c. search needs) (λ c κs. search needs) (λ c. search needs) (λ c κs. search needs) (λ c. search (needs, table-tests)))

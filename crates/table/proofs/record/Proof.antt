@@ -10,6 +10,6 @@ start-requires c κs = (search sized-told, search needs)
 pub record-spec : {M : Type 1} → statement M
 record-spec =
     tie.close
-    (tie.spec (λ c κs. search needs) (λ c. search needs) (λ c. search (needs, record-part)) (λ c κs. search sized-told) (λ c. search needs)
-    (λ c. search (needs, record-part)) start-requires (λ c. search needs) (λ c. search needs) (λ c. search needs) (λ c. search needs)
-    (λ c. search (needs, record-part)))
+    (tie.spec (λ c κs. search needs) (λ c. search needs) (λ c. search (needs, record-part)) (λ c κs. search sized-told)
+    (λ c. search needs) (λ c. search (needs, record-part)) start-requires (λ c κs. search needs) (λ c κs. search needs)
+    (λ c. search needs) (λ c. search needs) (λ c. search needs) (λ c. search needs) (λ c. search (needs, record-part)))

@@ -1,5 +1,5 @@
 -- Each return is the first bad of the four fields, by the tests that led to it. Assumes nothing.
-use Rattle.record.proofs.FirstBad.{in-order}
+use Rattle.record.proofs.FirstBad.{bad-first}
 use borrow.Author.Needs.{needs}
 use Rattle.record.proofs.bad.bad_head.Statement.{statement}
 use Rattle.record.proofs.bad.bad_head.Tie as tie
@@ -7,6 +7,6 @@ use Rattle.record.proofs.bad.bad_head.Tie as tie
 pub bad-head-spec : {M : Type 1} → statement M
 bad-head-spec =
     tie.close
-    (tie.spec (λ c κs. search needs) (λ c. search (needs, in-order)) (λ c. search needs) (λ c. search needs) (λ c. search (needs, in-order))
-    (λ c. search needs) (λ c. search needs) (λ c. search (needs, in-order)) (λ c. search needs) (λ c. search needs) (λ c. search (needs, in-order))
-    (λ c. search (needs, in-order)))
+    (tie.spec (λ c κs. search needs) (λ c. search (needs, bad-first)) (λ c κs. search needs) (λ c. search (needs, bad-first))
+    (λ c κs. search needs) (λ c. search (needs, bad-first)) (λ c κs. search needs) (λ c. search (needs, bad-first)) (λ c κs. search needs)
+    (λ c. search (needs, bad-first)))

@@ -1,5 +1,5 @@
 -- Each return is the first bad of the two fields, by the tests that led to it. Assumes nothing.
-use Rattle.record.proofs.FirstBad.{in-order}
+use Rattle.record.proofs.FirstBad.{bad-first}
 use borrow.Author.Needs.{needs}
 use Rattle.record.proofs.bad.bad_resource.Statement.{statement}
 use Rattle.record.proofs.bad.bad_resource.Tie as tie
@@ -7,5 +7,5 @@ use Rattle.record.proofs.bad.bad_resource.Tie as tie
 pub bad-resource-spec : {M : Type 1} → statement M
 bad-resource-spec =
     tie.close
-    (tie.spec (λ c. search needs) (λ c. search (needs, in-order)) (λ c. search needs) (λ c. search needs) (λ c. search (needs, in-order))
-    (λ c. search (needs, in-order)))
+    (tie.spec (λ c. search needs) (λ c. search (needs, bad-first)) (λ c. search needs) (λ c. search needs) (λ c. search (needs, bad-first))
+    (λ c. search (needs, bad-first)))

@@ -2,18 +2,20 @@
 use mathlib.Core.Path.{_≡_, refl}
 use Prim.Native.Nat.{_-_, _≤_}
 use Rattle.rules.specs.Index.{eachFrom}
-use Rattle.rules.specs.Station.{deviceAt}
+use Rattle.rules.specs.Station.{recordSize, deviceAt}
 use Rattle.rules.specs.Table.{firstBad, setFields}
-use Rattle.record.proofs.FirstBad.{rising, setField}
+use Rattle.record.proofs.FirstBad.{bad-loop, setField}
 use borrow.Author.Needs.{needs}
 use Rattle.record.proofs.bad.bad_set.Statement.{statement}
 use Rattle.record.proofs.bad.bad_set.Tie as tie
 
 abbrev Inv-loop : tie.InvT-loop
-Inv-loop table at resources i₀ i = (i ≤ 5) × (firstBad 40 (eachFrom (setField resources (deviceAt 4 table at)) i (5 - i)) ≡ firstBad 40 (setFields 4 resources (deviceAt 4 table at)))
+Inv-loop table at w resources i₀ i =
+    (i ≤ 5) × (firstBad (recordSize w) (eachFrom (setField w resources (deviceAt w table at)) i (5 - i))
+    ≡ firstBad (recordSize w) (setFields w resources (deviceAt w table at)))
 
 abbrev μ-loop : tie.MeasureT-loop
-μ-loop table at resources i₀ i = 5 - i
+μ-loop table at w resources i₀ i = 5 - i
 
 loop-holds : tie.Need-loop-holds Inv-loop μ-loop
 unfolding setFields
@@ -22,5 +24,5 @@ loop-holds c = (search needs, refl)
 pub bad-set-spec : {M : Type 1} → statement M
 bad-set-spec =
     tie.close
-    (tie.spec Inv-loop μ-loop loop-holds (λ c. search needs) (λ c κs. search needs) (λ c. search needs) (λ c. search needs) (λ c. search (needs, rising))
-    (λ c. search needs) (λ c. search (needs, rising)) (λ c. search (needs, rising)))
+    (tie.spec Inv-loop μ-loop loop-holds (λ c. search needs) (λ c κs. search needs) (λ c κs. search needs) (λ c. search (needs, bad-loop))
+    (λ c. search needs) (λ c. search (needs, bad-loop)) (λ c κs. search needs) (λ c. search (needs, bad-loop)))

@@ -1,5 +1,5 @@
 -- Resource r's record starts at byte 8 + 4r. Assumes nothing.
-use Rattle.record.proofs.OnBytes.{record-tests}
+use Rattle.record.proofs.Tests.{record-tests}
 use borrow.Author.Needs.{needs}
 use Rattle.record.proofs.bad.resource_good.Statement.{statement}
 use Rattle.record.proofs.bad.resource_good.Tie as tie

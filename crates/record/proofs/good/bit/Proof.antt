@@ -1,5 +1,5 @@
 -- A byte as a wider number has the same bits. Assumes nothing.
-use Rattle.record.proofs.OnBytes.{record-tests}
+use Rattle.record.proofs.Tests.{record-tests}
 use borrow.Author.Needs.{needs}
 use Rattle.record.proofs.good.bit.Statement.{statement}
 use Rattle.record.proofs.good.bit.Tie as tie

@@ -1,5 +1,5 @@
--- The byte is the deepest sleep state, and bit 0 of byte 3 says whether there is a `_PRW`. Assumes nothing.
-use Rattle.record.proofs.OnBytes.{record-tests}
+-- The two tests of the deepest state, and bit 0 of the flags, which says whether there is a `_PRW`, are the rule. Assumes nothing.
+use Rattle.record.proofs.Tests.{record-tests}
 use borrow.Author.Needs.{needs}
 use Rattle.record.proofs.good.deepest_good.Statement.{statement}
 use Rattle.record.proofs.good.deepest_good.Tie as tie
@@ -7,4 +7,4 @@ use Rattle.record.proofs.good.deepest_good.Tie as tie
 pub deepest-good-spec : {M : Type 1} → statement M
 deepest-good-spec =
     tie.close
-    (tie.spec (λ c. search needs) (λ c. search needs) (λ c. search needs) (λ c. search needs) (λ c κs. search needs) (λ c. search (needs, record-tests)))
+    (tie.spec (λ c κs. search needs) (λ c κs. search needs) (λ c κs. search needs) (λ c. search (needs, record-tests)))

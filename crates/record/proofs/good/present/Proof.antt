@@ -1,5 +1,5 @@
--- Set 4 goes by bit 0 of byte 3, the others by the bits of byte 2. Assumes nothing.
-use Rattle.record.proofs.OnBytes.{record-tests}
+-- Set 4 goes by bit 0 of the flags, the others by the bits of the `_PR` mask. Assumes nothing.
+use Rattle.record.proofs.Tests.{record-tests}
 use borrow.Author.Needs.{needs}
 use Rattle.record.proofs.good.present.Statement.{statement}
 use Rattle.record.proofs.good.present.Tie as tie
@@ -7,5 +7,5 @@ use Rattle.record.proofs.good.present.Tie as tie
 pub present-spec : {M : Type 1} → statement M
 present-spec =
     tie.close
-    (tie.spec (λ c. search needs) (λ c. search needs) (λ c κs. search needs) (λ c. search (needs, record-tests)) (λ c. search needs) (λ c. search needs)
-    (λ c. search needs) (λ c κs. search needs) (λ c. search (needs, record-tests)))
+    (tie.spec (λ c κs. search needs) (λ c κs. search needs) (λ c. search (needs, record-tests)) (λ c κs. search needs) (λ c. search needs)
+    (λ c κs. search needs) (λ c. search (needs, record-tests)))

@@ -1,5 +1,5 @@
--- The set is the word that the code reads, and the three tests of it are the rule. Assumes nothing.
-use Rattle.record.proofs.OnBytes.{record-tests}
+-- The three tests of the set are the rule. Assumes nothing.
+use Rattle.record.proofs.Tests.{record-tests}
 use borrow.Author.Needs.{needs}
 use Rattle.record.proofs.good.set_good.Statement.{statement}
 use Rattle.record.proofs.good.set_good.Tie as tie
@@ -7,5 +7,4 @@ use Rattle.record.proofs.good.set_good.Tie as tie
 pub set-good-spec : {M : Type 1} → statement M
 set-good-spec =
     tie.close
-    (tie.spec (λ c. search needs) (λ c. search needs) (λ c. search needs) (λ c κs. search needs) (λ c. search needs) (λ c κs. search needs)
-    (λ c κs. search needs) (λ c. search (needs, record-tests)))
+    (tie.spec (λ c κs. search needs) (λ c. search needs) (λ c κs. search needs) (λ c κs. search needs) (λ c. search (needs, record-tests)))

@@ -1,5 +1,5 @@
--- The two bytes are `_SxD` and `_SxW` for x = k + 1. A state is held against the limit, 255 too; any other byte must be 255. Assumes nothing.
-use Rattle.record.proofs.OnBytes.{record-tests}
+-- A state is held against the limit, 255 too; any other byte must be 255. Assumes nothing.
+use Rattle.record.proofs.Tests.{record-tests}
 use borrow.Author.Needs.{needs}
 use Rattle.record.proofs.good.sxd_good.Statement.{statement}
 use Rattle.record.proofs.good.sxd_good.Tie as tie
@@ -7,5 +7,4 @@ use Rattle.record.proofs.good.sxd_good.Tie as tie
 pub sxd-good-spec : {M : Type 1} → statement M
 sxd-good-spec =
     tie.close
-    (tie.spec (λ c. search needs) (λ c. search needs) (λ c. search needs) (λ c. search needs) (λ c. search needs) (λ c. search needs)
-    (λ c. search (needs, record-tests)) (λ c. search (needs, record-tests)))
+    (tie.spec (λ c κs. search needs) (λ c κs. search needs) (λ c. search (needs, record-tests)) (λ c. search (needs, record-tests)))

@@ -1,8 +1,8 @@
--- The byte is `_SxW`, and the two tests of it are the rule. Assumes nothing.
-use Rattle.record.proofs.OnBytes.{record-tests}
+-- The two tests of the byte are the rule. Assumes nothing.
+use Rattle.record.proofs.Tests.{record-tests}
 use borrow.Author.Needs.{needs}
 use Rattle.record.proofs.good.sxw_good.Statement.{statement}
 use Rattle.record.proofs.good.sxw_good.Tie as tie
 
 pub sxw-good-spec : {M : Type 1} → statement M
-sxw-good-spec = tie.close (tie.spec (λ c. search needs) (λ c. search needs) (λ c. search needs) (λ c. search (needs, record-tests)))
+sxw-good-spec = tie.close (tie.spec (λ c κs. search needs) (λ c. search (needs, record-tests)))

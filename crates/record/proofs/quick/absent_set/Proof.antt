@@ -1,5 +1,5 @@
--- None where the object is there, else the word that the code reads. Assumes nothing.
-use Rattle.record.proofs.NoneBad.{quick-tests}
+-- None where the object is there, else the set. Assumes nothing.
+use Rattle.record.proofs.AllGood.{quick-tests}
 use borrow.Author.Needs.{needs}
 use Rattle.record.proofs.quick.absent_set.Statement.{statement}
 use Rattle.record.proofs.quick.absent_set.Tie as tie
@@ -7,4 +7,4 @@ use Rattle.record.proofs.quick.absent_set.Tie as tie
 pub absent-set-spec : {M : Type 1} → statement M
 absent-set-spec =
     tie.close
-    (tie.spec (λ c κs. search needs) (λ c. search (needs, quick-tests)) (λ c. search needs) (λ c. search needs) (λ c. search needs) (λ c κs. search needs) (λ c. search (needs, quick-tests)))
+    (tie.spec (λ c κs. search needs) (λ c. search (needs, quick-tests)) (λ c κs. search needs) (λ c. search (needs, quick-tests)))

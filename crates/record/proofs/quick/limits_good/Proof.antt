@@ -1,5 +1,5 @@
 -- The five tests are the rules of the five bytes. Assumes nothing.
-use Rattle.record.proofs.NoneBad.{quick-tests}
+use Rattle.record.proofs.AllGood.{quick-tests}
 use borrow.Author.Needs.{needs}
 use Rattle.record.proofs.quick.limits_good.Statement.{statement}
 use Rattle.record.proofs.quick.limits_good.Tie as tie

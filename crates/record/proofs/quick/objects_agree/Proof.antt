@@ -1,5 +1,5 @@
 -- Where the masks are the same and have bits 0 and 3, the flags decide; else the whole rule does. Assumes nothing.
-use Rattle.record.proofs.NoneBad.{quick-tests}
+use Rattle.record.proofs.AllGood.{quick-tests}
 use borrow.Author.Needs.{needs}
 use Rattle.record.proofs.quick.objects_agree.Statement.{statement}
 use Rattle.record.proofs.quick.objects_agree.Tie as tie
@@ -7,6 +7,5 @@ use Rattle.record.proofs.quick.objects_agree.Tie as tie
 pub objects-agree-spec : {M : Type 1} → statement M
 objects-agree-spec =
     tie.close
-    (tie.spec (λ c. search needs) (λ c. search needs) (λ c. search needs) (λ c. search needs) (λ c. search needs) (λ c. search needs)
-    (λ c κs. search needs) (λ c κs. search needs) (λ c κs. search needs) (λ c κs. search needs) (λ c. search (needs, quick-tests))
-    (λ c κs. search needs) (λ c. search needs))
+    (tie.spec (λ c κs. search needs) (λ c κs. search needs) (λ c κs. search needs) (λ c κs. search needs) (λ c κs. search needs)
+    (λ c κs. search needs) (λ c κs. search needs) (λ c. search (needs, quick-tests)) (λ c κs. search needs) (λ c. search needs))

@@ -1,5 +1,5 @@
 -- A part with a bad field is enough; past the others the last part decides. Assumes nothing.
-use Rattle.record.proofs.NoneBad.{quick-parts}
+use Rattle.record.proofs.AllGood.{part-bad, last-decides}
 use borrow.Author.Needs.{needs}
 use Rattle.record.proofs.quick.record_good.Statement.{statement}
 use Rattle.record.proofs.quick.record_good.Tie as tie
@@ -7,6 +7,6 @@ use Rattle.record.proofs.quick.record_good.Tie as tie
 pub record-good-spec : {M : Type 1} → statement M
 record-good-spec =
     tie.close
-    (tie.spec (λ c κs. search needs) (λ c. search (needs, quick-parts)) (λ c κs. search needs) (λ c. search (needs, quick-parts)) (λ c κs. search needs)
-    (λ c. search (needs, quick-parts)) (λ c κs. search needs) (λ c. search (needs, quick-parts)) (λ c κs. search needs)
-    (λ c. search (needs, quick-parts)) (λ c κs. search needs) (λ c. search (needs, quick-parts)))
+    (tie.spec (λ c κs. search needs) (λ c. search (needs, part-bad 0)) (λ c κs. search needs) (λ c. search (needs, part-bad 1))
+    (λ c κs. search needs) (λ c. search (needs, part-bad 2)) (λ c κs. search needs) (λ c. search (needs, part-bad 3))
+    (λ c κs. search needs) (λ c. search (needs, part-bad 4)) (λ c κs. search needs) (λ c. search (needs, last-decides)))

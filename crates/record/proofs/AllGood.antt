@@ -1,0 +1,283 @@
+-- Whether every field is good, as one test: of fields one after the other, of the five sets, of zeros read as one number, of a device's parts.
+-- Where the code asks another function, that function's answer comes with what it says. Assumes nothing.
+use mathlib.Core.Path.{_≡_, refl, sym, ap, _∙_}
+use mathlib.Core.Bool.{Bool, true, false, not, _&&_, _||_, and-assoc, and-true, or-true, true≢false}
+use mathlib.Core.List.{List, [], _∷_, _++_}
+use Prim.Native.Nat.{ℕ, zero, suc, _+_, _*_, _%_, _^_, _<_}
+use native.Mathlib.Nat.{mul-zero, mul-le-mul-right, pow-suc}
+use native.Mathlib.Omega.{arith}
+use borrow.Author.Tests.{eqb-true, eq-eqb, ne-eqb, ltb-true, lt-ltb, not-true, not-false}
+use lib.Bits.{bitOr, and-le-l, and-le-r, or-lt, or-add-and}
+use lib.Dec.{eqb, ltb}
+use lib.ListN.{getD}
+use Rattle.sets.specs.Sets.{member}
+use Rattle.sets.proofs.Laws.{decide}
+use Rattle.words.specs.Words.{readLE}
+use Rattle.words.proofs.Twice.{read-split}
+use Rattle.rules.specs.Index.{eachFrom, each, every}
+use Rattle.rules.specs.Station.{Device, recordSize, deviceAt}
+use Rattle.rules.specs.Table.{Field, field, firstBad, parentGood, present, setGood, sxdGood, sxwGood, deepestGood, headFields, setFields, sxdFields, sxwFields, lastFields, deviceFields, objectsGood}
+use Rattle.rules.proofs.Index.{every-at, every-of}
+use Rattle.laws.specs.Carried.{All}
+use Rattle.laws.proofs.All.{all-append, all-each, each-at}
+use Rattle.laws.proofs.Accepted.{field-good, field-bad}
+use Rattle.laws.proofs.Tests.{both-true}
+use Rattle.laws.proofs.Tests as tests
+use Rattle.record.specs.Good.{allGood, setsFit, absentSet, setsAbsent}
+use Rattle.record.proofs.Tests.{objects-test}
+use Rattle.record.proofs.FirstBad.{zeroField, Inside, head-in, sets-in, sxd-in, sxw-in, last-in}
+
+-- ---- every field of a list is good: by the first bad one, of two lists joined, and field by field
+none-bad : (end : ℕ) (fs : List Field) → All (λ f. f .at < end) fs → eqb (firstBad end fs) end ≡ allGood fs
+unfolding firstBad allGood All
+none-bad end [] a = eq-eqb end end refl
+none-bad end (f ∷ fs) a =
+    let rest = none-bad end fs (a .1) in
+    let h = a .0 in
+    decide (f .good)
+    (λ g. rw (field-good end f fs g, g) rest)
+    (λ g. rw (field-bad end f fs g, g) (ne-eqb (f .at) end (omega arith)))
+
+joined : (l r : List Field) → allGood (l ++ r) ≡ allGood l && allGood r
+unfolding allGood
+joined [] r = refl
+joined (f ∷ l) r = rw (joined l r) (sym (and-assoc (f .good) (allGood l) (allGood r)))
+
+abbrev Good : Field → Type 0
+Good f = f .good ≡ true
+
+good-each : (fs : List Field) → allGood fs ≡ true → All Good fs
+unfolding allGood All
+good-each [] e = tt
+good-each (f ∷ fs) e = let h = both-true (f .good) (allGood fs) e in (h .0, good-each fs (h .1))
+
+good-all : (fs : List Field) → All Good fs → allGood fs ≡ true
+unfolding allGood All
+good-all [] a = refl
+good-all (f ∷ fs) a = tests.and-true (f .good) (allGood fs) (a .0) (good-all fs (a .1))
+
+-- ---- two tests that say the same, and two tests as one: zeros in a number's parts and in a union, and a union's bits
+same : (a b : Bool) → (a ≡ true → b ≡ true) → (b ≡ true → a ≡ true) → a ≡ b
+same true b f g = sym (f refl)
+same false true f g = g refl
+same false false f g = refl
+
+both-zero : (a b c : ℕ) → (c ≡ 0 → a ≡ 0) → (c ≡ 0 → b ≡ 0) → (a ≡ 0 → b ≡ 0 → c ≡ 0) → eqb c 0 ≡ eqb a 0 && eqb b 0
+both-zero a b c f g h =
+    same (eqb c 0) (eqb a 0 && eqb b 0)
+    (λ e. let z = eqb-true c 0 e in tests.and-true _ _ (eq-eqb a 0 (f z)) (eq-eqb b 0 (g z)))
+    (λ e. let z = both-true (eqb a 0) (eqb b 0) e in eq-eqb c 0 (h (eqb-true a 0 (z .0)) (eqb-true b 0 (z .1))))
+
+sum-zero : (n a b : ℕ) → 0 < n → eqb (a + n * b) 0 ≡ eqb a 0 && eqb b 0
+sum-zero n a b h =
+    let l = mul-le-mul-right b h in
+    both-zero a b (a + n * b) (λ z. omega arith) (λ z. omega arith) (λ x y. rw (x, y, mul-zero n) refl)
+
+union-zero : (a b : ℕ) → eqb (bitOr a b) 0 ≡ eqb a 0 && eqb b 0
+union-zero a b =
+    let sum = or-add-and a b in
+    let l = and-le-l a b in
+    let r = and-le-r a b in
+    both-zero a b (bitOr a b) (λ z. omega arith) (λ z. omega arith) (λ x y. omega arith)
+
+union-fits : (a b n : ℕ) → ltb (bitOr a b) (2 ^ n) ≡ ltb a (2 ^ n) && ltb b (2 ^ n)
+union-fits a b n =
+    let sum = or-add-and a b in
+    let l = and-le-l a b in
+    let r = and-le-r a b in
+    same (ltb (bitOr a b) (2 ^ n)) (ltb a (2 ^ n) && ltb b (2 ^ n))
+    (λ e. let h = ltb-true (bitOr a b) (2 ^ n) e in tests.and-true _ _ (lt-ltb a (2 ^ n) (omega arith)) (lt-ltb b (2 ^ n) (omega arith)))
+    (λ e. let h = both-true (ltb a (2 ^ n)) (ltb b (2 ^ n)) e in
+    lt-ltb (bitOr a b) (2 ^ n) (or-lt n a b (ltb-true a (2 ^ n) (h .0)) (ltb-true b (2 ^ n) (h .1))))
+
+-- ---- one test of each number below n
+every-field : (p : ℕ → ℕ) (g : ℕ → Bool) (n : ℕ) → allGood (each (λ k. field (p k) (g k)) n) ≡ every g n
+every-field p g n =
+    let f : ℕ → Field = λ k. field (p k) (g k) in
+    same (allGood (each f n)) (every g n)
+    (λ e. every-of g n (λ i h. each-at Good f 0 n (good-each _ e) i (omega arith) (omega arith)))
+    (λ e. good-all _ (all-each Good f 0 n (λ j x y. every-at g n j e (omega arith))))
+
+every-both : (p q : ℕ → Bool) (n : ℕ) → every (λ k. p k && q k) n ≡ every p n && every q n
+every-both p q n =
+    same (every (λ k. p k && q k) n) (every p n && every q n)
+    (λ e. let h : (i : ℕ) → i < n → (p i ≡ true) × (q i ≡ true) = λ i l. both-true (p i) (q i) (every-at _ n i e l) in
+    tests.and-true _ _ (every-of p n (λ i l. h i l .0)) (every-of q n (λ i l. h i l .1)))
+    (λ e. let h = both-true (every p n) (every q n) e in
+    every-of _ n (λ i l. tests.and-true _ _ (every-at p n i (h .0) l) (every-at q n i (h .1) l)))
+
+one-bad : (g : ℕ → Bool) (n k : ℕ) (b : Bool) → k < n → b ≡ g k → not b ≡ true → false ≡ every g n
+one-bad g n k b h e p = decide (every g n) (λ u. absurd (true≢false (sym (every-at g n k u h) ∙ sym e ∙ not-true b p))) sym
+
+five : (g : ℕ → Bool) → g 0 && g 1 && g 2 && g 3 && g 4 ≡ every g 5
+unfolding allGood eachFrom
+five g = let all = every-field (λ k. k) g 5 in rw (← all) (simp (and-true, and-assoc))
+
+module _ (v : Device) where
+  -- ---- a device's bytes 0 to 3, `_SxD` and `_SxW`
+  pub head-test : (d ps pr flags : ℕ) (b : Bool) → b ≡ parentGood d v → ps ≡ v .ps → pr ≡ v .pr → flags ≡ v .flags
+      → b && ltb ps 16 && ltb pr 16 && ltb flags 4 ≡ allGood (headFields d v)
+  unfolding headFields allGood
+  head-test d ps pr flags b e f g h = rw (e, f, g, h) (simp (and-true, and-assoc))
+
+  pub limits-test : (w : ℕ) (a b c d e : Bool) → a ≡ sxwGood v 0 → b ≡ sxwGood v 1 → c ≡ sxwGood v 2 → d ≡ sxwGood v 3 → e ≡ sxwGood v 4
+      → a && b && c && d && e ≡ allGood (sxwFields w v)
+  unfolding sxwFields allGood eachFrom
+  limits-test w a b c d e p q r s u = rw (p, q, r, s, u) (simp (and-true, and-assoc))
+
+  pub states-test : (w : ℕ) (a b c d : Bool) → a ≡ sxdGood v 1 → b ≡ sxdGood v 2 → c ≡ sxdGood v 3 → d ≡ sxdGood v 4
+      → not a ≡ false → not b ≡ false → not c ≡ false → d ≡ allGood (sxdFields w v)
+  unfolding sxdFields allGood eachFrom
+  states-test w a b c d p q r s x y z =
+      rw (sym p ∙ not-false a x, sym q ∙ not-false b y, sym r ∙ not-false c z, ← s) (sym (and-true d))
+
+  -- ---- no bit at or above R
+  pub fit-test : (resources a b c d e : ℕ) (f : Bool) → a ≡ v .sets 0 → b ≡ v .sets 1 → c ≡ v .sets 2 → d ≡ v .sets 3 → e ≡ v .sets 4
+      → f ≡ ltb (bitOr (bitOr (bitOr (bitOr a b) c) d) e) (2 ^ resources) → f ≡ setsFit resources v
+  unfolding setsFit
+  fit-test resources a b c d e f p q r s u g =
+      g ∙ rw (union-fits, union-fits, union-fits, union-fits, p, q, r, s, u) (five (λ k. ltb (v .sets k) (2 ^ resources)))
+
+  -- ---- the sets of absent objects
+  module _ (k : ℕ) (b : Bool) (e : b ≡ present v k) where
+    pub present-none : b ≡ true → 0 ≡ absentSet v k
+    unfolding absentSet
+    present-none p = rw (sym e ∙ p) refl
+
+    pub absent-same : (s : ℕ) → b ≡ false → s ≡ v .sets k → s ≡ absentSet v k
+    unfolding absentSet
+    absent-same s p f = rw (sym e ∙ p) f
+
+  zero-absent : (k s : ℕ) → s ≡ absentSet v k → eqb s 0 ≡ present v k || eqb (v .sets k) 0
+  unfolding absentSet
+  zero-absent k s e = decide (present v k) (λ p. rw (e, p) refl) (λ p. rw (e, p) refl)
+
+  pub absent-test : (a b c d e : ℕ) → a ≡ absentSet v 0 → b ≡ absentSet v 1 → c ≡ absentSet v 2 → d ≡ absentSet v 3 → e ≡ absentSet v 4
+      → eqb (bitOr (bitOr (bitOr (bitOr a b) c) d) e) 0 ≡ setsAbsent v
+  unfolding setsAbsent
+  absent-test a b c d e p q r s u =
+      rw (
+        union-zero,
+        union-zero,
+        union-zero,
+        union-zero,
+        zero-absent 0 a p,
+        zero-absent 1 b q,
+        zero-absent 2 c r,
+        zero-absent 3 d s,
+        zero-absent 4 e u,
+      )
+      (five (λ k. present v k || eqb (v .sets k) 0))
+
+  -- all five objects are there
+  power-present-all : v .pr ≡ 15 → (present v 0 ≡ true) × (present v 1 ≡ true) × (present v 2 ≡ true) × (present v 3 ≡ true)
+  unfolding present member
+  power-present-all e = rw e (refl, refl, refl, refl)
+
+  pub all-present : (pr : ℕ) (b : Bool) → pr ≡ v .pr → b ≡ present v 4 → eqb pr 15 && b ≡ true → true ≡ setsAbsent v
+  unfolding setsAbsent
+  all-present pr b f e p =
+      let h = both-true (eqb pr 15) b p in
+      let all = power-present-all (sym f ∙ eqb-true pr 15 (h .0)) in
+      rw (all .0, all .1, all .2, all .3, sym e ∙ h .1) at (five (λ k. present v k || eqb (v .sets k) 0))
+
+  -- ---- where the masks are the same and have bits 0 and 3, `_DSW` decides
+  pub same-masks-agree : (ps pr flags : ℕ) (ps0 ps3 dsw prw : Bool) → ps ≡ v .ps → pr ≡ v .pr → flags ≡ v .flags → ps0 ≡ member ps 0
+      → ps3 ≡ member ps 3 → dsw ≡ member flags 1 → prw ≡ member flags 0 → eqb ps pr && ps0 && ps3 ≡ true
+      → not dsw || prw ≡ objectsGood v
+  same-masks-agree ps pr flags ps0 ps3 dsw prw e f g a b c d h =
+      let all = both-true (eqb ps pr && ps0) ps3 h in
+      let front = both-true (eqb ps pr) ps0 (all .0) in
+      let alike = eqb-true ps pr (front .0) in
+      let zero-bit : true ≡ member pr 0 = sym (front .1) ∙ a ∙ ap (λ (m : ℕ). member m 0) alike in
+      let low : eqb (ps % 8) (pr % 8) ≡ true = eq-eqb _ _ (ap (λ (m : ℕ). m % 8) alike) in
+      rw (or-true, or-true, low, or-true) at
+      (objects-test v ps pr flags true true true dsw prw e f g (sym (front .1) ∙ a) (sym (all .1) ∙ b) zero-bit c d)
+
+-- one `_SxD` that is bad is enough
+pub state-bad : (k w : ℕ) (v : Device) (b : Bool) → k < 4 → b ≡ sxdGood v (k + 1) → not b ≡ true → false ≡ allGood (sxdFields w v)
+unfolding sxdFields
+state-bad k w v b h e p =
+    let good : ℕ → Bool = λ j. sxdGood v (j + 1) in
+    one-bad good 4 k b h e p ∙ sym (every-field (λ j. 4 + 5 * w + j) good 4)
+
+-- ---- the deepest sleep state, then zeros
+bytes-pos : (k : ℕ) → 0 < 256 ^ k
+bytes-pos zero = omega arith
+bytes-pos (suc k) = omega (arith, pow-suc 256 k, bytes-pos k)
+
+zeros : (w : ℕ) (t : List ℕ) (at k i : ℕ) → allGood (eachFrom (zeroField w t at) i k) ≡ eqb (readLE k t (at + 14 + 5 * w + i)) 0
+unfolding readLE eachFrom allGood
+zeros w t at zero i = refl
+zeros w t at (suc k) i =
+    let byte = getD t (at + 14 + 5 * w + i) 0 in
+    let next : at + 14 + 5 * w + suc i ≡ at + 14 + 5 * w + i + 1 = omega arith in
+    rw (zeros w t at k (suc i), next) (sym (sum-zero 256 byte (readLE k t (at + 14 + 5 * w + i + 1)) (omega arith)))
+
+module _ (w : ℕ) (t : List ℕ) (at : ℕ) (v : Device) (b : Bool) (e : b ≡ deepestGood v) where
+  pub last-bad : not b ≡ true → false ≡ allGood (lastFields w t at v)
+  unfolding lastFields allGood
+  last-bad p = rw (sym e ∙ not-true b p)
+
+  pub last-test : (n m : ℕ) → not b ≡ false → n ≡ readLE w t (at + 14 + 5 * w) → m ≡ readLE 2 t (at + 14 + 6 * w)
+      → eqb n 0 && eqb m 0 ≡ allGood (lastFields w t at v)
+  unfolding lastFields allGood
+  last-test n m p f g =
+      let start = at + 14 + 5 * w in
+      let i : start + 0 ≡ start = omega arith in
+      let j : start + w ≡ at + 14 + 6 * w = omega arith in
+      let c : 2 + w ≡ w + 2 = omega arith in
+      let split = read-split w 2 t start in
+      let apart = sum-zero (256 ^ w) (readLE w t start) (readLE 2 t (start + w)) (bytes-pos w) in
+      rw (sym e ∙ not-false b p, c, zeros w t at (w + 2) 0, i, split, apart, j, f, g)
+
+-- ---- the parts of a device's record
+module _ (w resources : ℕ) (t : List ℕ) (d at : ℕ) where
+  abbrev dev : Device
+  dev = deviceAt w t at
+
+  -- a record without a bad field is one whose fields are all good
+  pub device-good : eqb (firstBad (recordSize w) (deviceFields w resources t d at)) (recordSize w) ≡ allGood (deviceFields w resources t d at)
+  unfolding deviceFields
+  device-good =
+      let In = Inside w in
+      let sets = all-append In (headFields d dev) (setFields w resources dev) (head-in w d dev) (sets-in w resources dev) in
+      let sxd = all-append In _ (sxdFields w dev) sets (sxd-in w dev) in
+      let sxw = all-append In _ (sxwFields w dev) sxd (sxw-in w dev) in
+      none-bad (recordSize w) _ (all-append In _ (lastFields w t at dev) sxw (last-in w t at dev))
+
+  -- the five sets' rule is its two halves
+  halves : allGood (setFields w resources dev) ≡ setsFit resources dev && setsAbsent dev
+  unfolding setFields setGood setsFit setsAbsent
+  halves =
+      every-field (λ k. 4 + w * k) (setGood resources dev) 5
+      ∙ every-both (λ k. ltb (dev .sets k) (2 ^ resources)) (λ k. present dev k || eqb (dev .sets k) 0) 5
+
+  -- the parts in the order in which the code asks
+  abbrev part : ℕ → Bool
+  part zero = allGood (headFields d dev)
+  part (suc zero) = setsFit resources dev
+  part (suc (suc zero)) = setsAbsent dev
+  part (suc (suc (suc zero))) = allGood (sxdFields w dev)
+  part (suc (suc (suc (suc zero)))) = allGood (sxwFields w dev)
+  part (suc (suc (suc (suc (suc k))))) = allGood (lastFields w t at dev)
+
+  all-parts : part 0 && part 1 && part 2 && part 3 && part 4 && part 5 ≡ allGood (deviceFields w resources t d at)
+  unfolding deviceFields
+  all-parts = sym (simp (joined, halves, and-assoc))
+
+  every-part : every part 6 ≡ allGood (deviceFields w resources t d at)
+  unfolding allGood eachFrom
+  every-part = let all = every-field (λ k. k) part 6 in rw (← all) (simp (and-true, and-assoc)) ∙ all-parts
+
+  pub last-decides : (h f a x y b : Bool) → h ≡ part 0 → f ≡ part 1 → a ≡ part 2 → x ≡ part 3 → y ≡ part 4 → b ≡ part 5
+      → not h ≡ false → not f ≡ false → not a ≡ false → not x ≡ false → not y ≡ false → b ≡ allGood (deviceFields w resources t d at)
+  last-decides h f a x y b p q r s u v hh ff aa xx yy =
+      v ∙ rw (sym p ∙ not-false h hh, sym q ∙ not-false f ff, sym r ∙ not-false a aa, sym s ∙ not-false x xx, sym u ∙ not-false y yy) at all-parts
+
+-- one part that is bad is enough
+pub part-bad : (k w resources : ℕ) (t : List ℕ) (d at : ℕ) (b : Bool) → k < 6 → b ≡ part w resources t d at k → not b ≡ true
+    → false ≡ allGood (deviceFields w resources t d at)
+part-bad k w resources t d at b h e p = one-bad (part w resources t d at) 6 k b h e p ∙ every-part w resources t d at
+
+pub ruleset quick-tests = (head-test, limits-test, states-test, present-none, absent-same, absent-test, all-present, fit-test, last-bad, last-test, same-masks-agree)

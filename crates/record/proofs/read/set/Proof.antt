@@ -1,0 +1,8 @@
+-- The set is the number of w bytes at its start. Assumes nothing.
+use Rattle.record.proofs.Readers.{fields-at}
+use borrow.Author.Needs.{needs}
+use Rattle.record.proofs.read.set.Statement.{statement}
+use Rattle.record.proofs.read.set.Tie as tie
+
+pub set-spec : {M : Type 1} → statement M
+set-spec = tie.close (tie.spec (λ c κs. search needs) (λ c. search needs) (λ c κs. search needs) (λ c. search (needs, fields-at)))
