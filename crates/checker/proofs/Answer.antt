@@ -1,86 +1,84 @@
--- The checker whole: its walk is the test of the rules, and its answer the checks before and then 19. Assumes nothing.
-use mathlib.Core.Path.{_≡_, refl, sym, ap, _∙_, fun-ext}
-use mathlib.Core.Bool.{Bool, true, false, not, cond}
-use mathlib.Core.List.{List, [], _∷_, map}
-use Prim.Native.Nat.{ℕ}
+-- The checker whole: its walk is the test of the rules, and its answer that of the checks before and then 19. Assumes nothing.
+use mathlib.Core.Path.{_≡_, sym, ap, _∙_}
+use mathlib.Core.Bool.{Bool, true, false, not, _&&_}
+use mathlib.Core.List.{List, [], _∷_}
+use Prim.Native.Nat.{ℕ, _/_, _%_}
 use borrow.Author.Tests.{not-true, not-false}
-use Rattle.sets.specs.Sets.{minus}
-use Rattle.sets.proofs.Laws.{decide}
-use Rattle.rules.specs.declared.Entry.{Entry}
+use lib.Dec.{eqb}
+use lib.ListN.{length}
+use Rattle.words.specs.Words.{byteWords}
+use Rattle.rules.specs.declared.Change.{Change}
 use Rattle.rules.specs.declared.Request.{Request}
-use Rattle.rules.specs.declared.State.{State}
 use Rattle.rules.specs.declared.Verdict.{Verdict}
-use Rattle.rules.specs.declared.Verdict.the-variants.{Done, NotConforming}
+use Rattle.rules.specs.declared.Verdict.the-variants.{Done, Refused}
+use Rattle.rules.specs.declared.Reason.the-variants.{NotConforming}
 use Rattle.rules.specs.Answers.{passes, firstOf, unless}
-use Rattle.rules.specs.Station.{Station, stationOf}
-use Rattle.rules.specs.Status.{Status, statusOf, entriesOf}
-use Rattle.rules.specs.Request.{newEntry}
-use Rattle.rules.specs.Calls.{wordOf, ownCall, ownLast, toTurnOn, toTurnOff}
-use Rattle.rules.specs.Check.{Rest, onWord, offWord, notLower, notHigher, andThen, takeCalls, takeSet, isEnd, ownFirstCalls, ownLastCalls, conforming}
-use Rattle.rules.specs.Outcomes.{permittedVerdict}
-use Rattle.rules.proofs.Answers.{first-pass, first-stop, first-none, unless-of, unless-stop}
-use Rattle.status.specs.State.{stateOf}
-use Rattle.request.specs.Stages.{stagesOf, stagesVerdict}
-use Rattle.calls.specs.Own.{ownOf}
-use Rattle.planner.specs.After.{afterOf, Asked}
-use Rattle.planner.proofs.Whole.{own-of, entry-is, on-after, on-before}
-use Rattle.calls.specs.Switch.{switchWord}
-use Rattle.checker.specs.Phases.{follows, walked}
-use Rattle.checker.proofs.Walks.{take-by-words}
+use Rattle.rules.specs.Station.{station}
+use Rattle.rules.specs.Status.{Status, status}
+use Rattle.rules.specs.Calls.{changeOf}
+use Rattle.rules.specs.Check.{conforming}
+use Rattle.rules.specs.Outcomes.{stagesVerdict, permittedVerdict, checkWords, checkBytes}
+use Rattle.rules.proofs.Answers.{first-pass, first-stop, first-none, unless-of, unless-stop, done-passes, refused-stops}
+use Rattle.status.specs.Ready.{statusWith}
+use Rattle.request.proofs.Changes.{status-with}
+use Rattle.checker.specs.Phases.{walked}
+use Rattle.checker.proofs.Walks.{walked-is}
 
--- ---- the walk with the words of the own call is the test
-own-first : (s : Station) (st : Status) (q : Request) → map wordOf (ownFirstCalls s st q) ≡ cond (ownLast q) [] (map wordOf (ownCall s (st .entries) q))
-unfolding ownFirstCalls
-own-first s st q = decide (ownLast q) (λ e. rw e refl) (λ e. rw e refl)
-
-own-last : (s : Station) (st : Status) (q : Request) → map wordOf (ownLastCalls s st q) ≡ cond (ownLast q) (map wordOf (ownCall s (st .entries) q)) []
-unfolding ownLastCalls
-own-last s st q = decide (ownLast q) (λ e. rw e refl) (λ e. rw e refl)
-
-pub walked-is : (s : Station) (st : Status) (q : Request) (ws : List ℕ)
-    → walked s (map wordOf (ownCall s (st .entries) q)) (ownLast q) (toTurnOn s st q) (toTurnOff s st q) ws ≡ conforming s st q ws
-unfolding walked conforming switchWord follows
-walked-is s st q ws =
-    rw (← own-first s st q, ← own-last s st q, ← take-by-words (ownFirstCalls s st q) ws)
-    (ap (λ (f : List ℕ → Rest). isEnd (andThen (takeCalls (ownFirstCalls s st q) ws) λ a. andThen (takeSet onWord (notLower s) (toTurnOn s st q) true 0 a) λ b. andThen (takeSet offWord (notHigher s) (toTurnOff s st q) true 0 b) f))
-    (fun-ext (λ c. sym (take-by-words (ownLastCalls s st q) c))))
-
--- from the values as the code has them
-pub test-is : (t b : List ℕ) (q : Request) (g : Asked t b q) (before : State) (e ne : Entry) (after : State) (own ws : List ℕ) (last : Bool) (on off : ℕ) (r : Bool)
-    → before ≡ stateOf b → e ≡ entriesOf 4 b (q .device) → ne ≡ newEntry e q → after ≡ afterOf (stationOf 4 t) before (q .device) ne
-    → on ≡ minus (after .on) (before .on) → off ≡ minus (before .on) (after .on) → own ≡ map wordOf (ownOf (stationOf 4 t) e q) → last ≡ ownLast q
-    → r ≡ walked (stationOf 4 t) own last on off ws → r ≡ conforming (stationOf 4 t) (statusOf 4 b) q ws
-unfolding toTurnOn toTurnOff
-test-is t b q g before e ne after own ws last on off r h i j k f f′ o l w =
-    let s = stationOf 4 t in
-    let st = statusOf 4 b in
-    let a = on-after t b q g before e ne after h i j k in
-    let c = on-before t b q g before e ne after h i j k in
-    w ∙ rw (o ∙ ap (map wordOf) (own-of s (st .entries) q e (entry-is t b q g before e ne after h i j k)), l, f, f′, a, c) (walked-is s st q ws)
+-- the walk over the change with the state's own on-set
+pub test-is : (t b : List ℕ) (q : Request) (on : ℕ) (c : Change) (ws : List ℕ) (r : Bool)
+    → on ≡ status t b .on → c ≡ changeOf (station t) (statusWith t b on) q → r ≡ walked (station t) c ws → r ≡ conforming (station t) (status t b) q ws
+test-is t b q on c ws r e f g =
+    let change : c ≡ changeOf (station t) (status t b) q = f ∙ ap (λ (st : Status). changeOf (station t) st q) (status-with t b on e) in
+    g ∙ ap (λ (x : Change). walked (station t) x ws) change ∙ walked-is (station t) (status t b) q ws
 
 -- ---- the answer. v is the answer of the checks before, p whether it passes, c what the test said
-pub permitted-is : (t b : List ℕ) (q : Request) → stagesVerdict true t b q ≡ permittedVerdict 4 t b q
-unfolding stagesVerdict stagesOf permittedVerdict firstOf unless passes
-permitted-is t b q = refl
+module _ (t b : List ℕ) (q : Request) (list : List ℕ) (v : Verdict) (p : Bool) (e : v ≡ stagesVerdict true t b q) (f : p ≡ passes v) where
+  -- whatever the test
+  abbrev answer : Bool → Verdict
+  answer test = firstOf (permittedVerdict t b q ∷ unless test NotConforming 0 ∷ []) (Done 0)
 
--- whatever the test: of a list of words, or of bytes
-module _ (t b : List ℕ) (q : Request) (v : Verdict) (p : Bool) (e : v ≡ stagesVerdict true t b q) (f : p ≡ passes v) (test : Bool) where
-  abbrev answer : Verdict
-  answer = firstOf (permittedVerdict 4 t b q ∷ unless test NotConforming ∷ []) (Done 0)
+  refused-before : (test : Bool) → not p ≡ true → v ≡ answer test
+  refused-before test n = e ∙ sym (first-stop _ _ _ (sym (ap passes e) ∙ sym f ∙ not-true p n))
 
-  pub check-refused : not p ≡ true → v ≡ answer
-  check-refused n =
-      let is : v ≡ permittedVerdict 4 t b q = e ∙ permitted-is t b q in
-      is ∙ sym (first-stop (permittedVerdict 4 t b q) _ (Done 0) (sym (ap passes is) ∙ sym f ∙ not-true p n))
+  passed : (test : Bool) → not p ≡ false → answer test ≡ firstOf (unless test NotConforming 0 ∷ []) (Done 0)
+  passed test n = first-pass _ _ _ (sym (ap passes e) ∙ sym f ∙ not-false p n)
 
-  module _ (yes : not p ≡ false) (c : Bool) (g : c ≡ test) where
-    on : passes (permittedVerdict 4 t b q) ≡ true
-    on = sym (ap passes (e ∙ permitted-is t b q)) ∙ sym f ∙ not-false p yes
+  answer-19 : (c test : Bool) → not p ≡ false → c ≡ test → not c ≡ true → Refused NotConforming 0 ≡ answer test
+  answer-19 c test n g z =
+      sym (passed test n ∙ rw (← g, unless-stop c NotConforming 0 (not-true c z)) (first-stop _ _ _ (refused-stops NotConforming 0)))
 
-    pub check-19 : not c ≡ true → NotConforming ≡ answer
-    check-19 n =
-        sym (first-pass (permittedVerdict 4 t b q) _ (Done 0) on ∙ rw (← g, unless-stop c NotConforming (not-true c n)) (first-stop NotConforming [] (Done 0) (unfold passes in refl)))
+  answer-done : (c test : Bool) → not p ≡ false → c ≡ test → not c ≡ false → Done 0 ≡ answer test
+  answer-done c test n g z =
+      sym (passed test n ∙ rw (← g, unless-of c NotConforming 0 (not-false c z)) (first-pass _ _ _ (done-passes 0) ∙ first-none _))
 
-    pub check-done : not c ≡ false → Done 0 ≡ answer
-    check-done n =
-        sym (first-pass (permittedVerdict 4 t b q) _ (Done 0) on ∙ rw (← g, unless-of c NotConforming (not-false c n)) (first-pass (Done 0) [] (Done 0) (unfold passes in refl) ∙ first-none (Done 0)))
+  -- of a list of words
+  pub words-refused : not p ≡ true → v ≡ checkWords t b q list
+  unfolding checkWords
+  words-refused n = refused-before _ n
+
+  module _ (c : Bool) (n : not p ≡ false) (g : c ≡ conforming (station t) (status t b) q list) where
+    pub words-19 : not c ≡ true → Refused NotConforming 0 ≡ checkWords t b q list
+    unfolding checkWords
+    words-19 z = answer-19 c _ n g z
+
+    pub words-done : not c ≡ false → Done 0 ≡ checkWords t b q list
+    unfolding checkWords
+    words-done z = answer-done c _ n g z
+
+  -- of a list of bytes
+  pub bytes-refused : not p ≡ true → v ≡ checkBytes t b q list
+  unfolding checkBytes
+  bytes-refused n = refused-before _ n
+
+  module _ (c : Bool) (n : not p ≡ false) (g : c ≡ eqb (length list % 4) 0 && conforming (station t) (status t b) q (byteWords (length list / 4) list)) where
+    pub bytes-19 : not c ≡ true → Refused NotConforming 0 ≡ checkBytes t b q list
+    unfolding checkBytes
+    bytes-19 z = answer-19 c _ n g z
+
+    pub bytes-done : not c ≡ false → Done 0 ≡ checkBytes t b q list
+    unfolding checkBytes
+    bytes-done z = answer-done c _ n g z
+
+pub ruleset of-words = (words-refused, words-19, words-done)
+
+pub ruleset of-bytes = (bytes-refused, bytes-19, bytes-done)

@@ -1,3 +1,4 @@
+pub mod Switched
 pub mod Phase
 pub mod Walks
 pub mod Answer

@@ -1,96 +1,126 @@
--- A whole list from its phases: a phase that refuses ends it, and what the last leaves must be nothing. Assumes nothing.
+-- A whole list from its phases: a phase that is refused ends it, and what the last leaves must be nothing. Assumes nothing.
 use mathlib.Core.Path.{_≡_, refl, sym, ap, _∙_}
-use mathlib.Core.Bool.{Bool, true, false, not, cond}
-use mathlib.Core.List.{List, [], _∷_, map}
+use mathlib.Core.Bool.{Bool, true, false, not}
+use mathlib.Core.List.{List, [], _∷_}
 use Prim.Native.Nat.{ℕ, _+_, _≤_, _<_}
 use native.Mathlib.Numerals.{add-one}
 use native.Mathlib.Omega.{arith}
-use borrow.Author.Tests.{eq-eqb, ne-eqb, not-true, not-false, eqb-true, eqb-false}
+use borrow.Author.Tests.{not-true, not-false, eqb-true, eqb-false}
 use lib.Dec.{eqb}
 use lib.ListN.{length, getD, drop, drop-of-length-le}
 use lib.Seq.{drop-cons}
 use Rattle.sets.proofs.Laws.{decide}
 use Rattle.rules.specs.declared.Call.{Call}
+use Rattle.rules.specs.declared.Change.{Change}
+use Rattle.rules.specs.declared.Request.{Request}
+use Rattle.rules.specs.declared.OptionalCall.{OptionalCall}
+use Rattle.rules.specs.declared.OptionalCall.the-variants.{Is, NoCall}
 use Rattle.rules.specs.Station.{Station}
-use Rattle.rules.specs.Calls.{wordOf}
-use Rattle.rules.specs.Check.{left, refused, andThen, takeCalls, takeSet, isEnd}
-use Rattle.checker.specs.declared.Taken.{Taken}
+use Rattle.rules.specs.Status.{Status}
+use Rattle.rules.specs.Calls.{wordOf, listOf, ownLast, changeOf}
+use Rattle.rules.specs.Check.{Rest, left, refused, andThen, takeWords, isEnd, ownFirstCalls, ownLastCalls, conforming}
 use Rattle.calls.specs.Switch.{switchWord}
-use Rattle.checker.specs.Phases.{restOf, follows, takeWords, walked}
-use Rattle.checker.proofs.Phase.{rest-up-to, rest-refused}
+use Rattle.checker.specs.declared.Taken.{Taken}
+use Rattle.checker.specs.declared.Taken.the-variants.{UpTo, Refused}
+use Rattle.checker.specs.Phases.{Leaves, follows, takePhase, ownWords, takePhases, walked}
 
--- ---- the own word
-pub word-short : (l : List ℕ) (at w : ℕ) → length l ≤ at → restOf l (record { ok = false; at = at }) ≡ takeWords (w ∷ []) (drop at l)
-unfolding takeWords
-word-short l at w h = rest-refused l at _ (sym (ap (takeWords (w ∷ [])) (drop-of-length-le l {i = at} h)))
+-- ---- a call's word. b is whether the word at the place is that
+module _ (l : List ℕ) (at w : ℕ) where
+  pub word-short : length l ≤ at → refused ≡ takeWords (w ∷ []) (drop at l)
+  unfolding takeWords
+  word-short h = sym (ap (takeWords (w ∷ [])) (drop-of-length-le l {i = at} h))
 
-pub word-other : (l : List ℕ) (at w : ℕ) → at < length l → (getD l at 0 ≡ w → ⊥) → restOf l (record { ok = false; at = at }) ≡ takeWords (w ∷ []) (drop at l)
-unfolding takeWords
-word-other l at w h n = rest-refused l at _ (sym (ap (takeWords (w ∷ [])) (drop-cons l at 0 h) ∙ rw (ne-eqb (getD l at 0) w n, takeWords) refl))
+  module _ (b : Bool) (h : at < length l) (e : b ≡ eqb (getD l at 0) w) where
+    pub word-other : not b ≡ true → refused ≡ takeWords (w ∷ []) (drop at l)
+    unfolding takeWords
+    word-other n = sym (ap (takeWords (w ∷ [])) (drop-cons l at 0 h) ∙ rw (sym e ∙ not-true b n, takeWords) refl)
 
-pub word-here : (l : List ℕ) (at w : ℕ) → at < length l → getD l at 0 ≡ w → restOf l (record { ok = true; at = at + 1 }) ≡ takeWords (w ∷ []) (drop at l)
-unfolding takeWords
-word-here l at w h e = rest-up-to l (at + 1) _ (sym (ap (takeWords (w ∷ [])) (drop-cons l at 0 h) ∙ rw (eq-eqb (getD l at 0) w e, takeWords) (rw (← add-one at) refl)))
+    pub word-here : not b ≡ false → left (drop (at + 1) l) ≡ takeWords (w ∷ []) (drop at l)
+    unfolding takeWords
+    word-here n = sym (ap (takeWords (w ∷ [])) (drop-cons l at 0 h) ∙ rw (sym e ∙ not-false b n, takeWords) (rw (← add-one at) refl))
 
-pub word-none : (l : List ℕ) (at : ℕ) → restOf l (record { ok = true; at = at }) ≡ takeWords [] (drop at l)
-unfolding takeWords
-word-none l at = rest-up-to l at _ refl
+-- ---- the own call, where it is due
+module _ (l : List ℕ) (at : ℕ) (own : OptionalCall) (here : Bool) where
+  pub own-elsewhere : not here ≡ true → left (drop at l) ≡ takeWords (ownWords here own) (drop at l)
+  unfolding takeWords ownWords
+  own-elsewhere n = rw (not-true here n) refl
 
--- calls are taken by their words
-pub take-by-words : (cs : List Call) (ws : List ℕ) → takeCalls cs ws ≡ takeWords (map wordOf cs) ws
-unfolding takeCalls takeWords
-take-by-words [] ws = refl
-take-by-words (c ∷ cs) [] = refl
-take-by-words (c ∷ cs) (w ∷ ws) =
-    let rest = take-by-words cs ws in
-    decide (eqb w (wordOf c)) (λ e. rw (e, takeCalls, takeWords) rest) (λ e. rw (e, takeCalls, takeWords) refl)
+  pub own-none : not here ≡ false → own ≡ NoCall → left (drop at l) ≡ takeWords (ownWords here own) (drop at l)
+  unfolding takeWords ownWords listOf
+  own-none n e = rw (not-false here n, e) refl
 
--- ---- phase after phase. Each phase's answer r gives what is left
-ok-rest : (ws : List ℕ) (r : Taken) → not (r .ok) ≡ false → restOf ws r ≡ left (drop (r .at) ws)
-unfolding restOf
-ok-rest ws r n = rw (not-false (r .ok) n) refl
+  pub own-is : (c : Call) (r : Taken) → not here ≡ false → own ≡ Is c → Leaves l r (takeWords (wordOf c ∷ []) (drop at l))
+      → Leaves l r (takeWords (ownWords here own) (drop at l))
+  unfolding ownWords listOf
+  own-is c r n e h = rw (not-false here n, e) h
 
-bad-rest : (ws : List ℕ) (r : Taken) → not (r .ok) ≡ true → restOf ws r ≡ refused
-unfolding restOf
-bad-rest ws r n = rw (not-true (r .ok) n) refl
+pub ruleset own-call = (word-short, word-other, word-here, own-elsewhere, own-none, own-is)
 
-module _ (s : Station) (own : List ℕ) (last : Bool) (on off : ℕ) (ws : List ℕ) (a : Taken) (ea : restOf ws a ≡ takeWords (cond (not last) own []) (drop 0 ws)) where
-  first-is : cond (not last) own [] ≡ cond last [] own
-  first-is = go last
-    where
-      go : (b : Bool) → cond (not b) own [] ≡ cond b [] own
-      go true = refl
-      go false = refl
+-- ---- phase after phase
+left-is : (ws : List ℕ) (r : Taken) (v : Rest) (i : ℕ) → Leaves ws r v → r ≡ UpTo i → v ≡ left (drop i ws)
+left-is ws r v i h e = sym ((rw e at h) .0)
 
-  step-a : takeWords (cond last [] own) ws ≡ restOf ws a
-  step-a = sym (ea ∙ ap (λ (l : List ℕ). takeWords l ws) first-is)
+refused-is : (ws : List ℕ) (r : Taken) (v : Rest) → Leaves ws r v → r ≡ Refused → v ≡ refused
+refused-is ws r v h e = sym (rw e at h)
 
-  pub walk-a : not (a .ok) ≡ true → false ≡ walked s own last on off ws
+end-is : (ws : List ℕ) (i : ℕ) → i ≤ length ws → eqb i (length ws) ≡ isEnd (left (drop i ws))
+unfolding isEnd
+end-is ws i h =
+    decide (eqb i (length ws))
+    (λ e. e ∙ sym (ap (λ (l : List ℕ). isEnd (left l)) (drop-of-length-le ws {i = i} (omega (arith, eqb-true i (length ws) e)))))
+    (λ e. e ∙ sym (ap (λ (l : List ℕ). isEnd (left l)) (drop-cons ws i 0 (omega (arith, eqb-false i (length ws) e)))))
+
+-- the place that a phase came up to is one of the list
+pub within : (ws : List ℕ) (r : Taken) (v : Rest) (i : ℕ) → Leaves ws r v → r ≡ UpTo i → i ≤ length ws
+within ws r v i h e = (rw e at h) .1
+
+-- ONs, then OFFs
+module _ (s : Station) (on off at : ℕ) (ws : List ℕ) (a : Taken) (ha : Leaves ws a (takePhase s false on true 0 (drop at ws))) where
+  pub ons-refused : a ≡ Refused → refused ≡ takePhases s on off (drop at ws)
+  unfolding takePhases andThen
+  ons-refused e = rw (refused-is ws a _ ha e) refl
+
+  pub offs-follow : (i : ℕ) (r : Taken) → a ≡ UpTo i → Leaves ws r (takePhase s true off true 0 (drop i ws))
+      → Leaves ws r (takePhases s on off (drop at ws))
+  unfolding takePhases andThen
+  offs-follow i r e h = rw (left-is ws a _ i ha e) h
+
+pub ruleset switches = (within, ons-refused, offs-follow)
+
+-- the own call, these, and the own call
+module _ (s : Station) (c : Change) (ws : List ℕ) (a : Taken) (ha : Leaves ws a (takeWords (ownWords (not (c .last)) (c .own)) (drop 0 ws))) where
+  pub first-refused : a ≡ Refused → false ≡ walked s c ws
   unfolding walked andThen isEnd
-  walk-a n = rw (step-a ∙ bad-rest ws a n) refl
+  first-refused e = rw (refused-is ws a _ ha e) refl
 
-  module _ (na : not (a .ok) ≡ false) (b : Taken) (eb : restOf ws b ≡ takeSet (switchWord false) (follows s false) on true 0 (drop (a .at) ws)) where
-    pub walk-b : not (b .ok) ≡ true → false ≡ walked s own last on off ws
+  module _ (i : ℕ) (ea : a ≡ UpTo i) (b : Taken) (hb : Leaves ws b (takePhases s (c .on) (c .off) (drop i ws))) where
+    pub switches-refused : b ≡ Refused → false ≡ walked s c ws
     unfolding walked andThen isEnd
-    walk-b n = rw (step-a ∙ ok-rest ws a na, sym eb ∙ bad-rest ws b n) refl
+    switches-refused e = rw (left-is ws a _ i ha ea, refused-is ws b _ hb e) refl
 
-    module _ (nb : not (b .ok) ≡ false) (c : Taken) (ec : restOf ws c ≡ takeSet (switchWord true) (follows s true) off true 0 (drop (b .at) ws)) where
-      pub walk-c : not (c .ok) ≡ true → false ≡ walked s own last on off ws
+    module _ (j : ℕ) (eb : b ≡ UpTo j) (d : Taken) (hd : Leaves ws d (takeWords (ownWords (c .last) (c .own)) (drop j ws))) where
+      pub last-refused : d ≡ Refused → false ≡ walked s c ws
       unfolding walked andThen isEnd
-      walk-c n = rw (step-a ∙ ok-rest ws a na, sym eb ∙ ok-rest ws b nb, sym ec ∙ bad-rest ws c n) refl
+      last-refused e = rw (left-is ws a _ i ha ea, left-is ws b _ j hb eb, refused-is ws d _ hd e) refl
 
-      module _ (nc : not (c .ok) ≡ false) (d : Taken) (ed : restOf ws d ≡ takeWords (cond last own []) (drop (c .at) ws)) where
-        pub walk-d : not (d .ok) ≡ true → false ≡ walked s own last on off ws
-        unfolding walked andThen isEnd
-        walk-d n = rw (step-a ∙ ok-rest ws a na, sym eb ∙ ok-rest ws b nb, sym ec ∙ ok-rest ws c nc, sym ed ∙ bad-rest ws d n) refl
+      pub at-the-end : (k : ℕ) → d ≡ UpTo k → eqb k (length ws) ≡ walked s c ws
+      unfolding walked andThen
+      at-the-end k e = rw (left-is ws a _ i ha ea, left-is ws b _ j hb eb, left-is ws d _ k hd e) (end-is ws k (within ws d _ k hd e))
 
-        end-is : (i : ℕ) → i ≤ length ws → eqb i (length ws) ≡ isEnd (left (drop i ws))
-        unfolding isEnd
-        end-is i h =
-            decide (eqb i (length ws))
-            (λ e. e ∙ sym (ap (λ (l : List ℕ). isEnd (left l)) (drop-of-length-le ws {i = i} (omega (arith, eqb-true i (length ws) e)))))
-            (λ e. e ∙ sym (ap (λ (l : List ℕ). isEnd (left l)) (drop-cons ws i 0 (omega (arith, eqb-false i (length ws) e)))))
+pub ruleset walks = (within, first-refused, switches-refused, last-refused, at-the-end)
 
-        pub walk-end : not (d .ok) ≡ false → d .at ≤ length ws → eqb (d .at) (length ws) ≡ walked s own last on off ws
-        unfolding walked andThen
-        walk-end n h = rw (step-a ∙ ok-rest ws a na, sym eb ∙ ok-rest ws b nb, sym ec ∙ ok-rest ws c nc, sym ed ∙ ok-rest ws d n) (end-is (d .at) h)
+-- ---- the walk over a request's change is the test
+then-then : (r : Rest) (f g : List ℕ → Rest) → andThen (andThen r f) g ≡ andThen r (λ a. andThen (f a) g)
+unfolding andThen
+then-then (left a) f g = refl
+then-then refused f g = refl
+
+joined : (r : Rest) (ons offs last : List ℕ → Rest)
+    → andThen r (λ a. andThen (andThen (ons a) offs) last) ≡ andThen r (λ a. andThen (ons a) λ b. andThen (offs b) last)
+unfolding andThen
+joined (left a) ons offs last = then-then (ons a) offs last
+joined refused ons offs last = refl
+
+pub walked-is : (s : Station) (st : Status) (q : Request) (ws : List ℕ) → walked s (changeOf s st q) ws ≡ conforming s st q ws
+unfolding walked takePhases conforming switchWord follows ownWords ownFirstCalls ownLastCalls
+walked-is s st q ws = decide (ownLast q) (λ e. rw e (ap isEnd (joined _ _ _ _))) (λ e. rw e (ap isEnd (joined _ _ _ _)))

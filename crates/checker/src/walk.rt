@@ -1,69 +1,74 @@
 // A whole list: the own call first or last, ONs and OFFs between, and nothing after.
 use crate::Taken;
-use calls::own::Own;
+use crate::take::take_phase;
+use rules::Call;
+use rules::Change;
+use rules::OptionalCall;
 ghost use mathlib.Core.Path.{_≡_};
-ghost use mathlib.Core.Bool.{cond};
-ghost use mathlib.Core.List.{[]};
+ghost use mathlib.Core.List.{[], _∷_};
 ghost use Prim.Native.Nat.{_^_, _<_, _≤_};
 ghost use lib.ListN.{length, drop};
-ghost use Rattle.rules.specs.Station.{countR, stationOf};
-ghost use Rattle.calls.specs.Own.{ownWords};
-ghost use Rattle.table.specs.Layout.{Laid};
-ghost use Rattle.checker.specs.Phases.{restOf, takeWords, walked};
+ghost use Rattle.rules.specs.Station.{countR, station};
+ghost use Rattle.rules.specs.Calls.{wordOf};
+ghost use Rattle.rules.specs.Check.{takeWords};
+ghost use Rattle.table.specs.Layout.{WellSized};
+ghost use Rattle.calls.specs.Ranges.{InRange, OptionalInRange};
+ghost use Rattle.request.specs.Permitted.{GoodChange};
+ghost use Rattle.checker.specs.Phases.{Leaves, ownWords, takePhases, walked};
 
-// The place after the own call's word, if there is one.
-fn take_word(own: Own, list: &[u32], at: usize) -> Taken
-    requires { ⌜ at ≤ length (now list) ⌝ }
-    ensures { λ r. ⌜ (restOf (now (list .entry)) r ≡ takeWords (ownWords own) (drop at (now (list .entry)))) × (r .at ≤ length (now (list .entry))) ⌝ }
+// The place after a call's word. Words are compared: a word is this call's exactly if it decodes to the call (`says-call` of crates/calls).
+fn take_call(call: Call, list: &[u32], at: usize) -> Taken
+    requires { ⌜ InRange call × (at ≤ length (now list)) ⌝ }
+    ensures { λ r. ⌜ Leaves (now (list .entry)) r (takeWords (wordOf call ∷ []) (drop at (now (list .entry)))) ⌝ }
 {
+    if at >= list.len() {
+        return Taken::Refused;
+    }
+    if !calls::says(list[at], call) {
+        return Taken::Refused;
+    }
+    Taken::UpTo(at + 1)
+}
+
+// The place after the own call, where it is due here and there is one.
+fn take_own(own: OptionalCall, here: bool, list: &[u32], at: usize) -> Taken
+    requires { ⌜ OptionalInRange own × (at ≤ length (now list)) ⌝ }
+    ensures { λ r. ⌜ Leaves (now (list .entry)) r (takeWords (ownWords here own) (drop at (now (list .entry)))) ⌝ }
+{
+    if !here {
+        return Taken::UpTo(at);
+    }
     match own {
-        Own::Word(w) => {
-            if at >= list.len() {
-                return Taken { ok: false, at };
-            }
-            if list[at] != w {
-                return Taken { ok: false, at };
-            }
-            Taken {
-                ok: true,
-                at: at + 1,
-            }
-        }
-        Own::NoCall => Taken { ok: true, at },
+        OptionalCall::Is(call) => take_call(call, list, at),
+        OptionalCall::NoCall => Taken::UpTo(at),
     }
 }
 
-// The same where the own call is due here, and nothing elsewhere.
-fn take_own(own: Own, here: bool, list: &[u32], at: usize) -> Taken
-    requires { ⌜ at ≤ length (now list) ⌝ }
-    ensures { λ r. ⌜ (restOf (now (list .entry)) r ≡ takeWords (cond here (ownWords own) []) (drop at (now (list .entry)))) × (r .at ≤ length (now (list .entry))) ⌝ }
+// The place after the words that turn one set on, then those that turn another off.
+fn take_phases(table: &[u8], on: u32, off: u32, list: &[u32], at: usize) -> Taken
+    requires { ⌜ WellSized (now table) × (on < 2 ^ countR (now table)) × (off < 2 ^ countR (now table)) × (at ≤ length (now list)) ⌝ }
+    ensures { λ r. ⌜ Leaves (now (list .entry)) r (takePhases (station (now (table .entry))) on off (drop at (now (list .entry)))) ⌝ }
 {
-    if here {
-        return take_word(own, list, at);
-    }
-    Taken { ok: true, at }
+    let Taken::UpTo(offs) = take_phase(table, false, on, list, at) else {
+        return Taken::Refused;
+    };
+    take_phase(table, true, off, list, offs)
 }
 
-// Whether the list is these calls and nothing else.
-pub fn walk(table: &[u8], own: Own, last: bool, on: u32, off: u32, list: &[u32]) -> bool
-    requires { ⌜ Laid (now table) × (on < 2 ^ countR (now table)) × (off < 2 ^ countR (now table)) ⌝ }
-    ensures { λ r. ⌜ r ≡ walked (stationOf 4 (now (table .entry))) (ownWords own) last on off (now (list .entry)) ⌝ }
+// Whether the list is the calls of a change and nothing else.
+pub fn walk(table: &[u8], c: Change, list: &[u32]) -> bool
+    requires { ⌜ WellSized (now table) × GoodChange (now table) c ⌝ }
+    ensures { λ r. ⌜ r ≡ walked (station (now (table .entry))) c (now (list .entry)) ⌝ }
 {
-    let a = take_own(own, !last, list, 0);
-    if !a.ok {
+    let own = c.own;
+    let Taken::UpTo(first) = take_own(own, !c.last, list, 0) else {
         return false;
-    }
-    let b = crate::take::take_set(table, false, on, list, a.at);
-    if !b.ok {
+    };
+    let Taken::UpTo(last) = take_phases(table, c.on, c.off, list, first) else {
         return false;
-    }
-    let c = crate::take::take_set(table, true, off, list, b.at);
-    if !c.ok {
+    };
+    let Taken::UpTo(end) = take_own(own, c.last, list, last) else {
         return false;
-    }
-    let d = take_own(own, last, list, c.at);
-    if !d.ok {
-        return false;
-    }
-    d.at == list.len()
+    };
+    end == list.len()
 }

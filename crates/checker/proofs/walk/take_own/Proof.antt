@@ -1,13 +1,10 @@
-use Rattle.checker.proofs.Walks.{word-none}
+-- A law for each way out. Assumes nothing.
+use Rattle.calls.proofs.OwnCall.{call-in-range}
+use Rattle.checker.proofs.Walks.{own-call}
 use borrow.Author.Needs.{needs}
 use Rattle.checker.proofs.walk.take_own.Statement.{statement}
 use Rattle.checker.proofs.walk.take_own.Tie as tie
 
-returns : tie.Need-returns
-returns c = rw (c .before .if1 .taken) (c .take-word .ensures)
-
-returns-2 : tie.Need-returns-2
-returns-2 c = rw (c .if1 .left) (word-none _ _, search needs)
-
 pub take-own-spec : {M : Type 1} → statement M
-take-own-spec = tie.close (tie.spec (λ c κs. search needs) returns returns-2)
+take-own-spec =
+    tie.close (tie.spec (λ c. search (needs, own-call)) (λ c. search needs) (λ c κs. search (needs, call-in-range)) (λ c. search needs) (λ c. search (needs, own-call)) (λ c. search (needs, own-call)))
