@@ -70,7 +70,7 @@ members-fit a b i (suc k) h =
     (λ p. rw p (decide (member b i) (λ q. rw q (omega arith)) (λ q. rw q (omega arith))))
 
 -- two sets with no resource in common have at most R resources together
-rising-fit : (s : Station) (a b : ℕ) → Disjoint a b → length (rising s a) + length (rising s b) ≤ s .resources
+pub rising-fit : (s : Station) (a b : ℕ) → Disjoint a b → length (rising s a) + length (rising s b) ≤ s .resources
 unfolding rising
 rising-fit s a b h =
     let n = s .resources in
@@ -82,7 +82,7 @@ phase-fits t on off h =
     let s = station t in
     unfold stationOf in omega (arith, phase-long s on off, switch-long false s on, switch-long true s off, rising-fit s on off h)
 
-own-long : (o : OptionalCall) → length (listOf o) ≤ 1
+pub own-long : (o : OptionalCall) → length (listOf o) ≤ 1
 unfolding listOf
 own-long (Is c) = omega arith
 own-long NoCall = omega arith

@@ -2,7 +2,7 @@
 use mathlib.Core.Path.{_≡_, refl, sym, ap, _∙_}
 use mathlib.Core.Bool.{Bool, true, false, not}
 use mathlib.Core.List.{List, [], _∷_}
-use Prim.Native.Nat.{ℕ, _≤_, _<_}
+use Prim.Native.Nat.{ℕ, _*_, _≤_, _<_}
 use native.Mathlib.Omega.{arith}
 use borrow.Author.Tests.{leb-true, not-true, not-false}
 use lib.Dec.{leb}
@@ -59,11 +59,13 @@ pub device-32 : (t b : List ℕ) (q : Request) → PermittedRequest t b q → q 
 unfolding width
 device-32 t b q g = omega (arith, g .device, g .ready .sized .devices)
 
--- the request is refused, or there is room
-pub room-there : (t b : List ℕ) (q : Request) (n m : ℕ) (v : Verdict) (p : Bool) → n ≡ planRoom (width t) → v ≡ stagesVerdict (leb n m) t b q → p ≡ passes v → not p ≡ false
-    → planRoom (width t) ≤ m
-room-there t b q n m v p e f h k =
-    rw e at (leb-true n m (room-passed (leb n m) t b q (sym (ap passes f) ∙ sym h ∙ not-false p k)))
+-- the request is refused, or there is room: for the words of a plan, or for four bytes each
+module _ (t b : List ℕ) (q : Request) (n m : ℕ) (v : Verdict) (p : Bool) (e : n ≡ planRoom (width t)) where
+  pub room-there : v ≡ stagesVerdict (leb n m) t b q → p ≡ passes v → not p ≡ false → planRoom (width t) ≤ m
+  room-there f h k = rw e at (leb-true n m (room-passed (leb n m) t b q (sym (ap passes f) ∙ sym h ∙ not-false p k)))
+
+  pub room-bytes : v ≡ stagesVerdict (leb (4 * n) m) t b q → p ≡ passes v → not p ≡ false → 4 * planRoom (width t) ≤ m
+  room-bytes f h k = rw e at (leb-true (4 * n) m (room-passed (leb (4 * n) m) t b q (sym (ap passes f) ∙ sym h ∙ not-false p k)))
 
 -- ---- the outcome, whatever an accepted request writes into the plan: words, or their bytes
 module _ (t b : List ℕ) (q : Request) (room : Bool) (v : Verdict) (p : Bool) (e : v ≡ stagesVerdict room t b q) (f : p ≡ passes v) where

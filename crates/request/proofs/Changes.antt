@@ -48,7 +48,7 @@ pub permitted-by : (t b : List ℕ) (q : Request) (room : Bool) (v : Verdict) (p
 permitted-by t b q room v p e f n = permitted-of t b q (stages-of room t b q (ap passes (sym e) ∙ sym f ∙ not-false p n))
 
 -- what is in one set and not in another, and the other way round
-minus-disjoint : (x y : ℕ) → Disjoint (minus x y) (minus y x)
+pub minus-disjoint : (x y : ℕ) → Disjoint (minus x y) (minus y x)
 unfolding Disjoint
 minus-disjoint x y r =
     rw (member-minus x y r, member-minus y x r)

@@ -1,24 +1,21 @@
 -- A list that conforms has at most R + 1 words: each phase has as many as its set has members, and no resource is in both sets. Assumes nothing.
 use mathlib.Core.Path.{_≡_, sym, ap, _∙_}
-use mathlib.Core.Bool.{Bool, true, false}
 use mathlib.Core.List.{List, map}
 use Prim.Native.Nat.{ℕ, _+_, _^_, _≤_, _<_}
 use native.Mathlib.Omega.{arith}
 use lib.ListN.{length, length-append, length-map}
 use Rattle.sets.proofs.Laws.{decide}
-use Rattle.rules.specs.declared.Entry.{Entry}
 use Rattle.rules.specs.declared.Request.{Request}
-use Rattle.rules.specs.declared.Call.{Call}
 use Rattle.rules.specs.Station.{Station}
 use Rattle.rules.specs.Status.{Status}
-use Rattle.rules.specs.Request.{isMove, isArm}
-use Rattle.rules.specs.Calls.{earlier, sort, orderIn, rising, wordOf, only, moveCall, wakeCall, ownCall, ownLast, toTurnOn, toTurnOff}
+use Rattle.rules.specs.Calls.{earlier, sort, orderIn, rising, wordOf, listOf, ownCall, ownLast, toTurnOn, toTurnOff}
 use Rattle.rules.specs.Conforms.{EachOnce, Conforms}
 use Rattle.rules.specs.Check.{onWord, offWord, ownFirstCalls, ownLastCalls}
 use Rattle.laws.proofs.Sort.{times-sort, length-sort, sort-sorted, unique}
 use Rattle.laws.proofs.Order.{earlier-order, rising-sorted, rising-once}
 use Rattle.laws.proofs.Conform.{by-phase}
-use Rattle.planner.proofs.Run.{rising-apart, switches-apart}
+use Rattle.request.proofs.Changes.{minus-disjoint}
+use Rattle.planner.proofs.Run.{rising-fit, own-long}
 
 -- a list with each member once is as long as the set's own
 pub once-long : (s : Station) (m : ℕ) (l : List ℕ) → m < 2 ^ s .resources → EachOnce m l → length l ≡ length (rising s m)
@@ -29,19 +26,12 @@ once-long s m l h o =
     sym (length-sort before l)
     ∙ ap length (unique before order (sort before l) (rising s m) (sort-sorted before order l) (rising-sorted s m) (λ r. times-sort before r l ∙ o r ∙ sym (rising-once s m h r)))
 
-only-long : (b : Bool) (c : Call) → length (map wordOf (only b c)) ≤ 1
-unfolding only
-only-long true c = omega arith
-only-long false c = omega arith
-
-own-long : (s : Station) (entries : ℕ → Entry) (q : Request) → length (map wordOf (ownCall s entries q)) ≤ 1
-unfolding ownCall moveCall wakeCall
-own-long s entries q =
-    decide (isMove q) (λ m. rw m (only-long _ _)) (λ m. decide (isArm q) (λ a. rw (m, a) (only-long _ _)) (λ a. rw (m, a) (only-long _ _)))
-
 ends-long : (s : Station) (st : Status) (q : Request) → length (map wordOf (ownFirstCalls s st q)) + length (map wordOf (ownLastCalls s st q)) ≤ 1
 unfolding ownFirstCalls ownLastCalls
-ends-long s st q = decide (ownLast q) (λ e. rw e (omega (arith, own-long s (st .entries) q))) (λ e. rw e (omega (arith, own-long s (st .entries) q)))
+ends-long s st q =
+    let own = ownCall s (st .entries (q .device)) q in
+    let n = length-map (listOf own) wordOf in
+    decide (ownLast q) (λ e. rw e (omega (arith, own-long own))) (λ e. rw e (omega (arith, own-long own)))
 
 pub conforms-long : (s : Station) (st : Status) (q : Request) (ws : List ℕ) → toTurnOn s st q < 2 ^ s .resources → toTurnOff s st q < 2 ^ s .resources → Conforms s st q ws → length ws ≤ 1 + s .resources
 conforms-long s st q ws u v c =
@@ -51,4 +41,4 @@ conforms-long s st q ws u v c =
     let b = map offWord (c .offs) in
     let whole : length ws ≡ length first + (length a + (length b + (length last + 0))) =
     ap length (c .whole ∙ by-phase s st q (c .ons) (c .offs)) ∙ simp length-append in
-    omega (arith, ends-long s st q, length-map (c .ons) onWord, length-map (c .offs) offWord, once-long s (toTurnOn s st q) (c .ons) u (c .onsOnce), once-long s (toTurnOff s st q) (c .offs) v (c .offsOnce), rising-apart s (toTurnOn s st q) (toTurnOff s st q) (switches-apart s st q))
+    omega (arith, ends-long s st q, length-map (c .ons) onWord, length-map (c .offs) offWord, once-long s (toTurnOn s st q) (c .ons) u (c .onsOnce), once-long s (toTurnOff s st q) (c .offs) v (c .offsOnce), rising-fit s (toTurnOn s st q) (toTurnOff s st q) (unfold toTurnOn toTurnOff in minus-disjoint _ _))

@@ -5,34 +5,41 @@ use Prim.Native.Nat.{ℕ, _+_, _*_, _/_, _%_, _<_}
 use native.Mathlib.Omega.{arith}
 use Rattle.rules.specs.declared.Request.{Request}
 use Rattle.rules.specs.declared.Verdict.{Verdict}
-use Rattle.rules.specs.declared.Verdict.the-variants.{Done, NotATable, TooMany, WrongLength, BadResource, BadDevice, BadObjects, BadState, Inconsistent, NoRoom, BadRequest, Unsupported, Shallower, ParentDeeper, ChildShallower, TooDeepToWake, NoWake, WakeUnpowered, BadWakeState, NotConforming}
-use Rattle.rules.specs.Answers.{numberOf, placeOf, countOf}
+use Rattle.rules.specs.declared.Verdict.the-variants.{Done, Refused}
+use Rattle.rules.specs.declared.Reason.{Reason}
+use Rattle.rules.specs.declared.Reason.the-variants.{NotATable, TooMany, WrongLength, BadResource, BadDevice, BadObjects, BadState, Inconsistent, NoRoom, BadRequest, Unsupported, Shallower, ParentDeeper, ChildShallower, TooDeepToWake, NoWake, WakeUnpowered, BadWakeState, NotConforming}
+use Rattle.rules.specs.Answers.{reasonNumber, numberOf, placeOf, countOf}
+use Rattle.rules.specs.Station.{width}
 use Rattle.rules.specs.Outcomes.{outcome, fresh, planBytes, checkBytes}
+use Rattle.rules.proofs.Width.{width-wide}
 use Rattle.laws.proofs.Bounds.{Bounded, fresh-bounded, plan-bounded, check-bounded}
 use Rattle.sailgarnet.proofs.Outer.{planned-short}
 use Rattle.sailgarnet.specs.Packed.{packed, Reads}
 
+reason-small : (why : Reason) → reasonNumber why < 0x100
+reason-small NotATable = omega arith
+reason-small TooMany = omega arith
+reason-small WrongLength = omega arith
+reason-small BadResource = omega arith
+reason-small BadDevice = omega arith
+reason-small BadObjects = omega arith
+reason-small BadState = omega arith
+reason-small Inconsistent = omega arith
+reason-small NoRoom = omega arith
+reason-small BadRequest = omega arith
+reason-small Unsupported = omega arith
+reason-small Shallower = omega arith
+reason-small ParentDeeper = omega arith
+reason-small ChildShallower = omega arith
+reason-small TooDeepToWake = omega arith
+reason-small NoWake = omega arith
+reason-small WakeUnpowered = omega arith
+reason-small BadWakeState = omega arith
+reason-small NotConforming = omega arith
+
 number-small : (v : Verdict) → numberOf v < 0x100
 number-small (Done n) = omega arith
-number-small NotATable = omega arith
-number-small TooMany = omega arith
-number-small WrongLength = omega arith
-number-small (BadResource r) = omega arith
-number-small (BadDevice d) = omega arith
-number-small (BadObjects d) = omega arith
-number-small BadState = omega arith
-number-small (Inconsistent d) = omega arith
-number-small NoRoom = omega arith
-number-small BadRequest = omega arith
-number-small Unsupported = omega arith
-number-small Shallower = omega arith
-number-small (ParentDeeper p) = omega arith
-number-small (ChildShallower c) = omega arith
-number-small TooDeepToWake = omega arith
-number-small NoWake = omega arith
-number-small WakeUnpowered = omega arith
-number-small BadWakeState = omega arith
-number-small NotConforming = omega arith
+number-small (Refused why at) = reason-small why
 
 reads : (n c p : ℕ) → n < 0x100 → c < 0x1_0000 → ((n + 0x100 * c + 0x100_0000 * p) % 0x100 ≡ n) × ((n + 0x100 * c + 0x100_0000 * p) / 0x100 % 0x1_0000 ≡ c) × ((n + 0x100 * c + 0x100_0000 * p) / 0x100_0000 ≡ p)
 reads n c p h k = (omega arith, omega arith, omega arith)
@@ -49,19 +56,19 @@ pack-is v n c p e f g h =
     (is, rw is (packed-reads v h))
 
 -- ---- what each of the board's functions hands on is small enough, and is its definition's
-pub fits : (v w : Verdict) → v ≡ w → Bounded 4 w → (countOf v < 0x1_0000) × (placeOf v < 0x100_0000_0000)
-fits v w e b = rw e (omega (arith, b .count), omega (arith, b .place))
+pub fits : (t : List ℕ) (v w : Verdict) → v ≡ w → Bounded (width t) w → (countOf v < 0x1_0000) × (placeOf v < 0x100_0000_0000)
+fits t v w e b = let h = width-wide t .high in rw e (omega (arith, b .count), omega (arith, b .place))
 
 pub packs : (v w : Verdict) (r : ℕ) → v ≡ w → (r ≡ packed v) × Reads r v → (r ≡ packed w) × Reads r w
 packs v w r e f = rw (← e) f
 
-pub fresh-fits : (t b : List ℕ) → Bounded 4 (fresh 4 t b .verdict)
+pub fresh-fits : (t b : List ℕ) → Bounded (width t) (fresh t b .verdict)
 unfolding fresh outcome
-fresh-fits t b = fresh-bounded 4 (omega arith) t b
+fresh-fits t b = fresh-bounded t b
 
-pub plan-fits : (t b : List ℕ) (q : Request) (plan : List ℕ) → Bounded 4 (planBytes 4 t b q plan .verdict)
+pub plan-fits : (t b : List ℕ) (q : Request) (plan : List ℕ) → Bounded (width t) (planBytes t b q plan .verdict)
 unfolding planBytes outcome
-plan-fits t b q plan = plan-bounded 4 (omega arith) t b q _ (planned-short t b q)
+plan-fits t b q plan = plan-bounded t b q _ (planned-short t b q)
 
-pub check-fits : (t b : List ℕ) (q : Request) (list : List ℕ) → Bounded 4 (checkBytes 4 t b q list)
-check-fits t b q list = check-bounded 4 (omega arith) t b q list
+pub check-fits : (t b : List ℕ) (q : Request) (list : List ℕ) → Bounded (width t) (checkBytes t b q list)
+check-fits t b q list = check-bounded t b q list

@@ -1,4 +1,5 @@
 // Plans and lists as bytes, four a word, lowest first.
+use rules::Reason;
 use rules::Request;
 use rules::Verdict;
 ghost use mathlib.Core.Path.{_≡_};
@@ -6,10 +7,10 @@ ghost use mathlib.Core.Bool.{_&&_};
 ghost use Prim.Native.Nat.{_*_, _/_, _%_, _≤_};
 ghost use lib.Dec.{eqb};
 ghost use lib.ListN.{length, take};
-ghost use Rattle.rules.specs.Station.{stationOf};
-ghost use Rattle.rules.specs.Status.{statusOf};
+ghost use Rattle.rules.specs.Station.{station};
+ghost use Rattle.rules.specs.Status.{status};
 ghost use Rattle.rules.specs.Check.{conforming};
-ghost use Rattle.planner.specs.After.{Asked};
+ghost use Rattle.request.specs.Permitted.{PermittedRequest};
 ghost use Rattle.rules.specs.Outcomes.{planBytes, checkBytes};
 ghost use Rattle.laws.specs.Demand3.{Demand3Bytes};
 ghost use Rattle.words.specs.Words.{put, wordBytes, byteWords};
@@ -45,26 +46,26 @@ pub fn read_words(from: &[u8], n: usize) -> Calls
 
 // Plans one request on a plan of bytes.
 pub fn plan_bytes(table: &[u8], state: &mut [u8], q: Request, plan: &mut [u8]) -> Verdict
-    ensures { λ r. ⌜ (r ≡ planBytes 4 (now (table .entry)) (now (state .entry)) q (now (plan .entry)) .verdict) × (now (state .exit) ≡ planBytes 4 (now (table .entry)) (now (state .entry)) q (now (plan .entry)) .state) × (now (plan .exit) ≡ planBytes 4 (now (table .entry)) (now (state .entry)) q (now (plan .entry)) .plan) ⌝ }
+    ensures { λ r. ⌜ (r ≡ planBytes (now (table .entry)) (now (state .entry)) q (now (plan .entry)) .verdict) × (now (state .exit) ≡ planBytes (now (table .entry)) (now (state .entry)) q (now (plan .entry)) .state) × (now (plan .exit) ≡ planBytes (now (table .entry)) (now (state .entry)) q (now (plan .entry)) .plan) ⌝ }
 {
     if !table::header_good(table) {
-        return Verdict::NotATable;
+        return Verdict::Refused(Reason::NotATable, 0);
     }
-    let room = plan.len() >= 132;
+    let room = plan.len() >= 4 * planner::plan::room(table);
     let v = request::stages::past_header(table, state, room, q);
     if !rules::passes(v) {
         return v;
     }
     let mut calls = [0u32; 33];
-    let n = planner::plan::carry(table, state, q, &mut calls);
+    let n = planner::plan::write_plan(table, state, q, &mut calls);
     write_words(&calls, n, plan);
     Verdict::Done(n)
 }
 
 // Whether a list of bytes is that of a request which has passed every check.
-fn lawful(table: &[u8], state: &[u8], q: Request, list: &[u8]) -> bool
-    requires { ⌜ Asked (now table) (now state) q ⌝ }
-    ensures { λ r. ⌜ r ≡ eqb (length (now (list .entry)) % 4) 0 && conforming (stationOf 4 (now (table .entry))) (statusOf 4 (now (state .entry))) q (byteWords (length (now (list .entry)) / 4) (now (list .entry))) ⌝ }
+fn conforming(table: &[u8], state: &[u8], q: Request, list: &[u8]) -> bool
+    requires { ⌜ PermittedRequest (now table) (now state) q ⌝ }
+    ensures { λ r. ⌜ r ≡ eqb (length (now (list .entry)) % 4) 0 && conforming (station (now (table .entry))) (status (now (table .entry)) (now (state .entry))) q (byteWords (length (now (list .entry)) / 4) (now (list .entry))) ⌝ }
 {
     if list.len() % 4 != 0 {
         return false;
@@ -79,18 +80,18 @@ fn lawful(table: &[u8], state: &[u8], q: Request, list: &[u8]) -> bool
 
 // The checker on a list of bytes. What it passes keeps demand 3.
 pub fn check_bytes(table: &[u8], state: &[u8], q: Request, list: &[u8]) -> Verdict
-    ensures answer { λ r. ⌜ r ≡ checkBytes 4 (now (table .entry)) (now (state .entry)) q (now (list .entry)) ⌝ }
-    ensures demand { λ _. ⌜ Demand3Bytes 4 (now (table .entry)) (now (state .entry)) q (now (list .entry)) ⌝ }
+    ensures answer { λ r. ⌜ r ≡ checkBytes (now (table .entry)) (now (state .entry)) q (now (list .entry)) ⌝ }
+    ensures demand { λ _. ⌜ Demand3Bytes (now (table .entry)) (now (state .entry)) q (now (list .entry)) ⌝ }
 {
     if !table::header_good(table) {
-        return Verdict::NotATable;
+        return Verdict::Refused(Reason::NotATable, 0);
     }
     let v = request::stages::past_header(table, state, true, q);
     if !rules::passes(v) {
         return v;
     }
-    if !lawful(table, state, q, list) {
-        return Verdict::NotConforming;
+    if !conforming(table, state, q, list) {
+        return Verdict::Refused(Reason::NotConforming, 0);
     }
     Verdict::Done(0)
 }
