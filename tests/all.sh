@@ -33,7 +33,7 @@ proofs() {
   rm -f "$log"
 }
 
-# a program's stored output is what an independent script works out from document 01
+# the program's stored output is what an independent script works out from document 01
 stored_output() {
   python3 tests/bench_expected.py "$1" | diff - "crates/$1/stdout"
 }
@@ -76,7 +76,6 @@ pictures() {
 }
 
 step rt fmt --check
-step stored_output damage
 step stored_output bench
 proofs
 step rt staticlib sailgarnet

@@ -1,0 +1,80 @@
+-- What a line does and answers, by its letter x. Assumes nothing.
+use mathlib.Core.Path.{_≡_, refl, sym, ap, _∙_}
+use mathlib.Core.List.{List}
+use Prim.Native.Nat.{ℕ, _+_}
+use borrow.Author.Tests.{ne-eqb}
+use lib.ListN.{getD}
+use Rattle.rules.specs.declared.Request.{Request}
+use Rattle.bench.specs.Script.{byteAt, requestAt}
+use Rattle.bench.specs.Cases.{more, added, sizeBy, sizeAfter, tableBy, tableAfter, started, moved, stateBy, stateThen}
+use Rattle.bench.specs.Cases.{tableAnswer, stateAnswer, listAnswer, recordLength, seenBy, seen}
+
+of : {A : Type 0} (f : ℕ → A) (x y : ℕ) → x ≡ y → (n : ℕ) (r : A) → x ≡ n → r ≡ f n → r ≡ f y
+of f x y e n r k h = h ∙ ap f (sym k ∙ e)
+
+module _ (l : List ℕ) (x : ℕ) (e : x ≡ getD l 0 0) (size r : ℕ) where
+  pub size-t : x ≡ 0x54 → r ≡ 0 → r ≡ sizeAfter size l
+  unfolding sizeBy
+  size-t k h = of (λ z. sizeBy z size l) x _ e 0x54 r k h
+
+  pub size-plus : x ≡ 0x2b → r ≡ size + more size l → r ≡ sizeAfter size l
+  unfolding sizeBy
+  size-plus k h = of (λ z. sizeBy z size l) x _ e 0x2b r k h
+
+  pub size-same : (x ≡ 0x54 → ⊥) → (x ≡ 0x2b → ⊥) → r ≡ size → r ≡ sizeAfter size l
+  unfolding sizeBy
+  size-same t p h = h ∙ rw (← e) (rw (ne-eqb _ _ t, ne-eqb _ _ p) refl)
+
+module _ (l : List ℕ) (x : ℕ) (e : x ≡ getD l 0 0) (size : ℕ) (b r : List ℕ) where
+  pub table-t : x ≡ 0x54 → r ≡ b → r ≡ tableAfter size l b
+  unfolding tableBy
+  table-t k h = of (λ z. tableBy z size l b) x _ e 0x54 r k h
+
+  pub table-plus : x ≡ 0x2b → r ≡ added size l b → r ≡ tableAfter size l b
+  unfolding tableBy
+  table-plus k h = of (λ z. tableBy z size l b) x _ e 0x2b r k h
+
+  pub table-same : (x ≡ 0x2b → ⊥) → r ≡ b → r ≡ tableAfter size l b
+  unfolding tableBy
+  table-same p h = h ∙ rw (← e) (rw (ne-eqb _ _ p) refl)
+
+module _ (l : List ℕ) (x : ℕ) (e : x ≡ getD l 0 0) (t b r : List ℕ) where
+  pub state-f : x ≡ 0x46 → r ≡ started t → r ≡ stateThen t b l
+  unfolding stateBy
+  state-f k h = of (λ z. stateBy z t b l) x _ e 0x46 r k h
+
+  pub state-q : x ≡ 0x51 → (q : Request) → q ≡ requestAt l 4 → r ≡ moved t b q 132 → r ≡ stateThen t b l
+  unfolding stateBy
+  state-q k q f h = of (λ z. stateBy z t b l) x _ e 0x51 r k (h ∙ rw f refl)
+
+  pub state-p : x ≡ 0x50 → (q : Request) (n : ℕ) → q ≡ requestAt l 4 → n ≡ byteAt l 8 → r ≡ moved t b q n → r ≡ stateThen t b l
+  unfolding stateBy
+  state-p k q n f g h = of (λ z. stateBy z t b l) x _ e 0x50 r k (h ∙ rw (f, g) refl)
+
+  pub state-same : (x ≡ 0x46 → ⊥) → (x ≡ 0x51 → ⊥) → (x ≡ 0x50 → ⊥) → r ≡ b → r ≡ stateThen t b l
+  unfolding stateBy
+  state-same f q p h = h ∙ rw (← e) (rw (ne-eqb _ _ f, ne-eqb _ _ q, ne-eqb _ _ p) refl)
+
+module _ (l : List ℕ) (x : ℕ) (e : x ≡ getD l 0 0) (t whole b : List ℕ) (r : ℕ) where
+  pub seen-d : x ≡ 0x44 → r ≡ tableAnswer whole l → r ≡ seen t whole b l
+  unfolding seenBy
+  seen-d k h = of (λ z. seenBy z t whole b l) x _ e 0x44 r k h
+
+  pub seen-s : x ≡ 0x53 → r ≡ stateAnswer t b l → r ≡ seen t whole b l
+  unfolding seenBy
+  seen-s k h = of (λ z. seenBy z t whole b l) x _ e 0x53 r k h
+
+  pub seen-l : x ≡ 0x4c → r ≡ listAnswer t b l → r ≡ seen t whole b l
+  unfolding seenBy
+  seen-l k h = of (λ z. seenBy z t whole b l) x _ e 0x4c r k h
+
+  pub seen-r : x ≡ 0x52 → r ≡ recordLength t l → r ≡ seen t whole b l
+  unfolding seenBy
+  seen-r k h = of (λ z. seenBy z t whole b l) x _ e 0x52 r k h
+
+  pub not-seen : (x ≡ 0x44 → ⊥) → (x ≡ 0x53 → ⊥) → (x ≡ 0x4c → ⊥) → (x ≡ 0x52 → ⊥) → r ≡ 0 → r ≡ seen t whole b l
+  unfolding seenBy
+  not-seen d s i o h = h ∙ rw (← e) (rw (ne-eqb _ _ d, ne-eqb _ _ s, ne-eqb _ _ i, ne-eqb _ _ o) refl)
+
+pub ruleset letters =
+    (size-t, size-plus, size-same, table-t, table-plus, table-same, state-f, state-q, state-p, state-same, seen-d, seen-s, seen-l, seen-r, not-seen)

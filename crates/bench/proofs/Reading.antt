@@ -1,0 +1,109 @@
+-- What the program's functions lean on: digits, bytes and numbers of a line, bytes set one after another, and the length of a part. Assumes nothing.
+use mathlib.Core.Path.{_≡_, refl, sym, _∙_}
+use mathlib.Core.Bool.{true, false}
+use mathlib.Core.List.{List}
+use Prim.Native.Nat.{ℕ, _+_, _*_, _/_, _%_, _-_, _≤_, _<_, min}
+use native.Mathlib.Nat.{mod-lt, mod-le, mod-zero, mul-le-mul}
+use native.Mathlib.Omega.{arith}
+use native.Mathlib.Numerals.{add-one}
+use lib.ListN.{length, getD, set, take, List·getD-eq-default}
+use lib.Seq.{length-take-le}
+use borrow.Author.Tests.{eq-eqb, ne-eqb}
+use Rattle.rules.specs.Index.{leastFrom}
+use Rattle.rules.proofs.Index.{starts, found, next, done}
+use Rattle.sailgarnet.specs.Packed.{asked}
+use Rattle.bench.specs.Cases.{more, added}
+use Rattle.bench.specs.Script.{endsAt, digitOf, byteAt, numberAt, requestAt, filled}
+
+-- ---- a line
+pub past-end : (l : List ℕ) (i : ℕ) → length l ≤ i → 0 ≡ getD l i 0
+past-end l i h = sym (List·getD-eq-default l 0 h)
+
+pub digit-is : (c x : ℕ) → x ≡ c → (x % 16 + 9 * (x / 64)) % 16 ≡ digitOf c
+unfolding digitOf
+digit-is c x e = rw e refl
+
+pub digit-small : (x : ℕ) → x % 16 < 16
+digit-small x = mod-lt _ (omega arith)
+
+pub byte-is :
+    (l : List ℕ) (i h d x y : ℕ) →
+    x ≡ getD l (3 * i + 2) 0 →
+    y ≡ getD l (3 * i + 3) 0 →
+    h ≡ digitOf x →
+    d ≡ digitOf y →
+    16 * h + d ≡ byteAt l i
+unfolding byteAt
+byte-is l i h d x y e f g k = rw (g, k, e, f) refl
+
+pub number-is :
+    (l : List ℕ) (at high x y a b : ℕ) →
+    a ≡ byteAt l at →
+    b ≡ byteAt l high →
+    x ≡ a →
+    y ≡ b →
+    x + 0x100_0000 * y ≡ numberAt l at high
+unfolding numberAt
+number-is l at high x y a b e f g k = rw (g, k, e, f) refl
+
+pub request-is :
+    (l : List ℕ) (high k d a b : ℕ) →
+    k ≡ numberAt l 0 high →
+    d ≡ numberAt l 1 (high + 1) →
+    a ≡ numberAt l 2 (high + 2) →
+    b ≡ numberAt l 3 (high + 3) →
+    asked k d a b ≡ requestAt l high
+request-is l high k d a b e f g h = rw (e, f, g, h) refl
+
+-- ---- bytes set one after another
+module _ (b l : List ℕ) (at from period : ℕ) where
+  pub fill-starts : b ≡ filled b at l from period 0
+  unfolding filled
+  fill-starts = refl
+
+  pub fill-next :
+      (i t x : ℕ) (r : List ℕ) →
+      r ≡ filled b at l from period i →
+      t ≡ i % period →
+      x ≡ byteAt l (from + t) →
+      set r (at + i) x ≡ filled b at l from period (i + 1)
+  unfolding filled
+  fill-next i t x r e f g = rw add-one (rw (e, g, f) refl)
+
+  pub fill-ends : (i n : ℕ) (r : List ℕ) → r ≡ filled b at l from period i → i ≤ n → n ≤ i → r ≡ filled b at l from period n
+  fill-ends i n r e h k = let q : i ≡ n = omega arith in rw q at e
+
+pub turn-none : (i p : ℕ) → p ≡ 0 → i ≡ i % p
+turn-none i p e = rw e (sym (mod-zero i))
+
+pub turn-small : (i p : ℕ) → i % p ≤ i
+turn-small i p = mod-le i p
+
+pub product-fits : (t p : ℕ) → t < 256 → p ≤ 40 → t * p < 0x1_0000_0000_0000_0000
+product-fits t p h k = let q : t * p ≤ 256 * 40 = mul-le-mul {n₁ = t} {m₁ = p} {n₂ = 256} {m₂ = 40} (omega arith) k in omega (arith, q)
+
+-- ---- `+`, and q, p, t and n as it works them out
+module _ (l b : List ℕ) (size q p t n : ℕ) (e : q ≡ length l / 3 - 1) (f : p ≡ min q 40) (g : t ≡ byteAt l 0) (h : n ≡ min (t * p) (1328 - size)) where
+  pub added-size : size + n ≡ size + more size l
+  added-size = rw (h, f, g, e) refl
+
+  pub added-bytes : (r : List ℕ) → r ≡ filled b size l 1 p n → r ≡ added size l b
+  added-bytes r k = k ∙ rw (h, f, g, e) refl
+
+-- ---- the loop at i finds the end of the line, or goes on
+module _ (t : List ℕ) (i n v : ℕ) (inv : leastFrom (endsAt t) i (n - i) ≡ v) (h : i < n) where
+  pub line-found : getD t i 0 ≡ 10 → i ≡ v
+  unfolding endsAt
+  line-found e = found (endsAt t) i n v true inv h (sym (eq-eqb _ _ e)) refl
+
+  pub line-next : (getD t i 0 ≡ 10 → ⊥) → leastFrom (endsAt t) (i + 1) (n - (i + 1)) ≡ v
+  unfolding endsAt
+  line-next e = next (endsAt t) i n v false inv h (sym (ne-eqb _ _ e)) refl
+
+-- ---- the length of a part
+pub part-long : (n m : ℕ) (l : List ℕ) → length l ≡ m → n ≤ m → n ≡ length (take n l)
+part-long n m l e h = sym (length-take-le n l (omega arith))
+
+pub ruleset reading = (past-end, digit-is, digit-small, byte-is, number-is, request-is, fill-starts, fill-next, fill-ends, turn-none, turn-small, product-fits)
+
+pub ruleset lines = (starts, line-found, line-next, done)

@@ -1,0 +1,14 @@
+-- The part that is lent has the length that its slice says. Assumes nothing.
+use Rattle.bench.proofs.Reading.{part-long}
+use borrow.Author.Needs.{needs}
+use Rattle.bench.proofs.states.plan.Statement.{statement}
+use Rattle.bench.proofs.states.plan.Tie as tie
+
+slice-aggregate-request : tie.Need-slice-aggregate-request
+slice-aggregate-request c = part-long _ 255 _ (search needs) (search needs)
+
+returns : tie.Need-returns
+returns c = (search needs, cc)
+
+pub plan-spec : {M : Type 1} → statement M
+plan-spec = tie.close (tie.spec (λ c. search needs) slice-aggregate-request (λ c κs. search needs) returns)

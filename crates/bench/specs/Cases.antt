@@ -1,0 +1,79 @@
+-- What a line l does to the table and the state, and what it answers. Assumes nothing.
+use Prim.Native.Nat.{ℕ, _+_, _*_, _/_, _-_, min}
+use mathlib.Core.Bool.{cond}
+use mathlib.Core.List.{List, []}
+use lib.Dec.{eqb}
+use lib.ListN.{length, take, replicate, getD, set}
+use Rattle.rules.specs.declared.Request.{Request}
+use Rattle.rules.specs.Rows.{blank}
+use Rattle.rules.specs.Outcomes.{fresh, planBytes, checkBytes, recordPart}
+use Rattle.sailgarnet.specs.Packed.{packed}
+use Rattle.bench.specs.Script.{byteAt, requestAt, filled}
+
+-- ---- T and +: a table, the first bytes of 1328
+
+-- the bytes of the line past its first, 40 at most; as many of them as there is room for
+abbrev pub period : List ℕ → ℕ
+period l = min (length l / 3 - 1) 40
+
+abbrev pub more : ℕ → List ℕ → ℕ
+more size l = min (byteAt l 0 * period l) (1328 - size)
+
+abbrev pub added : ℕ → List ℕ → List ℕ → List ℕ
+added size l b = filled b size l 1 (period l) (more size l)
+
+unfoldable pub sizeBy : ℕ → ℕ → List ℕ → ℕ
+sizeBy letter size l = cond (eqb letter 0x54) 0 (cond (eqb letter 0x2b) (size + more size l) size)
+
+unfoldable pub tableBy : ℕ → ℕ → List ℕ → List ℕ → List ℕ
+tableBy letter size l b = cond (eqb letter 0x2b) (added size l b) b
+
+abbrev pub sizeAfter : ℕ → List ℕ → ℕ
+sizeAfter size l = sizeBy (getD l 0 0) size l
+
+abbrev pub tableAfter : ℕ → List ℕ → List ℕ → List ℕ
+tableAfter size l b = tableBy (getD l 0 0) size l b
+
+-- ---- F, Q and P: a state, of the table t
+
+-- the fresh state, or A5 in every byte
+abbrev pub started : List ℕ → List ℕ
+started t = fresh t (blank 132) .state
+
+-- the state after a request with a plan of n bytes
+abbrev pub moved : List ℕ → List ℕ → Request → ℕ → List ℕ
+moved t b q n = planBytes t b q (take n (blank 255)) .state
+
+unfoldable pub stateBy : ℕ → List ℕ → List ℕ → List ℕ → List ℕ
+stateBy letter t b l =
+    cond (eqb letter 0x46) (started t)
+    (cond (eqb letter 0x51) (moved t b (requestAt l 4) 132) (cond (eqb letter 0x50) (moved t b (requestAt l 4) (byteAt l 8)) b))
+
+abbrev pub stateThen : List ℕ → List ℕ → List ℕ → List ℕ
+stateThen t b l = stateBy (getD l 0 0) t b l
+
+-- ---- D, S, L and R: answers
+
+abbrev pub tableAnswer : List ℕ → List ℕ → ℕ
+tableAnswer whole l = packed (fresh (take (byteAt l 0) (set whole (byteAt l 1) (byteAt l 2))) (take (byteAt l 3) (blank 255)) .verdict)
+
+abbrev pub stateAnswer : List ℕ → List ℕ → List ℕ → ℕ
+stateAnswer t b l = packed (checkBytes t (take (min (byteAt l 4) 132) (set b (min (byteAt l 5) 131) (byteAt l 6))) (requestAt l 4096) [])
+
+-- the bytes of a line past the request
+abbrev pub listGiven : List ℕ → List ℕ
+listGiven l = let n = min (length l / 3 - 4) 1328 in take n (filled (replicate 1328 0) 0 l 4 0 n)
+
+abbrev pub listAnswer : List ℕ → List ℕ → List ℕ → ℕ
+listAnswer t b l = packed (checkBytes t b (requestAt l 4096) (listGiven l))
+
+abbrev pub recordLength : List ℕ → List ℕ → ℕ
+recordLength t l = length (recordPart t (byteAt l 0))
+
+unfoldable pub seenBy : ℕ → List ℕ → List ℕ → List ℕ → List ℕ → ℕ
+seenBy letter t whole b l =
+    cond (eqb letter 0x44) (tableAnswer whole l)
+    (cond (eqb letter 0x53) (stateAnswer t b l) (cond (eqb letter 0x4c) (listAnswer t b l) (cond (eqb letter 0x52) (recordLength t l) 0)))
+
+abbrev pub seen : List ℕ → List ℕ → List ℕ → List ℕ → ℕ
+seen t whole b l = seenBy (getD l 0 0) t whole b l

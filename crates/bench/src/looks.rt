@@ -1,0 +1,65 @@
+// The lines that look at the table and the state, and change neither.
+use crate::print;
+use crate::script;
+use crate::states;
+use crate::states::Image;
+ghost use mathlib.Core.Path.{_≡_};
+ghost use lib.ListN.{length};
+ghost use Rattle.bench.specs.Cases.{tableAnswer, stateAnswer, listAnswer, recordLength, seen};
+
+// `D`: the table's first bytes, with one of them changed, and a fresh state in as many bytes as the line says last.
+fn damaged_table(table: [u8; 1328], line: &[u8]) -> u64
+    requires { ⌜ length table ≡ 1328 ⌝ }
+    ensures { λ r. ⌜ r ≡ tableAnswer table (now (line .entry)) ⌝ }
+{
+    let mut bytes = table;
+    let mut state = [0xa5u8; 255];
+    let n = script::size(line, 0);
+    let room = script::size(line, 3);
+    let at = script::size(line, 1);
+    bytes[at] = script::byte(line, 2);
+    states::fresh(&bytes[..n], &mut state[..room])
+}
+
+// `S`: a request with no calls, for the state's first bytes with one of them changed.
+fn damaged_state(table: &[u8], state: Image, line: &[u8]) -> u64
+    requires { ⌜ length state ≡ 132 ⌝ }
+    ensures { λ r. ⌜ r ≡ stateAnswer (now (table .entry)) state (now (line .entry)) ⌝ }
+{
+    let mut bytes = state;
+    let n = script::within(script::size(line, 4), 132);
+    let at = script::within(script::size(line, 5), 131);
+    bytes[at] = script::byte(line, 6);
+    states::check(table, &bytes[..n], script::request(line, 4096), b"")
+}
+
+// `L`: a request, and a list for it.
+fn list(table: &[u8], state: &[u8], line: &[u8]) -> u64
+    ensures { λ r. ⌜ r ≡ listAnswer (now (table .entry)) (now (state .entry)) (now (line .entry)) ⌝ }
+{
+    let n = script::within(script::past(line.len() / 3, 4), 1328);
+    let mut list = [0u8; 1328];
+    script::fill(&mut list, 0, line, 4, 0, n);
+    states::check(table, state, script::request(line, 4096), &list[..n])
+}
+
+// `R`: the record of a device; answers how many bytes it has.
+fn record(table: &[u8], line: &[u8]) -> usize
+    ensures { λ r. ⌜ r ≡ recordLength (now (table .entry)) (now (line .entry)) ⌝ }
+{
+    print::hex(b":", table::record(table, script::size(line, 0)))
+}
+
+// What such a line answers. `whole` has the table, and the room past it.
+pub fn look(table: &[u8], whole: [u8; 1328], state: Image, line: &[u8]) -> u64
+    requires { ⌜ (length whole ≡ 1328) × (length state ≡ 132) ⌝ }
+    ensures { λ r. ⌜ r ≡ seen (now (table .entry)) whole state (now (line .entry)) ⌝ }
+{
+    match script::letter(line, 0) {
+        b'D' => damaged_table(whole, line),
+        b'S' => damaged_state(table, state, line),
+        b'L' => list(table, &state, line),
+        b'R' => record(table, line) as u64,
+        _ => 0,
+    }
+}
