@@ -1,8 +1,9 @@
 /*
  * Sailgarnet: a proved planner for ACPI power resources (ACPI 6.4, chapter 7).
  *
- * Three functions on numbers and byte buffers. Nothing has to be checked before a call: any bytes for table, state, request and call list get an
- * answer, and a refusal writes nothing. Two things are left to the caller, because no function can see them:
+ * Three functions on numbers and byte buffers. Nothing has to be checked before a call: any bytes for table, state,
+ * request and call list get an answer, and a refusal writes nothing. Two things are left to the caller, because no
+ * function can see them:
  *   - each pointer is valid for the length that is passed with it (a length of 0 reads and writes nothing);
  *   - buffers that are lent in one call do not overlap.
  *
@@ -38,7 +39,7 @@ extern "C" {
 #define SAILGARNET_D3HOT 3u
 #define SAILGARNET_D3COLD 4u
 
-/* Answer numbers. In brackets what the place names; it is 0 where nothing is named. */
+/* Answer numbers, named as in crates/rules. In brackets what the place names; it is 0 where nothing is named. */
 enum sailgarnet_number {
     SAILGARNET_DONE = 0,              /* done; the planner's count is the number of calls */
     SAILGARNET_NOT_A_TABLE = 1,       /* table under 8 bytes, or wrong mark, version or byte 7 */
@@ -58,7 +59,7 @@ enum sailgarnet_number {
     SAILGARNET_TOO_DEEP_TO_WAKE = 15, /* the device is armed, and the target is deeper than its wake state */
     SAILGARNET_NO_WAKE = 16,          /* no _PRW, or the sleep state is above its deepest */
     SAILGARNET_WAKE_UNPOWERED = 17,   /* a _PRW resource has a systemlevel below the sleep state */
-    SAILGARNET_BAD_WAKE_STATE = 18,   /* the wake state is not supported, outside the range, or shallower than the present state */
+    SAILGARNET_BAD_WAKE_STATE = 18,   /* wake state not supported, outside its range, or shallower than the present state */
     SAILGARNET_NOT_CONFORMING = 19    /* checker only: the list is not lawful for the request */
 };
 
@@ -69,16 +70,16 @@ enum sailgarnet_number {
 uint64_t sailgarnet_fresh(const uint8_t *table, size_t table_len, uint8_t *state, size_t state_len);
 
 /*
- * Plans one request. Done: the first 4 * count bytes of `plan` are the calls in their order, four bytes each, the rest of `plan` is as it was, and
- * `state` is the state after the calls. Refused: nothing is written.
+ * Plans one request. Done: the first 4 * count bytes of `plan` are the calls in their order, four bytes each, the rest
+ * of `plan` is as it was, and `state` is the state after the calls. Refused: nothing is written.
  */
 uint64_t sailgarnet_plan(const uint8_t *table, size_t table_len, uint8_t *state, size_t state_len,
                          uint32_t kind, uint32_t device, uint32_t a, uint32_t b,
                          uint8_t *plan, size_t plan_len);
 
 /*
- * Whether a list of calls, four bytes each, is lawful for a request from a state. Writes nothing. Answers 1 to 8, 10 to 18 as the planner does, then 19
- * for a list that is not lawful, else 0.
+ * Whether a list of calls, four bytes each, is lawful for a request from a state. Writes nothing. Answers 1 to 8, 10 to
+ * 18 as the planner does, then 19 for a list that is not lawful, else 0.
  */
 uint64_t sailgarnet_check(const uint8_t *table, size_t table_len, const uint8_t *state, size_t state_len,
                           uint32_t kind, uint32_t device, uint32_t a, uint32_t b,

@@ -179,7 +179,7 @@ impl Subject<'_> {
 
     /// The planner's list, if another one was found not lawful.
     fn planned_instead(&self, answer: Answer) -> String {
-        if answer.verdict() != Some(Verdict::ListNotLawful) {
+        if answer.verdict() != Some(Verdict::NotConforming) {
             return String::new();
         }
         let (_, list, _) = self.plan();

@@ -75,75 +75,76 @@ pub enum Place {
     Device,
 }
 
-/// The meaning of an answer number.
+/// The meaning of an answer number. The names of refusals are those of `Reason`
+/// in the proved planner and of the C header.
 #[derive(Clone, Copy, Debug, PartialEq, Eq, Hash)]
 #[repr(u8)]
 pub enum Verdict {
     /// The request was carried out.
     Done = 0,
     /// The table is too short for a header, or the header is wrong.
-    BadHeader = 1,
+    NotATable = 1,
     /// The table has too many resources or devices.
     TooMany = 2,
     /// The table has the wrong length.
-    BadLength = 3,
+    WrongLength = 3,
     /// A resource record is wrong.
     BadResource = 4,
     /// A field of a device record is wrong.
     BadDevice = 5,
     /// A device breaks an object rule.
-    ObjectRuleBroken = 6,
+    BadObjects = 6,
     /// The state has the wrong length or a value out of its rules.
     BadState = 7,
     /// The state is not sound.
-    StateNotSound = 8,
+    Inconsistent = 8,
     /// There is too little room for the plan.
     NoRoom = 9,
     /// A number of the request is out of range.
     BadRequest = 10,
     /// The device does not have the target state.
-    StateNotSupported = 11,
+    Unsupported = 11,
     /// The target is shallower than the present state and not D0.
-    ShallowerNotD0 = 12,
+    Shallower = 12,
     /// The parent is deeper than the target.
     ParentDeeper = 13,
     /// A child is shallower than the target.
     ChildShallower = 14,
     /// The device is armed, and the target is deeper than its wake state.
-    DeeperThanWake = 15,
+    TooDeepToWake = 15,
     /// The device cannot wake the system from that sleep state.
-    CannotWake = 16,
+    NoWake = 16,
     /// A resource for wake is off in that sleep state.
-    WakeResourceOff = 17,
+    WakeUnpowered = 17,
     /// The device state is not allowed for wake.
-    WakeStateNotAllowed = 18,
+    BadWakeState = 18,
     /// The list is not lawful.
-    ListNotLawful = 19,
+    NotConforming = 19,
 }
 
 impl Verdict {
     /// Every verdict, by number.
     pub const ALL: [Verdict; 20] = [
         Verdict::Done,
-        Verdict::BadHeader,
+        Verdict::NotATable,
         Verdict::TooMany,
-        Verdict::BadLength,
+        Verdict::WrongLength,
         Verdict::BadResource,
         Verdict::BadDevice,
-        Verdict::ObjectRuleBroken,
+        Verdict::BadObjects,
         Verdict::BadState,
-        Verdict::StateNotSound,
+        Verdict::Inconsistent,
         Verdict::NoRoom,
         Verdict::BadRequest,
-        Verdict::StateNotSupported,
-        Verdict::ShallowerNotD0,
+        Verdict::Unsupported,
+        Verdict::Shallower,
         Verdict::ParentDeeper,
         Verdict::ChildShallower,
-        Verdict::DeeperThanWake,
-        Verdict::CannotWake,
-        Verdict::WakeResourceOff,
-        Verdict::WakeStateNotAllowed,
-        Verdict::ListNotLawful,
+        Verdict::TooDeepToWake,
+        Verdict::NoWake,
+        Verdict::WakeUnpowered,
+        Verdict::BadWakeState,
+        Verdict::NotConforming,
     ];
 
     /// The verdict with this number.
@@ -165,8 +166,8 @@ impl Verdict {
         match self {
             Verdict::BadResource => Place::Resource,
             Verdict::BadDevice
-            | Verdict::ObjectRuleBroken
-            | Verdict::StateNotSound
+            | Verdict::BadObjects
+            | Verdict::Inconsistent
             | Verdict::ParentDeeper
             | Verdict::ChildShallower => Place::Device,
             _ => Place::Nothing,
@@ -178,11 +179,11 @@ impl Verdict {
     pub const fn sentence(self) -> &'static str {
         match self {
             Verdict::Done => "done.",
-            Verdict::BadHeader => {
+            Verdict::NotATable => {
                 "the table is shorter than 8 bytes, or its mark, its version or its byte 7 is wrong."
             }
             Verdict::TooMany => "the table has more than 32 resources or more than 32 devices.",
-            Verdict::BadLength => {
+            Verdict::WrongLength => {
                 "the table is not 8 bytes, 4 a resource and 40 a device long."
             }
             Verdict::BadResource => {
@@ -191,14 +192,14 @@ impl Verdict {
             Verdict::BadDevice => {
                 "the record of this device has a field with a value that is not allowed."
             }
-            Verdict::ObjectRuleBroken => {
+            Verdict::BadObjects => {
                 "the objects of this device break a rule: any _PS needs _PS0 and _PS3, any _PR \
                  needs _PR0, with both kinds their masks agree on 0 to 2, and _DSW needs _PRW."
             }
             Verdict::BadState => {
                 "the state is not 132 bytes long, or a value in it is not allowed."
             }
-            Verdict::StateNotSound => {
+            Verdict::Inconsistent => {
                 "the state is not sound: this device is in a state it does not have, is shallower \
                  than its parent, is armed for a wake pair that is not legal or shallower than its \
                  own state, or needs a resource that is off."
@@ -208,8 +209,8 @@ impl Verdict {
                 "the kind, the device or a number of the request is out of range, or an unused \
                  number is not zero."
             }
-            Verdict::StateNotSupported => "the device does not have the state asked for.",
-            Verdict::ShallowerNotD0 => {
+            Verdict::Unsupported => "the device does not have the state asked for.",
+            Verdict::Shallower => {
                 "the state asked for is shallower than the present one and is not D0; a device \
                  first goes to D0."
             }
@@ -219,21 +220,21 @@ impl Verdict {
             Verdict::ChildShallower => {
                 "this device is a child and is in a shallower state than the one asked for."
             }
-            Verdict::DeeperThanWake => {
+            Verdict::TooDeepToWake => {
                 "the device is armed, and the state asked for is deeper than its wake state."
             }
-            Verdict::CannotWake => {
+            Verdict::NoWake => {
                 "the device has no _PRW, or the sleep state is deeper than its _PRW allows."
             }
-            Verdict::WakeResourceOff => {
+            Verdict::WakeUnpowered => {
                 "a resource of _PRW has a system level below the sleep state, so it is off there."
             }
-            Verdict::WakeStateNotAllowed => {
+            Verdict::BadWakeState => {
                 "the device cannot wake the system from that device state: it does not have it, \
                  the state is outside the range for the sleep state, or it is shallower than the \
                  present state."
             }
-            Verdict::ListNotLawful => {
+            Verdict::NotConforming => {
                 "the list is not lawful: it does not have exactly the calls that are due, each \
                  once and in order."
             }
@@ -254,6 +255,54 @@ mod tests {
         for number in 20..=255 {
             assert_eq!(Verdict::from_number(number), None);
         }
+    }
+
+    /// A name in capitals, as the C header writes it.
+    fn capitals(name: &str) -> String {
+        let mut text = String::from("SAILGARNET");
+        for letter in name.chars() {
+            if letter.is_uppercase() {
+                text.push('_');
+            }
+            text.extend(letter.to_uppercase());
+        }
+        text
+    }
+
+    /// The lines of a file from the one after `first` to the next with a brace.
+    fn block<'a>(file: &'a str, first: &str) -> impl Iterator<Item = &'a str> {
+        let (_, rest) = file.split_once(first).expect("the block");
+        rest.lines()
+            .skip(1)
+            .map(str::trim)
+            .take_while(|line| !line.starts_with('}'))
+            .filter(|line| !line.starts_with("//"))
+    }
+
+    #[test]
+    fn the_c_header_has_these_names_and_numbers() {
+        let header = include_str!("../../../include/sailgarnet.h");
+        let found: Vec<String> = block(header, "enum sailgarnet_number")
+            .map(|line| line.split(['/', ',']).next().unwrap_or(line).trim().into())
+            .collect();
+        let expected = Verdict::ALL.map(|verdict| {
+            let name = capitals(&format!("{verdict:?}"));
+            format!("{name} = {}", verdict.number())
+        });
+        assert_eq!(found, expected);
+    }
+
+    #[test]
+    fn the_rules_have_these_names_in_this_order() {
+        let rules = include_str!("../../../crates/rules/src/lib.rt");
+        let found: Vec<String> = block(rules, "pub enum Reason")
+            .map(|line| line.trim_end_matches(',').into())
+            .collect();
+        let expected: Vec<String> = Verdict::ALL[1..]
+            .iter()
+            .map(|verdict| format!("{verdict:?}"))
+            .collect();
+        assert_eq!(found, expected);
     }
 
     #[test]

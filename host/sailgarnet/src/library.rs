@@ -88,7 +88,7 @@ pub fn fresh(table: &[u8], state: &mut [u8]) -> Answer {
 ///
 /// // The device has no D1.
 /// let answer = plan(&table, &mut state, Request::move_to(0, 1), &mut buffer);
-/// assert_eq!(answer.verdict(), Some(Verdict::StateNotSupported));
+/// assert_eq!(answer.verdict(), Some(Verdict::Unsupported));
 /// ```
 #[inline]
 pub fn plan(table: &[u8], state: &mut [u8], request: Request, plan: &mut [u8]) -> Answer {

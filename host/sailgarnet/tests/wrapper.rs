@@ -47,7 +47,7 @@ fn a_plan_is_read_as_calls_and_passes_the_checker() {
     );
     assert!(check(&table, &before, request, list).is_done());
     let shorter = check(&table, &before, request, &list[..8]);
-    assert_eq!(shorter.verdict(), Some(Verdict::ListNotLawful));
+    assert_eq!(shorter.verdict(), Some(Verdict::NotConforming));
 }
 
 #[test]
@@ -68,12 +68,12 @@ fn a_refusal_has_its_place() {
 fn lengths_are_refused_by_the_answer() {
     let (table, mut state) = fresh_bench();
     let request = Request::move_to(CAMERA, D2);
-    assert_eq!(fresh(&[], &mut []).verdict(), Some(Verdict::BadHeader));
+    assert_eq!(fresh(&[], &mut []).verdict(), Some(Verdict::NotATable));
     assert_eq!(fresh(&table, &mut []).verdict(), Some(Verdict::BadState));
     let no_state = plan(&table, &mut [], request, &mut []);
     assert_eq!(no_state.verdict(), Some(Verdict::BadState));
     let no_room = plan(&table, &mut state, request, &mut [0; PLAN_BYTES - 1]);
     assert_eq!(no_room.verdict(), Some(Verdict::NoRoom));
     let odd_list = check(&table, &state, request, &[3, 1, 2]);
-    assert_eq!(odd_list.verdict(), Some(Verdict::ListNotLawful));
+    assert_eq!(odd_list.verdict(), Some(Verdict::NotConforming));
 }
