@@ -11,3 +11,7 @@ pub mod Execution
 pub mod Check
 pub mod Outcomes
 pub mod Rows
+pub mod Holds
+pub mod OwnStation
+pub mod Damaged
+pub mod OwnRows

@@ -1,0 +1,121 @@
+-- What a row of requests must meet: the planner, the checker, a fresh state and a device's record, on bytes and on words, and the list carried out.
+-- Assumes nothing.
+use Prim.Native.Nat.{ℕ, suc, _-_, _*_, _/_, _%_}
+use mathlib.Core.Bool.{Bool, true, false, _&&_, not, cond}
+use mathlib.Core.List.{List, [], _∷_, _++_, map, reverse}
+use lib.ListN.{length, replicate, take, drop}
+use lib.Dec.{eqb, leb}
+use Rattle.sets.specs.Sets.{member}
+use Rattle.words.specs.Words.{byteWords}
+use Rattle.rules.specs.declared.Request.{Request}
+use Rattle.rules.specs.declared.Verdict.{Verdict}
+use Rattle.rules.specs.declared.OptionalCall.{OptionalCall}
+use Rattle.rules.specs.declared.OptionalCall.the-variants.{Is, NoCall}
+use Rattle.rules.specs.Index.{every}
+use Rattle.rules.specs.Answers.{numberOf, placeOf, countOf}
+use Rattle.rules.specs.declared.Change.{Change}
+use Rattle.rules.specs.Station.{Station, countR, station}
+use Rattle.rules.specs.Status.{status, entryBytes}
+use Rattle.rules.specs.Calls.{wordOf, callOf, listOf, rising, arrange, changeOf}
+use Rattle.rules.specs.Execution.{execution}
+use Rattle.rules.specs.Outcomes.{Outcome, fresh, planWords, planBytes, checkWords, checkBytes, recordPart}
+use Rattle.rules.specs.Rows.{bytes, blank, Start, freshIn, given, Answer, Listed, Row}
+
+-- two lists are equal
+unfoldable pub same : List ℕ → List ℕ → Bool
+same [] [] = true
+same [] (y ∷ r) = false
+same (x ∷ l) [] = false
+same (x ∷ l) (y ∷ r) = eqb x y && same l r
+
+-- four bytes a word
+abbrev pub wordsIn : List ℕ → List ℕ
+wordsIn list = byteWords (length list / 4) list
+
+-- an answer has this number, place and count
+unfoldable pub answers : Verdict → ℕ → ℕ → ℕ → Bool
+answers v number place count = eqb (numberOf v) number && eqb (placeOf v) place && eqb (countOf v) count
+
+-- making a fresh state gives the row's answer if that is 1 to 7, else 0
+unfoldable pub freshAnswers : List ℕ → Start → Answer → Bool
+freshAnswers t (given b) a = true
+freshAnswers t (freshIn n) a =
+    cond (leb (a .number) 7) (answers (fresh t (blank n) .verdict) (a .number) (a .place) 0) (answers (fresh t (blank n) .verdict) 0 0 0)
+
+-- the state to start from
+unfoldable pub startOf : List ℕ → Start → List ℕ
+startOf t (given b) = b
+startOf t (freshIn n) = fresh t (blank n) .state
+
+-- the state after requests that are all accepted; an empty list if one is not
+unfoldable pub stateOf : List ℕ → List ℕ → List Request → List ℕ
+stateOf t b [] = b
+stateOf t b (q ∷ qs) = let o = planBytes t b q (blank 132) in stateOf t (cond (eqb (numberOf (o .verdict)) 0) (o .state) []) qs
+
+-- the state afterwards: zeros between the entries and the on-set; as it was lent if the request is refused
+unfoldable pub endState : List ℕ → Answer → List ℕ
+endState b a = cond (eqb (a .number) 0) (a .entries ++ replicate (128 - length (a .entries)) 0 ++ reverse (bytes 4 (a .on))) b
+
+-- an outcome is what the row says: number, place, count, every byte of the state and, of the lent plan, the calls at its front and the rest as it was
+unfoldable pub leaves : Outcome → Answer → List ℕ → List ℕ → List ℕ → Bool
+leaves o a calls state plan =
+    answers (o .verdict) (a .number) (a .place) (length (a .calls) / 4) && same (o .state) state && same (o .plan) (calls ++ drop (length calls) plan)
+
+-- a word is read as the call with this word; one that is no call, as nothing
+unfoldable pub wordRead : OptionalCall → List ℕ
+wordRead (Is c) = wordOf c ∷ []
+wordRead NoCall = []
+
+unfoldable pub wordsRead : List ℕ → List ℕ
+wordsRead [] = []
+wordsRead (w ∷ ws) = wordRead (callOf w) ++ wordsRead ws
+
+-- two tests agree
+unfoldable pub agree : Bool → Bool → Bool
+agree a b = cond a b (not b)
+
+-- what the request does, as one value, is the device's new entry, the on-set afterwards and the row's words
+unfoldable pub changes : Station → Change → ℕ → Answer → Bool
+changes s c d a =
+    same (entryBytes (c .entry)) (take 4 (drop (4 * d) (a .entries)))
+    && eqb (c .needed) (a .on)
+    && same (map wordOf (arrange (c .last) (listOf (c .own)) (rising s (c .on)) (reverse (rising s (c .off))))) (wordsIn (a .calls))
+
+-- the row's words, each a call, carried out from the on-set before: every resource ends as the row's on-set has it
+unfoldable pub carried : List ℕ → List ℕ → Answer → Bool
+carried t b a =
+    let ws = wordsIn (a .calls) in
+    same (wordsRead ws) ws && every (λ r. agree (execution (member (status t b .on)) ws r) (member (a .on) r)) (countR t)
+
+-- the checker of bytes, and of words if they are whole: number, place and count of its answer to a list
+unfoldable pub checks : List ℕ → List ℕ → Request → List ℕ → ℕ → ℕ → Bool
+checks t b q list number place =
+    answers (checkBytes t b q list) number place 0 && cond (eqb (length list % 4) 0) (answers (checkWords t b q (wordsIn list)) number place 0) true
+
+unfoldable pub checksAll : List ℕ → List ℕ → Request → List Listed → Bool
+checksAll t b q [] = true
+checksAll t b q (l ∷ ls) = checks t b q (l .list) (l .number) 0 && checksAll t b q ls
+
+-- the last request, from state b and with a plan of n bytes: the planner of bytes and of words, the checker of the row's calls and of the other lists,
+-- the record that is handed out; where it is done, the list carried out, and the request as one value
+unfoldable pub holdsFrom : List ℕ → List ℕ → Request → ℕ → Answer → Row → Bool
+holdsFrom t b q n a r =
+    leaves (planBytes t b q (blank n)) a (a .calls) (endState b a) (blank n)
+    && leaves (planWords t b q (blank (n / 4))) a (wordsIn (a .calls)) (endState b a) (blank (n / 4))
+    && checks t b q (a .calls) (a .checked) (a .place)
+    && checksAll t b q (r .lists)
+    && same (recordPart t (q .device)) (r .part)
+    && cond (eqb (a .number) 0) (carried t b a && changes (station t) (changeOf (station t) (status t b) q) (q .device) a) true
+
+unfoldable pub holdsIn : List ℕ → Row → Bool
+holdsIn t r =
+    freshAnswers t (r .lent .start) (r .answer)
+    && holdsFrom t (stateOf t (startOf t (r .lent .start)) (r .lent .before)) (r .asked) (r .lent .room) (r .answer) r
+
+abbrev pub holds : Row → Bool
+holds r = holdsIn (r .lent .table) r
+
+-- the places, counted from i, of the rows that fail
+unfoldable pub wrong : ℕ → List Row → List ℕ
+wrong i [] = []
+wrong i (r ∷ rs) = cond (holds r) (wrong (suc i) rs) (i ∷ wrong (suc i) rs)
