@@ -14,7 +14,7 @@ unfoldable pub All : {A : Type 0} → (A → Type 0) → List A → Type 0
 All P [] = Unit {0}
 All P (x ∷ l) = P x × All P l
 
--- neither `_ON` nor `_OFF`, by its lowest byte
+-- neither `_ON` nor `_OFF`: its lowest byte is above 2
 abbrev pub Other : ℕ → Type 0
 Other w = 3 ≤ w % 0x100
 

@@ -22,11 +22,12 @@ use Rattle.rules.specs.Request.{isMove, isArm, newEntry, entriesAfter}
 abbrev pub word4 : ℕ → ℕ → ℕ → ℕ → ℕ
 word4 a b c d = a + 0x100 * b + 0x1_0000 * c + 0x100_0000 * d
 
--- 1, r, 0, 0 for `_ON`; 2, r, 0, 0 for `_OFF`; 3, d, x, 0 for `_PSx`; 4, d, S, 128 + D for `_DSW` on; 4, d, 0, 0 for `_DSW` off
+-- 4, d, S, 128 + D for `_DSW` on; 4, d, 0, 0 for `_DSW` off
 abbrev pub wakeWord : ℕ → Wake → ℕ
 wakeWord d (Enable s x) = word4 4 d s (128 + x)
 wakeWord d Disable = word4 4 d 0 0
 
+-- 1, r, 0, 0 for `_ON`; 2, r, 0, 0 for `_OFF`; 3, d, x, 0 for `_PSx`
 abbrev pub wordOf : Call → ℕ
 wordOf (ResourceOn r) = word4 1 r 0 0
 wordOf (ResourceOff r) = word4 2 r 0 0
@@ -137,7 +138,7 @@ calls s st q = arrange (ownLast q) (listOf (ownCall s (st .entries (q .device)) 
 unfoldable pub statusAfter : Station → Status → Request → Status
 statusAfter s st q = record { entries = entriesAfter (st .entries) q; on = endSet s (st .entries) q }
 
--- the same as one value
+-- all that a request does as one value: the new entry, the set needed afterwards, what to turn on and off, the own call and whether it comes last
 abbrev pub changeOf : Station → Status → Request → Change
 changeOf s st q =
     record {

@@ -1,4 +1,4 @@
--- Document 01, the functions that the board calls: fresh, plan, check and a device's record, each as a total function of all that it is lent. Assumes nothing.
+-- Document 01: fresh, plan and check, which the board calls, and a device's record, each as a total function of all that it is lent. Assumes nothing.
 use Prim.Native.Nat.{ℕ, _+_, _*_, _/_, _%_}
 use mathlib.Core.Bool.{Bool, true, cond, _&&_}
 use mathlib.Core.List.{List, [], _∷_, map}
@@ -42,7 +42,7 @@ requestStage t b q = requestVerdict (station t) (status t b .entries) q
 unfoldable pub stagesVerdict : Bool → List ℕ → List ℕ → Request → Verdict
 stagesVerdict room t b q = firstOf (tableVerdict t ∷ stateVerdict t b ∷ unless room NoRoom 0 ∷ requestStage t b q ∷ []) (Done 0)
 
--- the words of a plan: one for each resource, and the own call
+-- the words that a plan must have room for: one for each resource that there can be, and the own call
 abbrev pub planRoom : ℕ → ℕ
 planRoom w = limit w + 1
 

@@ -46,8 +46,8 @@ neededBelow s entries (suc n) = union (neededBelow s entries n) (needs s n (entr
 unfoldable pub needed : Station → (ℕ → Entry) → ℕ
 needed s entries = neededBelow s entries (s .devices)
 
--- the wake range: `_SxD` to `_SxW`; only `_SxD`, that state alone; only `_SxW`, 0 to it; neither, empty.
--- It is empty too for an `_SxD` or `_SxW` that no table holds, and no state above 4 is in it
+-- the wake range: both present, `_SxD` to `_SxW`; only `_SxD`, that state alone; only `_SxW`, 0 to it; neither, empty.
+-- It is empty too for an `_SxD` or `_SxW` that no accepted table holds, and no state above 4 is in it
 unfoldable pub wakeRange : ℕ → ℕ → ℕ → Bool
 wakeRange sxd sxw x =
     cond (eqb sxd absent) (cond (eqb sxw absent) false (leb sxw 4 && leb x sxw))

@@ -75,7 +75,7 @@ kindVerdict s entries q =
 unfoldable pub requestVerdict : Station → (ℕ → Entry) → Request → Verdict
 requestVerdict s entries q = firstOf (unless (formGood s q) BadRequest 0 ∷ kindVerdict s entries q ∷ []) (Done 0)
 
--- a move changes the state, arming writes the pair, disarming zeroes it
+-- a move changes the state, arming writes the pair, any other kind is disarming and zeroes it
 unfoldable pub newEntry : Entry → Request → Entry
 newEntry e q =
     cond (isMove q) (record { state = q .a; armed = e .armed; sleep = e .sleep; wake = e .wake })

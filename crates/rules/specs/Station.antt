@@ -1,6 +1,6 @@
 -- Document 01, "Power table", first part: what the bytes of a table say, as a station of numbered resources and devices.
--- Sets take w bytes each, and w fixes all sizes; the table says its own w. The rules of Power, Request and Calls
--- speak of the station alone, of no bytes and no widths. Assumes nothing.
+-- Sets take w bytes each, and w fixes all sizes; `width` is a table's. The rules of Power, Request and Calls
+-- speak of stations, entries and words, of no layout and no width. Assumes nothing.
 use Prim.Native.Nat.{ℕ, _+_, _*_, _%_, _≤_}
 use mathlib.Core.Path.{_≡_}
 use mathlib.Core.Bool.{Bool, cond}
@@ -47,7 +47,7 @@ absent = 255
 unfoldable pub width : List ℕ → ℕ
 width t = 4
 
--- a width that a table can have, 4 or 8, in facts that add up
+-- a width of 4, or of 8 for larger sets, as facts on numbers
 pub record Wide (w : ℕ) : Type 0 where
   pub low : 4 ≤ w
   pub high : w ≤ 8
@@ -106,7 +106,7 @@ stationOf w t =
       device = below (countD t) noDevice (λ d. deviceAt w t (deviceStart w t d));
     }
 
--- the station that a table says, read with its own width
+-- the station that a table says, read with its width
 abbrev pub station : List ℕ → Station
 station t = stationOf (width t) t
 

@@ -44,7 +44,7 @@ entriesOf w b = below (limit w) noEntry (λ k. entryAt b (4 * k))
 unfoldable pub statusOf : ℕ → List ℕ → Status
 statusOf w b = record { entries = entriesOf w b; on = readLE w b (entriesSize w) }
 
--- the entries and the whole status that an image says of a table's station
+-- the entries and the whole status of an image, read with a table's width
 abbrev pub entries : List ℕ → List ℕ → ℕ → Entry
 entries t b = entriesOf (width t) b
 
@@ -100,7 +100,7 @@ powered s st d = subset (needs s d (st .entries d)) (st .on)
 unfoldable pub consistent : Station → Status → ℕ → Bool
 consistent s st d = consistentButPower s (st .entries) d && powered s st d
 
--- 7 of a status with n entries: a value out of its rules
+-- no value of a status with n entries is out of its rules; else 7
 unfoldable pub valuesGood : ℕ → Station → Status → Bool
 valuesGood n s st = entriesGood n s (st .entries) && onGood s (st .on)
 

@@ -112,7 +112,7 @@ objectsGood v =
     && (eqb (v .ps) 0 || eqb (v .pr) 0 || eqb (v .ps % 8) (v .pr % 8))
     && (not (hasDSW v) || hasPRW v)
 
--- 5 or 6 of one device, 5 first
+-- 5 or 6 of a device that is not good, 5 first
 unfoldable pub deviceRefusal : List ℕ → ℕ → Verdict
 deviceRefusal t d = Refused (cond (fieldsGood t d) BadObjects BadDevice) d
 
