@@ -1,13 +1,12 @@
 -- A state, its image and its status say the same: what is loaded and stored, and what a fresh state says. Assumes nothing.
 use mathlib.Core.Path.{_≡_, refl, sym, ap, _∙_, fun-ext}
-use mathlib.Core.Bool.{cond}
 use mathlib.Core.List.{List, [], _∷_, _++_}
 use Prim.Native.Nat.{ℕ, zero, suc, _+_, _*_, _≤_, _<_}
 use native.Mathlib.Nat.{add-zero}
 use native.Mathlib.Numerals.{towards-suc}
 use native.Mathlib.Omega.{arith}
-use borrow.Author.Tests.{eq-eqb, ne-eqb, ltb-true, ltb-false}
-use lib.Dec.{eqb, ltb}
+use borrow.Author.Tests.{ltb-true, ltb-false}
+use lib.Dec.{ltb}
 use lib.ListN.{length, getD, take, drop, replicate, length-append, length-replicate, getD-replicate, drop-of-length-le}
 use lib.Seq.{length-take-le, take-all, getD-take, drop-cons}
 use Rattle.sets.specs.Sets.{firstN}
@@ -65,13 +64,6 @@ on-read t b w v e q = q ∙ ap (λ (n : ℕ). readLE 4 b (32 * n)) e
 pub on-inside : (t b : List ℕ) (w : ℕ) → w ≡ width t → length b ≡ imageSize (width t) → 32 * w + 4 ≤ length b
 unfolding width
 on-inside t b w e h = omega arith
-
--- an entry, or another in its place
-pub other-entry : (i d : ℕ) (e f : Entry) → i ≡ d → e ≡ cond (eqb i d) e f
-other-entry i d e f h = rw (eq-eqb i d h) refl
-
-pub own-entry : (i d : ℕ) (e f g : Entry) → (i ≡ d → ⊥) → g ≡ f → g ≡ cond (eqb i d) e f
-own-entry i d e f g h q = rw (ne-eqb i d h) q
 
 -- ---- what is loaded
 
@@ -145,4 +137,4 @@ pub fresh-image : (t : List ℕ) → storeState (freshState (station t .resource
 unfolding width freshState
 fresh-image t = sym (image-of (freshState (station t .resources)) (length-replicate {A = ℕ} 128 0)) ∙ ap (imageOf 4) (fresh-status (station t))
 
-pub ruleset held = (entry-read, entry-is, on-read, on-inside, other-entry, own-entry, loaded, stored, fresh-is)
+pub ruleset held = (entry-read, entry-is, on-read, on-inside, loaded, stored, fresh-is)

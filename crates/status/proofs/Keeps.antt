@@ -1,4 +1,4 @@
--- A device's consistency by its parts, and the needed set by its turns: one law for each way out of the code that tests or sums them.
+-- A device's consistency by its parts: one law for each way out of the code that tests them.
 -- Assumes nothing.
 use mathlib.Core.Path.{_≡_, refl, ap, _∙_}
 use mathlib.Core.Bool.{Bool, true, false, not, cond, _&&_, _||_}
@@ -19,10 +19,8 @@ use Rattle.rules.specs.Station.{Station, width, limit, countD, stationOf, stati
 use Rattle.rules.specs.Table.{parentGood}
 use Rattle.rules.specs.Power.{supported, needs, neededBelow, needed, wakePair}
 use Rattle.rules.specs.Status.{Status, entryAt, entries, entryGood, entriesGood, parentAllows, wakeConsistent, consistentButPower, powered, consistent, consistencyVerdict}
-use Rattle.rules.specs.Request.{replaceEntry}
 use Rattle.rules.proofs.Index.{every-at}
 use Rattle.laws.proofs.Tests.{both-true, or-cases}
-use Rattle.table.specs.Layout.{WellSized}
 use Rattle.status.specs.Ready.{Ready, statusWith}
 use Rattle.status.proofs.Held.{entry-in, entry-is}
 use Rattle.status.proofs.Loops.{Looking, lowest-found, lowest-all}
@@ -136,29 +134,4 @@ module _ (s : Station) (st : Status) (n i : ℕ) (look : Looking (consistent s s
   unfolding consistencyVerdict
   consistent-all h = lowest-all (consistent s st) n i (Refused Inconsistent) look h ∙ ap (λ (k : ℕ). lowest (λ j. not (consistent s st j)) k (Refused Inconsistent)) all
 
--- ---- the needed set, device d's entry being e
-below-limit : (t : List ℕ) (i : ℕ) → WellSized t → i < station t .devices → i < limit (width t)
-unfolding stationOf
-below-limit t i z l = omega (arith, z .devices)
-
-module _ (t b : List ℕ) (d : ℕ) (e : Entry) where
-  abbrev replaced : ℕ → Entry
-  replaced = replaceEntry (entries t b) d e
-
-  pub need-none : 0 ≡ neededBelow (station t) (replaceEntry (entries t b) d e) 0
-  unfolding neededBelow
-  need-none = refl
-
-  pub need-next : (i n a m r : ℕ) (f : Entry) → a ≡ neededBelow (station t) (replaceEntry (entries t b) d e) i → WellSized t → n ≡ station t .devices → i < n → f ≡ cond (eqb i d) e (entryAt b (4 * i))
-      → m ≡ needs (station t) i f → r ≡ union a m → r ≡ neededBelow (station t) (replaceEntry (entries t b) d e) (i + 1)
-  unfolding neededBelow
-  need-next i n a m r f p z v l q g k =
-      let same : f ≡ replaced i = q ∙ (unfold replaceEntry in rw (entry-in (width t) b i (below-limit t i z (rw v at l))) refl) in
-      k ∙ rw (add-one i, p, g, same) refl
-
-  pub need-all : (i n a : ℕ) → a ≡ neededBelow (station t) (replaceEntry (entries t b) d e) i → n ≡ station t .devices → i ≤ n → n ≤ i
-      → a ≡ needed (station t) (replaceEntry (entries t b) d e)
-  unfolding needed
-  need-all i n a p q g h = p ∙ ap (neededBelow (station t) replaced) (omega arith)
-
-pub ruleset turn-laws = (devices-are, inconsistent, consistent-all, need-none, need-next, need-all)
+pub ruleset turn-laws = (devices-are, inconsistent, consistent-all)

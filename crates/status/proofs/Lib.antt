@@ -4,3 +4,4 @@ pub mod Ranges
 pub mod Loops
 pub mod Keeps
 pub mod Chains
+pub mod NeededLaws

@@ -1,38 +1,37 @@
 // The needed set: what the devices need, all together.
 use rules::Entry;
 ghost use mathlib.Core.Path.{_≡_};
-ghost use mathlib.Core.Bool.{cond};
-ghost use Prim.Native.Nat.{_+_, _*_, _≤_};
-ghost use lib.Dec.{eqb};
+ghost use Prim.Native.Nat.{_-_, _<_, _≤_};
 ghost use lib.ListN.{length};
-ghost use Rattle.rules.specs.Station.{width, station};
+ghost use Rattle.rules.specs.Station.{width, countD, station};
 ghost use Rattle.rules.specs.Power.{needed};
-ghost use Rattle.rules.specs.Status.{entryAt, entriesSize, entries};
+ghost use Rattle.rules.specs.Status.{entriesSize, entries};
 ghost use Rattle.rules.specs.Request.{replaceEntry};
 ghost use Rattle.table.specs.Layout.{WellSized};
+ghost use Rattle.status.specs.Needs.{neededFrom};
 
-// Device i's entry, or e where i is d.
-fn entry_or(devices: &[u8], i: usize, d: usize, e: Entry) -> Entry
-    requires { ⌜ 4 * i + 4 ≤ length (now devices) ⌝ }
-    ensures { λ r. ⌜ r ≡ cond (eqb i d) e (entryAt (now (devices .entry)) (4 * i)) ⌝ }
+// A set with what the devices from one number up to another need.
+fn needed_from(table: &[u8], devices: &[u8], set: u32, from: usize, end: usize) -> u32
+    requires { ⌜ WellSized (now table) × (entriesSize (width (now table)) ≤ length (now devices)) × (end ≤ countD (now table)) ⌝ }
+    ensures { λ r. ⌜ r ≡ neededFrom (station (now (table .entry))) (entries (now (table .entry)) (now (devices .entry))) set from (end - from) ⌝ }
 {
-    if i == d {
-        return e;
-    }
-    crate::image::entry(devices, i)
-}
-
-// The union of what each device needs with its entry, device d's being e: so no caller writes an entry to learn what it would need.
-pub fn needed_with(table: &[u8], devices: &[u8], d: usize, e: Entry) -> u32
-    requires { ⌜ WellSized (now table) × (entriesSize (width (now table)) ≤ length (now devices)) ⌝ }
-    ensures { λ r. ⌜ r ≡ needed (station (now (table .entry))) (replaceEntry (entries (now (table .entry)) (now (devices .entry))) d e) ⌝ }
-{
-    let n = table::fields::devices(table);
-    let mut all: u32 = 0;
-    let mut i = 0;
-    while i < n {
-        all = sets::union(all, power::needs(table, i, entry_or(devices, i, d, e)));
+    let mut all = set;
+    let mut i = from;
+    while i < end {
+        let e = crate::image::entry(devices, i);
+        all = sets::union(all, power::needs(table, i, e));
         i += 1;
     }
     all
+}
+
+// The union of what each device needs with its entry, device d's being e: so no caller writes an entry to learn what it would need. The devices
+// before d and after it go by turns of their own, so that no turn asks which device it is at.
+pub fn needed_with(table: &[u8], devices: &[u8], d: usize, e: Entry) -> u32
+    requires { ⌜ WellSized (now table) × (entriesSize (width (now table)) ≤ length (now devices)) × (d < countD (now table)) ⌝ }
+    ensures { λ r. ⌜ r ≡ needed (station (now (table .entry))) (replaceEntry (entries (now (table .entry)) (now (devices .entry))) d e) ⌝ }
+{
+    let before = needed_from(table, devices, 0, 0, d);
+    let with = sets::union(before, power::needs(table, d, e));
+    needed_from(table, devices, with, d + 1, table::fields::devices(table))
 }
