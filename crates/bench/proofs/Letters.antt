@@ -1,4 +1,4 @@
--- What a line does and answers, by its letter x. Assumes nothing.
+-- What a line does and answers, by its letter x.
 use mathlib.Core.Path.{_≡_, refl, sym, ap, _∙_}
 use mathlib.Core.List.{List}
 use Prim.Native.Nat.{ℕ, _+_}

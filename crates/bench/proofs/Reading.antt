@@ -1,4 +1,4 @@
--- What the program's functions lean on: digits, bytes and numbers of a line, bytes set one after another, and the length of a part. Assumes nothing.
+-- What the program's functions lean on: digits, bytes and numbers of a line, bytes set one after another, and the length of a part.
 use mathlib.Core.Path.{_≡_, refl, sym, _∙_}
 use mathlib.Core.Bool.{true, false}
 use mathlib.Core.List.{List}

@@ -1,4 +1,4 @@
--- What a line l does to the table and the state, and what it answers. Assumes nothing.
+-- What a line l does to the table and the state, and what it answers.
 use Prim.Native.Nat.{ℕ, _+_, _*_, _/_, _-_, min}
 use mathlib.Core.Bool.{cond}
 use mathlib.Core.List.{List, []}

@@ -1,4 +1,4 @@
--- What a line of the script says. Assumes nothing.
+-- What a line of the script says.
 use Prim.Native.Nat.{ℕ, zero, suc, _+_, _*_, _/_, _%_}
 use mathlib.Core.Bool.{Bool}
 use mathlib.Core.List.{List}

@@ -1,4 +1,4 @@
--- Words and calls: what each way out of the functions that read and make a word says. Assumes nothing.
+-- Words and calls: what each way out of the functions that read and make a word says.
 use mathlib.Core.Path.{_≡_, refl, _∙_}
 use mathlib.Core.Bool.{and-false}
 use Prim.Native.Nat.{ℕ, _+_, _-_, _≤_, _<_}

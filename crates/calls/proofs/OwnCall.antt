@@ -1,4 +1,4 @@
--- The device's own call: what each way out of the functions that make it says. Assumes nothing.
+-- The device's own call: what each way out of the functions that make it says.
 use mathlib.Core.Path.{_≡_, refl, sym, _∙_}
 use mathlib.Core.Bool.{Bool, true, false, not, and-false, or-false}
 use mathlib.Core.List.{List}

@@ -1,4 +1,4 @@
--- The word that switches a resource, both ways. Assumes nothing.
+-- The word that switches a resource, both ways.
 use mathlib.Core.Path.{_≡_}
 use mathlib.Core.Bool.{Bool, true, false}
 use Prim.Native.Nat.{ℕ}

@@ -1,4 +1,4 @@
--- The two words that switch a resource as one thing, with a flag. Assumes nothing.
+-- The two words that switch a resource as one thing, with a flag.
 use Prim.Native.Nat.{ℕ}
 use mathlib.Core.Bool.{Bool, cond}
 use Rattle.rules.specs.Check.{onWord, offWord}

@@ -1,4 +1,4 @@
--- The checker whole: its walk is the test of the rules, and its answer that of the checks before and then 19. Assumes nothing.
+-- The checker whole: its walk is the test of the rules, and its answer that of the checks before and then 19.
 use mathlib.Core.Path.{_≡_, sym, ap, _∙_}
 use mathlib.Core.Bool.{Bool, true, false, not, _&&_}
 use mathlib.Core.List.{List, [], _∷_}

@@ -1,4 +1,4 @@
--- One phase of the checker: the order of two resources, what may come next, and how a turn of the loop shortens `takePhase`. Assumes nothing.
+-- One phase of the checker: the order of two resources, what may come next, and how a turn of the loop shortens `takePhase`.
 use mathlib.Core.Path.{_≡_, refl, sym, ap, _∙_}
 use mathlib.Core.Bool.{Bool, true, false, not, _||_}
 use mathlib.Core.List.{List}

@@ -1,4 +1,4 @@
--- A word that is decoded to a call which switches a resource is the word that switches it, and the other way round. Assumes nothing.
+-- A word that is decoded to a call which switches a resource is the word that switches it, and the other way round.
 use mathlib.Core.Path.{_≡_, refl, sym, ap, _∙_}
 use mathlib.Core.Bool.{Bool, true, false}
 use Prim.Native.Nat.{ℕ, _<_}

@@ -1,4 +1,4 @@
--- A whole list from its phases: a phase that is refused ends it, and what the last leaves must be nothing. Assumes nothing.
+-- A whole list from its phases: a phase that is refused ends it, and what the last leaves must be nothing.
 use mathlib.Core.Path.{_≡_, refl, sym, ap, _∙_}
 use mathlib.Core.Bool.{Bool, true, false, not}
 use mathlib.Core.List.{List, [], _∷_}

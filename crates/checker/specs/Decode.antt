@@ -1,4 +1,4 @@
--- What a decoded word switches. Assumes nothing.
+-- What a decoded word switches.
 use mathlib.Core.Bool.{Bool, cond}
 use Rattle.rules.specs.declared.Call.{Call}
 use Rattle.rules.specs.declared.Call.the-variants.{ResourceOn, ResourceOff, SetState, SetWake}

@@ -1,4 +1,4 @@
--- The checker's phases over a list and a place in it, in terms of the test `conforming`. Assumes nothing.
+-- The checker's phases over a list and a place in it, in terms of the test `conforming`.
 use Prim.Native.Nat.{ℕ, _≤_}
 use mathlib.Core.Path.{_≡_}
 use mathlib.Core.Bool.{Bool, true, false, not, cond, _&&_, _||_}

@@ -1,5 +1,4 @@
 -- What an accepted table gives: its counts and length, and of each resource and device every rule of document 01's table, read off the station.
--- Assumes nothing.
 use mathlib.Core.Path.{_≡_, refl, sym, _∙_}
 use mathlib.Core.Bool.{true, false}
 use mathlib.Core.List.{List, [], _∷_, _++_}

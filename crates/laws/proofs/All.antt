@@ -1,4 +1,4 @@
--- What holds of every element of a list, and how it passes to parts, joins and single elements. Assumes nothing.
+-- What holds of every element of a list, and how it passes to parts, joins and single elements.
 use mathlib.Core.List.{List, [], _∷_, _++_, map}
 use Prim.Native.Nat.{ℕ, zero, suc, _+_, _≤_, _<_}
 use native.Mathlib.Omega.{arith}

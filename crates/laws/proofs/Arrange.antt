@@ -1,5 +1,4 @@
 -- A list that conforms is arranged: own call, ONs, OFFs, own call, from the on-set to the needed set after the request. So the execution theorem holds of it.
--- Assumes nothing.
 use mathlib.Core.Path.{_≡_, refl, sym, _∙_}
 use mathlib.Core.Bool.{Bool, true, false, cond}
 use mathlib.Core.List.{List, [], _∷_, map, append-assoc, append-nil}

@@ -1,4 +1,4 @@
--- How large an answer can be: its place is below 8w, for it is a resource or a device, and the checks themselves count nothing. Assumes nothing.
+-- How large an answer can be: its place is below 8w, for it is a resource or a device, and the checks themselves count nothing.
 use mathlib.Core.Path.{_≡_, refl, sym, _∙_}
 use mathlib.Core.Bool.{Bool, true, false, true≢false}
 use mathlib.Core.List.{List, [], _∷_}

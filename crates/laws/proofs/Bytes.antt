@@ -1,5 +1,5 @@
 -- Demand 3 of byte lists: their words get the same answer, a length that is no multiple of four never passes, and the planner's own bytes pass, since each of
--- its words fits four bytes. Assumes nothing.
+-- its words fits four bytes.
 use mathlib.Core.Path.{_≡_, refl, ap, _∙_}
 use mathlib.Core.Bool.{Bool, true, false}
 use mathlib.Core.List.{List, _++_, map}

@@ -1,5 +1,5 @@
 -- The checker's test passes exactly the lists that `Conforms` describes, and the planner's list is one of them.
--- From what each phase takes, and from the laws of the lists of a set's members. Assumes nothing.
+-- From what each phase takes, and from the laws of the lists of a set's members.
 use mathlib.Core.Path.{_≡_, refl, sym, _∙_}
 use mathlib.Core.Bool.{true, true≢false}
 use mathlib.Core.List.{List, [], _∷_, _++_, map, map-map, map-append, append-assoc, append-nil}
@@ -15,7 +15,7 @@ use Rattle.rules.specs.Calls.{word4, wordOf, listOf, ownCall, ownLast, toTurnOn
 use Rattle.rules.specs.Conforms.{Conforms}
 use Rattle.rules.specs.Check.{Rest, left, refused, andThen, resourceIn, onWord, offWord, notLower, notHigher, ownFirstCalls, ownLastCalls, isEnd, conforming}
 use Rattle.laws.proofs.Chain.{chain-iff, rises-chained, falls-chained}
-use Rattle.laws.proofs.Order.{turn-on-lawful, turn-off-lawful}
+use Rattle.laws.proofs.Order.{turn-on-ordered, turn-off-ordered}
 use Rattle.laws.proofs.Take.{not-left, take-words-at, take-words-of, take-at, take-of}
 
 -- ---- one phase after the other, and the end
@@ -104,8 +104,8 @@ pub planner-conforms : (s : Station) (st : Status) (q : Request) → toTurnOn s 
     → Conforms s st q (map wordOf (calls s st q))
 unfolding calls
 planner-conforms s st q on off =
-    let a = turn-on-lawful s st q on in
-    let b = turn-off-lawful s st q off in
+    let a = turn-on-ordered s st q on in
+    let b = turn-off-ordered s st q off in
     record {
       ons = turnOn s st q;
       offs = turnOff s st q;

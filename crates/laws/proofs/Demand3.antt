@@ -1,5 +1,4 @@
 -- Demand 3 holds of every list: from the equivalence of test and definition, the execution theorem, and what accepted tables and states give.
--- Assumes nothing.
 use mathlib.Core.Path.{_≡_, refl, sym, ap, _∙_}
 use mathlib.Core.Bool.{Bool, true, false, _&&_, true≢false}
 use mathlib.Core.List.{List, [], _∷_, _++_, map, append-nil}

@@ -1,4 +1,4 @@
--- A loop that asks whether every number below n has a property, and stops at the first that has not; and what `every` is by its parts. Assumes nothing.
+-- A loop that asks whether every number below n has a property, and stops at the first that has not; and what `every` is by its parts.
 use mathlib.Core.Path.{_≡_, refl, sym, ap, _∙_}
 use mathlib.Core.Bool.{Bool, true, false, not, _&&_}
 use mathlib.Core.Logic.{⊎-elim}

@@ -1,6 +1,5 @@
 -- Carrying out a list: a word that is neither `_ON` nor `_OFF` leaves the set, a run of `_ON` words adds to it, a run of `_OFF` words takes from it.
 -- From this the execution theorem: any list arranged as other words, ONs, OFFs, other words takes one set to another and keeps what is in both.
--- Assumes nothing.
 use mathlib.Core.Path.{_≡_, refl, sym, _∙_, fun-ext}
 use mathlib.Core.Bool.{Bool, true, false, not, cond, _&&_, true≢false, and-false}
 use mathlib.Core.List.{List, [], _∷_, _++_, map, append-assoc}
@@ -30,10 +29,10 @@ other-leaves w h on =
     fun-ext (λ r. rw (ne-eqb (w % 0x100) 1 (omega arith), ne-eqb (w % 0x100) 2 (omega arith)) (cond-same (eqb (w / 0x1_0000) 0 && eqb (w / 0x100 % 0x100) r) (on r)))
 
 -- the word that puts r in, or takes it out
-abbrev pub switchWord : Bool → ℕ → ℕ
-switchWord b r = cond b (onWord r) (offWord r)
+abbrev pub putWord : Bool → ℕ → ℕ
+putWord b r = cond b (onWord r) (offWord r)
 
-pub switches : (b : Bool) (on : ℕ → Bool) (r k : ℕ) → r < 256 → carryOut on (switchWord b r) k ≡ cond (eqb r k) b (on k)
+pub switches : (b : Bool) (on : ℕ → Bool) (r k : ℕ) → r < 256 → carryOut on (putWord b r) k ≡ cond (eqb r k) b (on k)
 unfolding carryOut
 switches true on r k h =
     let a : onWord r / 0x1_0000 ≡ 0 = omega arith in
@@ -62,11 +61,11 @@ has-cons : (b : Bool) (k n : ℕ) (x y : Bool) → cond (ltb 0 n) x (cond b x y)
 has-cons true k n x y = rw (lt-ltb 0 (1 + n) (omega arith)) (cond-same (ltb 0 n) x)
 has-cons false k n x y = rw (zero-add n) refl
 
-pub run-switch : (b : Bool) (l : List ℕ) → All (λ r. r < 256) l → (on : ℕ → Bool) (k : ℕ) → execution on (map (switchWord b) l) k ≡ cond (hasIn k l) b (on k)
+pub run-switch : (b : Bool) (l : List ℕ) → All (λ r. r < 256) l → (on : ℕ → Bool) (k : ℕ) → execution on (map (putWord b) l) k ≡ cond (hasIn k l) b (on k)
 unfolding execution All times
 run-switch b [] a on k = refl
 run-switch b (x ∷ l) a on k =
-    run-switch b l (a .1) (carryOut on (switchWord b x)) k
+    run-switch b l (a .1) (carryOut on (putWord b x)) k
     ∙ rw (switches b on x k (a .0)) (has-cons (eqb x k) k (times k l) b (on k))
 
 -- ---- what stays on: no word of the list takes r out
@@ -82,7 +81,7 @@ others-keep : (r w : ℕ) → Other w → Keeps r w
 others-keep r w o on h = rw (other-leaves w o on) h
 
 -- what switches another resource, or switches on, takes nothing out
-switch-keeps : (b : Bool) (r x : ℕ) → x < 256 → eqb x r && not b ≡ false → Keeps r (switchWord b x)
+switch-keeps : (b : Bool) (r x : ℕ) → x < 256 → eqb x r && not b ≡ false → Keeps r (putWord b x)
 switch-keeps b r x h f on e = rw (switches b on x r h, e) (go b (eqb x r) f)
   where
     go : (b c : Bool) → c && not b ≡ false → cond c b true ≡ true

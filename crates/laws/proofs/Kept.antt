@@ -1,5 +1,5 @@
 -- An accepted request keeps every device consistent, and the entries' values good. Over a station whose parents have lower numbers and whose sets have no
--- bit at or above R, as an accepted table's station has. Assumes nothing.
+-- bit at or above R, as an accepted table's station has.
 use mathlib.Core.Path.{_≡_, refl}
 use mathlib.Core.Bool.{Bool, true, false, not, _&&_, _||_}
 use mathlib.Core.Logic.{_⊎_, inl, inr, ⊎-elim}

@@ -1,5 +1,5 @@
 -- The needed set by its law: a resource is needed exactly if some device below D needs it. And its bound: where every set of the table has no bit at
--- or above R, neither has what a device needs, nor the needed set. Assumes nothing.
+-- or above R, neither has what a device needs, nor the needed set.
 use mathlib.Core.Path.{_≡_, refl, sym, _∙_}
 use mathlib.Core.Bool.{Bool, true, false, _&&_, cond, true≢false, or-true}
 use mathlib.Core.Logic.{_⊎_, ⊎-elim}

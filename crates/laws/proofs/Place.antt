@@ -1,4 +1,4 @@
--- Where a word that is neither `_ON` nor `_OFF` can stand in an arranged list: before all ONs and OFFs, or after them. Assumes nothing.
+-- Where a word that is neither `_ON` nor `_OFF` can stand in an arranged list: before all ONs and OFFs, or after them.
 use mathlib.Core.Path.{_≡_, ap, ap₂, _∙_}
 use mathlib.Core.List.{List, [], _∷_, _++_, map, append-assoc}
 use mathlib.Core.Logic.{_⊎_, inl, inr}

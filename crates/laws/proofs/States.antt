@@ -1,5 +1,5 @@
 -- The state image along requests: a fresh one is consistent, an accepted request leaves a consistent one with exactly the needed set on, and so after
--- any run of requests from fresh, refused ones among them, it is consistent. Assumes nothing.
+-- any run of requests from fresh, refused ones among them, it is consistent.
 use mathlib.Core.Path.{_≡_, refl, sym, _∙_}
 use mathlib.Core.Bool.{Bool, true, false, _&&_, _||_, true≢false}
 use mathlib.Core.List.{List}

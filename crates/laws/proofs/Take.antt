@@ -1,5 +1,5 @@
 -- A phase of the checker takes exactly the words that are due from the front of a list: given words, or those of a set's members, each once
--- and in order. For any test of two neighbours and any word that names its resource; from the laws of one member taken out. Assumes nothing.
+-- and in order. For any test of two neighbours and any word that names its resource; from the laws of one member taken out.
 use mathlib.Core.Path.{_≡_, refl, sym, ap, _∙_}
 use mathlib.Core.Bool.{Bool, true, false, _||_, true≢false}
 use mathlib.Core.List.{List, [], _∷_, _++_, map}
@@ -37,7 +37,7 @@ not-left x rest p q = let z : _≡_ {A = ℕ} 0 1 = cc in omega arith
 
 -- ---- the words of a set's members, at the front; what is left after them
 
-pub record Taken (word : ℕ → ℕ) (after : ℕ → ℕ → Bool) (todo : ℕ) (first : Bool) (last : ℕ) (ws rest : List ℕ) : Type 0 where
+pub record PhaseTaken (word : ℕ → ℕ) (after : ℕ → ℕ → Bool) (todo : ℕ) (first : Bool) (last : ℕ) (ws rest : List ℕ) : Type 0 where
   pub list : List ℕ
   pub whole : ws ≡ map word list ++ rest
   pub once : EachOnce todo list
@@ -73,7 +73,7 @@ module _ (word : ℕ → ℕ) (after : ℕ → ℕ → Bool) where
       (eqb-true _ _ (b .0), b .1, a .1)
 
   none-taken : (todo : ℕ) (first : Bool) (last : ℕ) (ws rest : List ℕ) → eqb todo 0 ≡ true → takeSet word after todo first last ws ≡ left rest
-      → Taken word after todo first last ws rest
+      → PhaseTaken word after todo first last ws rest
   unfolding EachOnce times Follows
   none-taken todo first last ws rest z e =
       let same : ws ≡ rest = cc (take-stop todo first last ws z) in
@@ -81,7 +81,7 @@ module _ (word : ℕ → ℕ) (after : ℕ → ℕ → Bool) where
 
   -- what was taken
   pub take-at : (ws : List ℕ) (todo : ℕ) (first : Bool) (last : ℕ) (rest : List ℕ) → takeSet word after todo first last ws ≡ left rest
-      → Taken word after todo first last ws rest
+      → PhaseTaken word after todo first last ws rest
   unfolding Follows
   take-at [] todo first last rest e =
       decide (eqb todo 0)

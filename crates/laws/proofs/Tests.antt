@@ -1,4 +1,4 @@
--- Tests joined by `and`, `or` and `not`, taken apart and put together. Assumes nothing.
+-- Tests joined by `and`, `or` and `not`, taken apart and put together.
 use mathlib.Core.Path.{_≡_, refl, sym}
 use mathlib.Core.Bool.{Bool, true, false, _&&_, _||_, true≢false, or-true}
 use mathlib.Core.Logic.{_⊎_, inl, inr}

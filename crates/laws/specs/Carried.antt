@@ -1,4 +1,4 @@
--- The statement of the execution theorem: what carrying out a list keeps, where it ends, and what the words at its two ends find. Assumes nothing.
+-- The statement of the execution theorem: what carrying out a list keeps, where it ends, and what the words at its two ends find.
 use Prim.Native.Nat.{ℕ, _%_, _≤_, _<_}
 use mathlib.Core.Path.{_≡_}
 use mathlib.Core.Bool.{Bool, true, not, _&&_}

@@ -1,5 +1,4 @@
 -- The plan as runs of words that follow one another: the own call's, the ONs' and the OFFs'. Two sets with no resource in common have at most R words.
--- Assumes nothing.
 use mathlib.Core.Path.{_≡_, refl, sym, ap, _∙_}
 use mathlib.Core.Bool.{true, false}
 use mathlib.Core.List.{List, [], _∷_, _++_, map, map-append, map-map, append-assoc}

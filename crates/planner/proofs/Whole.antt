@@ -1,4 +1,4 @@
--- The planner whole: the words and the state of an accepted request, and the outcome. Assumes nothing.
+-- The planner whole: the words and the state of an accepted request, and the outcome.
 use mathlib.Core.Path.{_≡_, refl, sym, ap, _∙_}
 use mathlib.Core.Bool.{Bool, true, false, not}
 use mathlib.Core.List.{List, [], _∷_}

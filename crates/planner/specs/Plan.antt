@@ -1,4 +1,4 @@
--- The words of a change's calls, the state by value after it, and what a plan that has passed every check leaves. Assumes nothing.
+-- The words of a change's calls, the state by value after it, and what a plan that has passed every check leaves.
 use Prim.Native.Nat.{ℕ}
 use mathlib.Core.Path.{_≡_}
 use mathlib.Core.List.{List, map, reverse}

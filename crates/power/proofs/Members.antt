@@ -1,4 +1,4 @@
--- A loop that asks whether every member of a set below n has a property, from one member to the next. Assumes nothing.
+-- A loop that asks whether every member of a set below n has a property, from one member to the next.
 use mathlib.Core.Path.{_≡_, refl, sym, _∙_}
 use mathlib.Core.Bool.{Bool, true, false, not, _||_, true≢false}
 use Prim.Native.Nat.{ℕ, zero, suc, _/_, _%_, _^_, _≤_, _<_}

@@ -1,4 +1,4 @@
--- The wake range, a law for each way that the code answers. Only these open it. Assumes nothing.
+-- The wake range, a law for each way that the code answers. Only these open it.
 use mathlib.Core.Path.{_≡_, refl}
 use mathlib.Core.Bool.{false, and-true, and-false}
 use Prim.Native.Nat.{ℕ, _≤_, _<_}

@@ -1,5 +1,4 @@
 -- What a device supports and needs, a law for each way that the code answers: from the tests on the way and what the readers of the table gave.
--- Assumes nothing.
 use mathlib.Core.Path.{_≡_, sym, _∙_}
 use mathlib.Core.Bool.{Bool, true, false, or-false}
 use Prim.Native.Nat.{ℕ, zero, suc, _-_, _≤_, _<_}

@@ -1,5 +1,4 @@
 -- How a device may wake the system, a law for each way that the code answers. The wake range stays shut: no law here depends on how it is decided.
--- Assumes nothing.
 use mathlib.Core.Path.{_≡_, refl, sym, _∙_}
 use mathlib.Core.Bool.{Bool, true, false, not, _||_}
 use mathlib.Core.List.{List}

@@ -1,5 +1,5 @@
 -- Whether every field is good, as one test: of fields one after the other, of the five sets, of zeros read as one number, of a device's parts.
--- Where the code asks another function, that function's answer comes with what it says. Assumes nothing.
+-- Where the code asks another function, that function's answer comes with what it says.
 use mathlib.Core.Path.{_≡_, refl, sym, ap, _∙_}
 use mathlib.Core.Bool.{Bool, true, false, not, _&&_, _||_, and-assoc, and-true, or-true, true≢false}
 use mathlib.Core.List.{List, [], _∷_, _++_}
@@ -11,7 +11,7 @@ use lib.Bits.{bitOr, and-le-l, and-le-r, or-lt, or-add-and}
 use lib.Dec.{eqb, ltb}
 use lib.ListN.{getD}
 use Rattle.sets.specs.Sets.{member}
-use Rattle.sets.proofs.Laws.{decide}
+use Rattle.sets.proofs.Laws.{decide, or-none}
 use Rattle.words.specs.Words.{readLE}
 use Rattle.words.proofs.Twice.{read-split}
 use Rattle.rules.specs.Index.{eachFrom, each, every}
@@ -22,6 +22,7 @@ use Rattle.laws.specs.Carried.{All}
 use Rattle.laws.proofs.All.{all-append, all-each, each-at}
 use Rattle.laws.proofs.Accepted.{field-good, field-bad}
 use Rattle.laws.proofs.Tests.{both-true}
+use Rattle.laws.proofs.Every.{same-test}
 use Rattle.laws.proofs.Tests as tests
 use Rattle.record.specs.Good.{allGood, setsFit, absentSet, setsAbsent}
 use Rattle.record.proofs.Tests.{objects-test}
@@ -57,14 +58,9 @@ good-all [] a = refl
 good-all (f ∷ fs) a = tests.and-true (f .good) (allGood fs) (a .0) (good-all fs (a .1))
 
 -- ---- two tests that say the same, and two tests as one: zeros in a number's parts and in a union, and a union's bits
-same : (a b : Bool) → (a ≡ true → b ≡ true) → (b ≡ true → a ≡ true) → a ≡ b
-same true b f g = sym (f refl)
-same false true f g = g refl
-same false false f g = refl
-
 both-zero : (a b c : ℕ) → (c ≡ 0 → a ≡ 0) → (c ≡ 0 → b ≡ 0) → (a ≡ 0 → b ≡ 0 → c ≡ 0) → eqb c 0 ≡ eqb a 0 && eqb b 0
 both-zero a b c f g h =
-    same (eqb c 0) (eqb a 0 && eqb b 0)
+    same-test (eqb c 0) (eqb a 0 && eqb b 0)
     (λ e. let z = eqb-true c 0 e in tests.and-true _ _ (eq-eqb a 0 (f z)) (eq-eqb b 0 (g z)))
     (λ e. let z = both-true (eqb a 0) (eqb b 0) e in eq-eqb c 0 (h (eqb-true a 0 (z .0)) (eqb-true b 0 (z .1))))
 
@@ -73,19 +69,12 @@ sum-zero n a b h =
     let l = mul-le-mul-right b h in
     both-zero a b (a + n * b) (λ z. omega arith) (λ z. omega arith) (λ x y. rw (x, y, mul-zero n) refl)
 
-union-zero : (a b : ℕ) → eqb (bitOr a b) 0 ≡ eqb a 0 && eqb b 0
-union-zero a b =
-    let sum = or-add-and a b in
-    let l = and-le-l a b in
-    let r = and-le-r a b in
-    both-zero a b (bitOr a b) (λ z. omega arith) (λ z. omega arith) (λ x y. omega arith)
-
 union-fits : (a b n : ℕ) → ltb (bitOr a b) (2 ^ n) ≡ ltb a (2 ^ n) && ltb b (2 ^ n)
 union-fits a b n =
     let sum = or-add-and a b in
     let l = and-le-l a b in
     let r = and-le-r a b in
-    same (ltb (bitOr a b) (2 ^ n)) (ltb a (2 ^ n) && ltb b (2 ^ n))
+    same-test (ltb (bitOr a b) (2 ^ n)) (ltb a (2 ^ n) && ltb b (2 ^ n))
     (λ e. let h = ltb-true (bitOr a b) (2 ^ n) e in tests.and-true _ _ (lt-ltb a (2 ^ n) (omega arith)) (lt-ltb b (2 ^ n) (omega arith)))
     (λ e. let h = both-true (ltb a (2 ^ n)) (ltb b (2 ^ n)) e in
     lt-ltb (bitOr a b) (2 ^ n) (or-lt n a b (ltb-true a (2 ^ n) (h .0)) (ltb-true b (2 ^ n) (h .1))))
@@ -94,13 +83,13 @@ union-fits a b n =
 every-field : (p : ℕ → ℕ) (g : ℕ → Bool) (n : ℕ) → allGood (each (λ k. field (p k) (g k)) n) ≡ every g n
 every-field p g n =
     let f : ℕ → Field = λ k. field (p k) (g k) in
-    same (allGood (each f n)) (every g n)
+    same-test (allGood (each f n)) (every g n)
     (λ e. every-of g n (λ i h. each-at Good f 0 n (good-each _ e) i (omega arith) (omega arith)))
     (λ e. good-all _ (all-each Good f 0 n (λ j x y. every-at g n j e (omega arith))))
 
 every-both : (p q : ℕ → Bool) (n : ℕ) → every (λ k. p k && q k) n ≡ every p n && every q n
 every-both p q n =
-    same (every (λ k. p k && q k) n) (every p n && every q n)
+    same-test (every (λ k. p k && q k) n) (every p n && every q n)
     (λ e. let h : (i : ℕ) → i < n → (p i ≡ true) × (q i ≡ true) = λ i l. both-true (p i) (q i) (every-at _ n i e l) in
     tests.and-true _ _ (every-of p n (λ i l. h i l .0)) (every-of q n (λ i l. h i l .1)))
     (λ e. let h = both-true (every p n) (every q n) e in
@@ -157,10 +146,10 @@ module _ (v : Device) where
   unfolding setsAbsent
   absent-test a b c d e p q r s u =
       rw (
-        union-zero,
-        union-zero,
-        union-zero,
-        union-zero,
+        or-none,
+        or-none,
+        or-none,
+        or-none,
         zero-absent 0 a p,
         zero-absent 1 b q,
         zero-absent 2 c r,

@@ -1,5 +1,5 @@
 -- The first bad field of a list: of two lists joined, of the fields that a loop goes through, and of the parts of a device's record.
--- Where the code asks another function, that function's answer comes with what it says. Assumes nothing.
+-- Where the code asks another function, that function's answer comes with what it says.
 use mathlib.Core.Path.{_≡_, refl, sym, _∙_}
 use mathlib.Core.Bool.{Bool, true, false, not}
 use mathlib.Core.List.{List, [], _∷_, _++_, append-assoc}

@@ -1,4 +1,4 @@
--- What the bytes of a record say, field by field: what the readers of a record cite. Each law is of any width. Assumes nothing.
+-- What the bytes of a record say, field by field: what the readers of a record cite. Each law is of any width.
 use mathlib.Core.Path.{_≡_, refl, sym, _∙_}
 use mathlib.Core.Bool.{cond}
 use mathlib.Core.List.{List}

@@ -1,5 +1,5 @@
 -- Each rule of a device as a test of its fields: what the checks of one record cite. What the code asks of another function, a field, a bit or
--- a test, comes as that function's answer, with what it says. Assumes nothing.
+-- a test, comes as that function's answer, with what it says.
 use mathlib.Core.Path.{_≡_, refl, sym}
 use mathlib.Core.Bool.{Bool, not, _&&_, _||_, or-false}
 use mathlib.Core.List.{List}

@@ -1,4 +1,4 @@
--- What a device's check asks of the fields of a record, where the first bad one's place is not asked for. Assumes nothing.
+-- What a device's check asks of the fields of a record, where the first bad one's place is not asked for.
 use Prim.Native.Nat.{ℕ, _^_}
 use mathlib.Core.Bool.{Bool, true, cond, _&&_, _||_}
 use mathlib.Core.List.{List, [], _∷_}

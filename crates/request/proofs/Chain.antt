@@ -1,4 +1,4 @@
--- The stages from their answers: the first refusal ends them, and what has passed gives what the next stage asks. Assumes nothing.
+-- The stages from their answers: the first refusal ends them, and what has passed gives what the next stage asks.
 use mathlib.Core.Path.{_≡_, refl, sym, ap, _∙_}
 use mathlib.Core.Bool.{Bool, true, false, not}
 use mathlib.Core.List.{List, [], _∷_}

@@ -1,4 +1,4 @@
--- The change of a permitted request from its parts, and what the chain of stages has shown of the request. Assumes nothing.
+-- The change of a permitted request from its parts, and what the chain of stages has shown of the request.
 use mathlib.Core.Path.{_≡_, refl, sym, ap, _∙_}
 use mathlib.Core.Bool.{Bool, true, false, not, _&&_}
 use mathlib.Core.List.{List}

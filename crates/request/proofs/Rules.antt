@@ -1,4 +1,4 @@
--- Each answer of the request's checks from the tests that lead to it. Assumes nothing.
+-- Each answer of the request's checks from the tests that lead to it.
 use mathlib.Core.Path.{_≡_, refl, sym, ap, _∙_}
 use mathlib.Core.Bool.{Bool, true, false, not, _&&_, _||_, or-false}
 use mathlib.Core.Logic.{⊎-elim}

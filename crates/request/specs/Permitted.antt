@@ -1,4 +1,4 @@
--- What the stages have shown of a permitted request, and what then holds of its change. Assumes nothing.
+-- What the stages have shown of a permitted request, and what then holds of its change.
 use Prim.Native.Nat.{ℕ, _^_, _≤_, _<_}
 use mathlib.Core.Path.{_≡_}
 use mathlib.Core.Bool.{true, false, _&&_}

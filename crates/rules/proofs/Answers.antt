@@ -1,4 +1,4 @@
--- The laws of chains of checks: an answer passes exactly if each check does, and each check is what it tests. Assumes nothing.
+-- The laws of chains of checks: an answer passes exactly if each check does, and each check is what it tests.
 use mathlib.Core.Path.{_≡_, refl, sym, ap, _∙_}
 use mathlib.Core.Bool.{Bool, true, false, true≢false}
 use mathlib.Core.List.{List, [], _∷_}

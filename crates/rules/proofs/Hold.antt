@@ -1,4 +1,4 @@
--- W1 to W12 and our own rows hold, by one computation on the bytes of the tables: the list of the rows that fail is empty. Assumes nothing.
+-- W1 to W12 and our own rows hold, by one computation on the bytes of the tables: the list of the rows that fail is empty.
 use mathlib.Core.Path.{_≡_, refl}
 use mathlib.Core.Bool.{true, false}
 use mathlib.Core.List.{[], _∷_}

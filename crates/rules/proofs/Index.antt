@@ -1,5 +1,4 @@
 -- The laws of numbered things: what `least` and `every` say, what a loop over them cites, and the values that `below` and `each` give.
--- Assumes nothing.
 use mathlib.Core.Path.{_≡_, refl, sym, ap, _∙_}
 use mathlib.Core.Logic.{_⊎_, inl, inr}
 use mathlib.Core.Bool.{Bool, true, false, not}

@@ -1,4 +1,4 @@
--- The width of a table: today 4, and always one that a table can have. Only the readers of records, tables and images ask for the first. Assumes nothing.
+-- The width of a table: today 4, and always one that a table can have. Only the readers of records, tables and images ask for the first.
 use mathlib.Core.Path.{_≡_, refl}
 use mathlib.Core.List.{List}
 use Prim.Native.Nat.{ℕ}

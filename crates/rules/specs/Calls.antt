@@ -1,4 +1,4 @@
--- Document 01, "Requests and calls": a call as a word, the calls of a request and their order, and the planner's list. Assumes nothing.
+-- Document 01, "Requests and calls": a call as a word, the calls of a request and their order, and the planner's list.
 use Prim.Native.Nat.{ℕ, zero, suc, _+_, _-_, _*_, _/_, _%_}
 use mathlib.Core.Bool.{Bool, _&&_, _||_, not, cond}
 use mathlib.Core.List.{List, [], _∷_, _++_, map, reverse}

@@ -1,4 +1,4 @@
--- Rows of our own on refused tables and states, answers 1 to 8. Assumes nothing.
+-- Rows of our own on refused tables and states, answers 1 to 8.
 use Prim.Native.Nat.{ℕ}
 use mathlib.Core.List.{List, [], _∷_, _++_, map}
 use lib.ListN.{take}

@@ -1,5 +1,4 @@
 -- What a row of requests must meet: the planner, the checker, a fresh state and a device's record, on bytes and on words, and the list carried out.
--- Assumes nothing.
 use Prim.Native.Nat.{ℕ, suc, _-_, _*_, _/_, _%_}
 use mathlib.Core.Bool.{Bool, true, false, _&&_, not, cond}
 use mathlib.Core.List.{List, [], _∷_, _++_, map, reverse}

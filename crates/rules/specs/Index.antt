@@ -1,4 +1,4 @@
--- What the rules say of numbered things, such as resources, devices and bytes: the lowest with a property, all of them, a list of them. Assumes nothing.
+-- What the rules say of numbered things, such as resources, devices and bytes: the lowest with a property, all of them, a list of them.
 use Prim.Native.Nat.{ℕ, zero, suc}
 use mathlib.Core.Bool.{Bool, true, false, not, cond}
 use mathlib.Core.List.{List, [], _∷_}

@@ -1,4 +1,4 @@
--- Document 01: fresh, plan and check, which the board calls, and a device's record, each as a total function of all that it is lent. Assumes nothing.
+-- Document 01: fresh, plan and check, which the board calls, and a device's record, each as a total function of all that it is lent.
 use Prim.Native.Nat.{ℕ, _+_, _*_, _/_, _%_}
 use mathlib.Core.Bool.{Bool, true, cond, _&&_}
 use mathlib.Core.List.{List, [], _∷_, map}

@@ -1,4 +1,4 @@
--- Rows of our own, under the same statement as W1 to W12: the answers, ranges and orders that the bench station does not reach. Assumes nothing.
+-- Rows of our own, under the same statement as W1 to W12: the answers, ranges and orders that the bench station does not reach.
 use Prim.Native.Nat.{ℕ}
 use mathlib.Core.List.{List, [], _∷_, _++_}
 use lib.ListN.{replicate}

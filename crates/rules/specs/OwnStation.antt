@@ -1,4 +1,4 @@
--- The station of our own rows, and one with 32 resources. Assumes nothing.
+-- The station of our own rows, and one with 32 resources.
 use Prim.Native.Nat.{ℕ, _+_, _*_}
 use mathlib.Core.List.{List, [], _∷_, _++_}
 use lib.ListN.{replicate}

@@ -1,4 +1,4 @@
--- Document 01, "Supported", "Needs" and "Wake pair": what a device can do and what it needs, over a station and a device's number. Assumes nothing.
+-- Document 01, "Supported", "Needs" and "Wake pair": what a device can do and what it needs, over a station and a device's number.
 use Prim.Native.Nat.{ℕ, zero, suc}
 use mathlib.Core.Bool.{Bool, true, false, _&&_, _||_, not, cond}
 use lib.Dec.{eqb, leb, ltb}

@@ -1,5 +1,4 @@
 -- Document 01, "Requests": which requests are refused, answers 10 to 18, and what an accepted one changes. No rule here looks at the on-set.
--- Assumes nothing.
 use Prim.Native.Nat.{ℕ}
 use mathlib.Core.Bool.{Bool, _&&_, _||_, not, cond}
 use mathlib.Core.List.{[], _∷_}

@@ -1,5 +1,5 @@
 -- Document 01, "Bench station": its table, byte for byte, and the worked rows W1 to W12. What a row must meet is in Holds; rows of our own are in
--- OwnRows. Assumes nothing.
+-- OwnRows.
 use Prim.Native.Nat.{ℕ, zero, suc, _/_, _%_}
 use mathlib.Core.List.{List, [], _∷_, _++_}
 use lib.ListN.{replicate}

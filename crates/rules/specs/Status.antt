@@ -1,4 +1,4 @@
--- Document 01, "State image" and "Sound": the image's bytes as a status, which are good, and answers 7 and 8. Assumes nothing.
+-- Document 01, "State image" and "Sound": the image's bytes as a status, which are good, and answers 7 and 8.
 use Prim.Native.Nat.{ℕ, zero, suc, _+_, _*_, _^_}
 use mathlib.Core.Bool.{Bool, _&&_, _||_, not}
 use mathlib.Core.List.{List, [], _∷_, _++_}

@@ -1,4 +1,4 @@
--- Document 01, "Power table", second part: which bytes are a good table, answers 1 to 6. Assumes nothing.
+-- Document 01, "Power table", second part: which bytes are a good table, answers 1 to 6.
 use Prim.Native.Nat.{ℕ, _+_, _*_, _%_, _^_}
 use mathlib.Core.Bool.{Bool, true, false, _&&_, _||_, not, cond}
 use mathlib.Core.List.{List, [], _∷_, _++_}

@@ -1,4 +1,4 @@
--- A list that conforms has at most R + 1 words: each phase has as many as its set has members, and no resource is in both sets. Assumes nothing.
+-- A list that conforms has at most R + 1 words: each phase has as many as its set has members, and no resource is in both sets.
 use mathlib.Core.Path.{_≡_, sym, ap, _∙_}
 use mathlib.Core.List.{List, map}
 use Prim.Native.Nat.{ℕ, _+_, _^_, _≤_, _<_}

@@ -1,4 +1,4 @@
--- An answer as one number: from its three parts, read back, and handed on. Assumes nothing.
+-- An answer as one number: from its three parts, read back, and handed on.
 use mathlib.Core.Path.{_≡_, refl}
 use mathlib.Core.List.{List}
 use Prim.Native.Nat.{ℕ, _+_, _*_, _/_, _%_, _<_}

@@ -1,4 +1,4 @@
--- Plan and check on bytes, from the same checks and the words: why a list of more than 33 words never conforms, and why a plan fits 33. Assumes nothing.
+-- Plan and check on bytes, from the same checks and the words: why a list of more than 33 words never conforms, and why a plan fits 33.
 use mathlib.Core.Path.{_≡_, refl, sym, ap, _∙_}
 use mathlib.Core.Bool.{Bool, true, false, not, _&&_, and-false}
 use mathlib.Core.List.{List}

@@ -1,4 +1,4 @@
--- A set by its bits: the lowest, and the others as those of the half. Assumes nothing.
+-- A set by its bits: the lowest, and the others as those of the half.
 use mathlib.Core.Path.{_≡_, refl, ap}
 use mathlib.Core.Bool.{Bool, true, false, cond}
 use Prim.Native.Nat.{ℕ, suc, _/_, _%_, _^_}

@@ -1,15 +1,14 @@
 -- The laws of the sets, each once, for every width: which resources are in each set, how large the number is, and that a set is known by its members.
--- Assumes nothing.
 use mathlib.Core.Path.{_≡_, refl, sym, ap, _∙_}
 use mathlib.Core.Bool.{Bool, true, false, cond, not, _||_, _&&_, and-true, and-false, true≢false}
 use Prim.Native.Nat.{ℕ, zero, suc, _-_, _/_, _%_, _^_, _≤_, _<_, suc-le-suc}
-use native.Mathlib.Nat.{pow-suc, zero-div, div-eq-of-lt, le-trans, lt-of-le-of-lt}
+use native.Mathlib.Nat.{pow-suc, zero-div, div-eq-of-lt, le-trans, lt-of-le-of-lt, le-max-left}
 use native.Mathlib.Omega.{arith}
 use lib.Arith.{bin-ind}
-use lib.Bits.{bitAnd, bitOr, bitXor, and-le-l, or-lt, xor-lt, and-shr, or-shr, xor-shr, and-mod, or-mod, xor-mod}
+use lib.Bits.{bitAnd, bitOr, bitXor, or-step, and-le-l, or-lt, xor-lt, and-shr, or-shr, xor-shr, and-mod, or-mod, xor-mod}
 use lib.Dec.{eqb, ltb, eqb·zero-suc, eqb·suc-zero, eqb·suc-suc, leb·suc-suc}
 use lib.Pow.{pow-pos, pow-mono}
-use borrow.Author.Tests.{eqb-true, eq-eqb, ne-eqb, ltb-true, ltb-false, lt-ltb, le-ltb, not-false}
+use borrow.Author.Tests.{eqb-true, eqb-false, eq-eqb, ne-eqb, ltb-true, ltb-false, lt-ltb, le-ltb, not-false}
 use Rattle.sets.specs.Sets.{member, union, minus, single, firstN, subset}
 use Rattle.sets.proofs.Bits.{both, member-op}
 pub use Rattle.sets.proofs.Bits.{decide, bit-member, member-zero, member-suc}
@@ -136,3 +135,18 @@ minus-single-lt s r h =
     let other : minus s (single r) ≡ s → ⊥ =
     λ e. true≢false (sym h ∙ ap (λ (x : ℕ). member x r) (sym e) ∙ minus-single-same s r) in
     omega (arith, minus-le s (single r))
+
+-- ---- a union is empty where both sets are
+
+or-least : (a b : ℕ) → a ≤ bitOr a b
+or-least = bin-ind (λ (n : ℕ). (b : ℕ) → n ≤ bitOr n b) (λ b. omega arith) (λ n ih b. omega (arith, ih (b / 2), or-step n b, le-max-left (n % 2) (b % 2)))
+
+pub or-none : (a b : ℕ) → eqb (bitOr a b) 0 ≡ eqb a 0 && eqb b 0
+or-none a b =
+    decide (eqb a 0)
+    (λ e. rw (e, eqb-true a 0 e) refl)
+    (λ e. let no = eqb-false a 0 e in rw e (ne-eqb (bitOr a b) 0 (λ z. no (omega (arith, or-least a b)))))
+
+pub union-none : (a b : ℕ) → eqb (union a b) 0 ≡ eqb a 0 && eqb b 0
+unfolding union
+union-none a b = or-none a b

@@ -1,5 +1,4 @@
 -- What the machine's operations on a word of w bits give, for every w. `a | b` and `a ^ (a & b)` are `union` and `minus` as they stand.
--- Assumes nothing.
 use mathlib.Core.Path.{_≡_, sym, _∙_}
 use mathlib.Core.Bool.{true}
 use Prim.Native.Nat.{ℕ, _*_, _/_, _%_, _^_, _≤_, _<_}

@@ -1,6 +1,5 @@
 -- Sets of power resources as one number: resource r is in the set s where bit r of s is 1.
 -- No definition speaks of a width, so each law holds at 32 bits, at 64 and at any other; a width w enters only as the bound s < 2 ^ w.
--- Assumes nothing.
 use Prim.Native.Nat.{ℕ, _-_, _/_, _%_, _^_}
 use mathlib.Core.Bool.{Bool}
 use lib.Bits.{bitAnd, bitOr, bitXor}

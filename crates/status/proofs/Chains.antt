@@ -1,4 +1,4 @@
--- Answers 7 and 8, and what making a fresh state leaves: one law for each way out. Assumes nothing.
+-- Answers 7 and 8, and what making a fresh state leaves: one law for each way out.
 use mathlib.Core.Path.{_≡_, refl, sym, ap, _∙_}
 use mathlib.Core.Bool.{Bool, true, false, not, _&&_, cond}
 use mathlib.Core.List.{List, [], _∷_}

@@ -1,4 +1,4 @@
--- A state, its image and its status say the same: what is loaded and stored, and what a fresh state says. Assumes nothing.
+-- A state, its image and its status say the same: what is loaded and stored, and what a fresh state says.
 use mathlib.Core.Path.{_≡_, refl, sym, ap, _∙_, fun-ext}
 use mathlib.Core.List.{List, [], _∷_, _++_}
 use Prim.Native.Nat.{ℕ, zero, suc, _+_, _*_, _≤_, _<_}

@@ -1,4 +1,4 @@
--- A loop that looks for the lowest number below n that breaks a rule: what it keeps, and the answer that it comes to. Assumes nothing.
+-- A loop that looks for the lowest number below n that breaks a rule: what it keeps, and the answer that it comes to.
 use mathlib.Core.Path.{_≡_, refl, sym, ap}
 use mathlib.Core.Bool.{Bool, true, false, not}
 use Prim.Native.Nat.{ℕ, _+_, _-_, _≤_, _<_}

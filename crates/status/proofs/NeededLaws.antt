@@ -1,4 +1,4 @@
--- The needed set from its turns: one turn more, and the devices before and after one whose entry is replaced. Assumes nothing.
+-- The needed set from its turns: one turn more, and the devices before and after one whose entry is replaced.
 use mathlib.Core.Path.{_≡_, refl, sym, ap, _∙_}
 use mathlib.Core.List.{List}
 use Prim.Native.Nat.{ℕ, zero, suc, _+_, _*_, _-_, _≤_, _<_}

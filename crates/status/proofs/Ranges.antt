@@ -1,16 +1,14 @@
--- The values of a state image, as the code that tests them has them. Assumes nothing.
+-- The values of a state image, as the code that tests them has them.
 use mathlib.Core.Path.{_≡_, refl, sym, ap, _∙_}
 use mathlib.Core.Bool.{Bool, true, false, not, _&&_, _||_}
 use mathlib.Core.List.{List}
 use Prim.Native.Nat.{ℕ, _+_, _*_, _/_, _%_, _^_, _≤_, _<_}
-use native.Mathlib.Nat.{add-assoc, le-max-left}
+use native.Mathlib.Nat.{add-assoc}
 use native.Mathlib.Omega.{arith}
-use borrow.Author.Tests.{ltb-true, lt-ltb, le-ltb, le-leb, eqb-true, eqb-false, eq-eqb, ne-eqb, not-true, not-false}
-use lib.Arith.{bin-ind}
-use lib.Bits.{bitOr, or-step}
+use borrow.Author.Tests.{ltb-true, lt-ltb, le-ltb, le-leb, eqb-true, eq-eqb, not-true, not-false}
 use lib.Dec.{eqb, ltb}
 use Rattle.sets.specs.Sets.{union}
-use Rattle.sets.proofs.Laws.{decide}
+use Rattle.sets.proofs.Laws.{decide, union-none}
 use Rattle.words.specs.Words.{readLE}
 use Rattle.rules.specs.declared.Entry.{Entry}
 use Rattle.rules.specs.Index.{every}
@@ -75,17 +73,6 @@ pub entry-told : (b : List ℕ) (k : ℕ) (e : Entry) (g : Bool) → e ≡ entry
 entry-told b k e g read q = rw (← read) q
 
 -- ---- the loop over the entries from n on
-
--- a union is empty where both sets are
-le-union : (a b : ℕ) → a ≤ union a b
-unfolding union
-le-union = bin-ind (λ (n : ℕ). (b : ℕ) → n ≤ bitOr n b) (λ b. omega arith) (λ n ih b. omega (arith, ih (b / 2), or-step n b, le-max-left (n % 2) (b % 2)))
-
-union-none : (a b : ℕ) → eqb (union a b) 0 ≡ eqb a 0 && eqb b 0
-union-none a b =
-    decide (eqb a 0)
-    (λ e. rw (e, eqb-true a 0 e) (unfold union in refl))
-    (λ e. let no = eqb-false a 0 e in rw e (ne-eqb (union a b) 0 (λ z. no (omega (arith, le-union a b)))))
 
 module _ (b : List ℕ) (n : ℕ) where
   abbrev pub zeroFrom : ℕ → Bool

@@ -1,4 +1,4 @@
--- What one entry written changes: that entry and no other; with a request's new entry, the image is the one after the request. Assumes nothing.
+-- What one entry written changes: that entry and no other; with a request's new entry, the image is the one after the request.
 use mathlib.Core.Path.{_≡_, refl, sym, ap, _∙_, fun-ext}
 use mathlib.Core.List.{List, [], _∷_}
 use mathlib.Core.Logic.{_⊎_, inl, inr, ⊎-elim}

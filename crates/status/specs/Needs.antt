@@ -1,4 +1,4 @@
--- The needed set by turns: a set with what the devices from a number on need. Assumes nothing.
+-- The needed set by turns: a set with what the devices from a number on need.
 use Prim.Native.Nat.{ℕ, zero, suc, _+_}
 use Rattle.sets.specs.Sets.{union}
 use Rattle.rules.specs.declared.Entry.{Entry}

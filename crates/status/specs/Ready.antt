@@ -1,4 +1,4 @@
--- What the stages before consistency have shown of a table and of the bytes that start with the device part. Assumes nothing.
+-- What the stages before consistency have shown of a table and of the bytes that start with the device part.
 use Prim.Native.Nat.{ℕ, _≤_, _<_}
 use mathlib.Core.Path.{_≡_}
 use mathlib.Core.Bool.{true}

@@ -1,4 +1,4 @@
--- The state as code holds it, 128 bytes beside the on-set, against the image's bytes and the status that they say. Assumes nothing.
+-- The state as code holds it, 128 bytes beside the on-set, against the image's bytes and the status that they say.
 use Prim.Native.Nat.{ℕ, _*_}
 use mathlib.Core.List.{List, _++_}
 use lib.ListN.{take, replicate}

@@ -1,5 +1,5 @@
 -- What the readers of a table cite: its width, where a record starts and that it ends inside the table, and each field of the station, from
--- what the readers of a record give. Assumes nothing.
+-- what the readers of a record give.
 use mathlib.Core.Path.{_≡_, refl}
 use mathlib.Core.List.{List}
 use Prim.Native.Nat.{ℕ, _+_, _*_, _^_, _<_, _≤_}

@@ -1,5 +1,5 @@
 -- The answers of a whole table: each check on its bytes, each way out of the chain of checks, and what an accepted table is known to have.
--- Where the code asks another function, that function's answer comes as b, with what it says. Assumes nothing.
+-- Where the code asks another function, that function's answer comes as b, with what it says.
 use mathlib.Core.Path.{_≡_, refl, sym, ap, _∙_}
 use mathlib.Core.Bool.{Bool, true, false, not, _&&_}
 use mathlib.Core.List.{List, [], _∷_}

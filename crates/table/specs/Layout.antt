@@ -1,4 +1,4 @@
--- What a table's first three checks show: the counts are in range and the length is theirs. Every reader of a field leans on it. Assumes nothing.
+-- What a table's first three checks show: the counts are in range and the length is theirs. Every reader of a field leans on it.
 use Prim.Native.Nat.{ℕ, _+_, _*_, _≤_}
 use mathlib.Core.Path.{_≡_}
 use mathlib.Core.List.{List}

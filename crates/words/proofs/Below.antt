@@ -1,4 +1,4 @@
--- Lists whose elements are all below b, said as `(i : ℕ) → getD s i 0 < b`: of bytes b is 256, of words 2 ^ 32. Assumes nothing.
+-- Lists whose elements are all below b, said as `(i : ℕ) → getD s i 0 < b`: of bytes b is 256, of words 2 ^ 32.
 use mathlib.Core.List.{List, [], _∷_, _++_}
 use Prim.Native.Nat.{ℕ, zero, suc, _+_, _<_}
 use native.Mathlib.Omega.{arith}

@@ -1,4 +1,4 @@
--- Numbers as bytes and back, over the count of bytes, and lists of 32-bit words as bytes and back. Assumes nothing.
+-- Numbers as bytes and back, over the count of bytes, and lists of 32-bit words as bytes and back.
 use mathlib.Core.Path.{_≡_, refl, sym, ap, ap₂, _∙_}
 use mathlib.Core.List.{List, [], _∷_, _++_, append-assoc, append-nil}
 use Prim.Native.Nat.{ℕ, zero, suc, _+_, _*_, _/_, _%_, _^_, _≤_, _<_}

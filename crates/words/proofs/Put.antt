@@ -1,5 +1,5 @@
 -- Writing into a list from a place on: `put` is one run of elements, runs that follow one another are one longer run, and two records say
--- what a loop that writes keeps: `Emitted`, what was written so far, and `Going`, what is still to be written. Assumes nothing.
+-- what a loop that writes keeps: `Emitted`, what was written so far, and `Going`, what is still to be written.
 use mathlib.Core.Path.{_≡_, refl, sym, ap, _∙_}
 use mathlib.Core.List.{List, [], _∷_, _++_, append-assoc, append-nil}
 use Prim.Native.Nat.{ℕ, _+_, _≤_, _<_}

@@ -1,4 +1,4 @@
--- A number of j + k bytes by its low and its high part, and so a number of twice k bytes by two of k. Assumes nothing.
+-- A number of j + k bytes by its low and its high part, and so a number of twice k bytes by two of k.
 use mathlib.Core.Path.{_≡_, refl, sym, ap, ap₂, _∙_}
 use mathlib.Core.List.{List, _∷_, _++_}
 use Prim.Native.Nat.{ℕ, zero, suc, _+_, _*_, _/_, _%_, _^_, _≤_}

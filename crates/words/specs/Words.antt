@@ -1,4 +1,4 @@
--- Numbers in a list of bytes, the lowest byte first, and lists of 32-bit words as bytes. Assumes nothing.
+-- Numbers in a list of bytes, the lowest byte first, and lists of 32-bit words as bytes.
 use Prim.Native.Nat.{ℕ, zero, suc, _+_, _*_, _/_, _%_}
 use mathlib.Core.List.{List, [], _∷_, _++_}
 use lib.ListN.{length, getD, take, drop}

@@ -1,4 +1,4 @@
--- Each line ends where the next begins. Assumes nothing.
+-- Each line ends where the next begins.
 use mathlib.Core.Path.{_≡_}
 use Prim.Native.Nat.{_-_, _≤_}
 use lib.ListN.{length}

@@ -1,4 +1,4 @@
--- `calls::call_of` meets its contract. The four bytes, as the definition takes them. Assumes nothing.
+-- `calls::call_of` meets its contract. The four bytes, as the definition takes them.
 use Rattle.rules.specs.Calls.{callOf}
 use borrow.Author.Needs.{needs}
 use Rattle.calls.proofs.call_of.Statement.{statement}

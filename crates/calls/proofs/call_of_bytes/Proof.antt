@@ -1,4 +1,4 @@
--- `calls::call_of_bytes` meets its contract. A law for each way out. Assumes nothing.
+-- `calls::call_of_bytes` meets its contract. A law for each way out.
 use Rattle.calls.proofs.Coding.{bytes-say}
 use borrow.Author.Needs.{needs}
 use Rattle.calls.proofs.call_of_bytes.Statement.{statement}

@@ -1,4 +1,4 @@
--- `calls::says` meets its contract. Assumes nothing.
+-- `calls::says` meets its contract.
 use borrow.Author.Needs.{needs}
 use Rattle.calls.proofs.says.Statement.{statement}
 use Rattle.calls.proofs.says.Tie as tie

@@ -1,4 +1,4 @@
--- `calls::wake_of` meets its contract. A law for each way out. Assumes nothing.
+-- `calls::wake_of` meets its contract. A law for each way out.
 use borrow.Author.Needs.{needs}
 use Rattle.calls.proofs.Coding.{wakes}
 use Rattle.calls.proofs.wake_of.Statement.{statement}

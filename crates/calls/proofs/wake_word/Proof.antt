@@ -1,4 +1,4 @@
--- `calls::wake_word` meets its contract. 128 + D fits a byte, since the word fits. Assumes nothing.
+-- `calls::wake_word` meets its contract. 128 + D fits a byte, since the word fits.
 use Rattle.calls.proofs.Coding.{wake-room}
 use borrow.Author.Needs.{needs}
 use Rattle.calls.proofs.wake_word.Statement.{statement}

@@ -1,4 +1,4 @@
--- `calls::word_of` meets its contract. Each arm is the word of its call. Assumes nothing.
+-- `calls::word_of` meets its contract. Each arm is the word of its call.
 use Rattle.calls.proofs.Coding.{wake-range}
 use borrow.Author.Needs.{needs}
 use Rattle.calls.proofs.word_of.Statement.{statement}

@@ -1,4 +1,4 @@
--- The mask and the number are only widened. Assumes nothing.
+-- The mask and the number are only widened.
 use borrow.Author.Needs.{needs}
 use Rattle.power.proofs.StateLaws.{bit-of}
 use Rattle.power.proofs.has_bit.Statement.{statement}

@@ -1,4 +1,4 @@
--- The flags are the device's own. Assumes nothing.
+-- The flags are the device's own.
 use borrow.Author.Needs.{needs}
 use Rattle.power.proofs.StateLaws.{bit-of}
 use Rattle.power.proofs.has_prw.Statement.{statement}

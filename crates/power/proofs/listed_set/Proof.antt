@@ -1,4 +1,4 @@
--- Invariant: the set listed for the state at hand is the set listed for x. The state falls with each turn. Assumes nothing.
+-- Invariant: the set listed for the state at hand is the set listed for x. The state falls with each turn.
 use mathlib.Core.Path.{_≡_}
 use Prim.Native.Nat.{_<_}
 use borrow.Author.Needs.{needs}

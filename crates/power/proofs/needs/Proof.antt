@@ -1,4 +1,4 @@
--- The union of the two calls' answers. Assumes nothing.
+-- The union of the two calls' answers.
 use borrow.Author.Needs.{needs}
 use Rattle.power.proofs.StateLaws.{needs-are}
 use Rattle.power.proofs.needs.Statement.{statement}

@@ -1,4 +1,4 @@
--- The set is read exactly where the mask has its bit. Assumes nothing.
+-- The set is read exactly where the mask has its bit.
 use borrow.Author.Needs.{needs}
 use Rattle.power.proofs.StateLaws.{set-laws}
 use Rattle.power.proofs.own_set.Statement.{statement}

@@ -1,4 +1,4 @@
--- Each way out is a law of the needs. Assumes nothing.
+-- Each way out is a law of the needs.
 use borrow.Author.Needs.{needs}
 use Rattle.power.proofs.StateLaws.{set-laws, d3cold-needs}
 use Rattle.power.proofs.state_needs.Statement.{statement}

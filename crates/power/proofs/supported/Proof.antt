@@ -1,4 +1,4 @@
--- Each way out is a law of the supported states. Assumes nothing.
+-- Each way out is a law of the supported states.
 use borrow.Author.Needs.{needs}
 use Rattle.power.proofs.StateLaws.{supported-laws}
 use Rattle.power.proofs.supported.Statement.{statement}

@@ -1,4 +1,4 @@
--- Each way out is a law of the needs. Assumes nothing.
+-- Each way out is a law of the needs.
 use borrow.Author.Needs.{needs}
 use Rattle.power.proofs.StateLaws.{set-laws, unarmed-needs}
 use Rattle.power.proofs.wake_needs.Statement.{statement}

@@ -1,4 +1,4 @@
--- The three parts, added up. Assumes nothing.
+-- The three parts, added up.
 use Rattle.sailgarnet.proofs.Numbers.{pack-is}
 use borrow.Author.Needs.{needs}
 use Rattle.sailgarnet.proofs.pack.Statement.{statement}

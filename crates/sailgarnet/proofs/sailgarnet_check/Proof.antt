@@ -1,4 +1,4 @@
--- The packed answer of the checker on bytes. Assumes nothing.
+-- The packed answer of the checker on bytes.
 use Rattle.sailgarnet.proofs.Numbers.{check-fits, fits, packs}
 use borrow.Author.Needs.{needs}
 use Rattle.sailgarnet.proofs.sailgarnet_check.Statement.{statement}

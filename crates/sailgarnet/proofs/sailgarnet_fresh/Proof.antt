@@ -1,4 +1,4 @@
--- The packed answer of a fresh state. Assumes nothing.
+-- The packed answer of a fresh state.
 use Rattle.sailgarnet.proofs.Numbers.{fresh-fits, fits, packs}
 use borrow.Author.Needs.{needs}
 use Rattle.sailgarnet.proofs.sailgarnet_fresh.Statement.{statement}

@@ -1,4 +1,4 @@
--- The packed answer of the planner on bytes. Assumes nothing.
+-- The packed answer of the planner on bytes.
 use Rattle.sailgarnet.proofs.Numbers.{plan-fits, fits, packs}
 use borrow.Author.Needs.{needs}
 use Rattle.sailgarnet.proofs.sailgarnet_plan.Statement.{statement}

@@ -1,4 +1,4 @@
--- Below 32 it is one less than the next resource alone, and 32 is the whole word. Assumes nothing.
+-- Below 32 it is one less than the next resource alone, and 32 is the whole word.
 use mathlib.Core.Path.{_≡_, refl, ap}
 use Prim.Native.Nat.{ℕ, _-_}
 use native.Mathlib.Omega.{arith}

@@ -1,4 +1,4 @@
--- Below 32 what is shifted down is 0, and from 32 on every word fits. Assumes nothing.
+-- Below 32 what is shifted down is 0, and from 32 on every word fits.
 use borrow.Author.Needs.{needs}
 use Rattle.sets.proofs.Machine.{shr-fits, past-fits}
 use Rattle.sets.proofs.fits.Statement.{statement}

@@ -1,4 +1,4 @@
--- Below 32 the test is `member` as it stands, and from 32 on a word has no member. Assumes nothing.
+-- Below 32 the test is `member` as it stands, and from 32 on a word has no member.
 use mathlib.Core.Path.{refl, sym}
 use borrow.Author.Needs.{needs}
 use Rattle.sets.specs.Sets.{member}

@@ -1,4 +1,4 @@
--- `a ^ (a & b)` is `minus` as it stands. Assumes nothing.
+-- `a ^ (a & b)` is `minus` as it stands.
 use mathlib.Core.Path.{refl}
 use Rattle.sets.specs.Sets.{minus}
 use Rattle.sets.proofs.minus.Statement.{statement}

@@ -1,4 +1,4 @@
--- `1 << r` loses no bit below 32. Assumes nothing.
+-- `1 << r` loses no bit below 32.
 use borrow.Author.Needs.{needs}
 use Rattle.sets.proofs.Machine.{shl-single}
 use Rattle.sets.proofs.single.Statement.{statement}

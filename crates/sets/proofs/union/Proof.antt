@@ -1,4 +1,4 @@
--- `a | b` is `union` as it stands. Assumes nothing.
+-- `a | b` is `union` as it stands.
 use mathlib.Core.Path.{refl}
 use Rattle.sets.specs.Sets.{union}
 use Rattle.sets.proofs.union.Statement.{statement}

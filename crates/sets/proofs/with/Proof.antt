@@ -1,4 +1,4 @@
--- The union with one resource. Assumes nothing.
+-- The union with one resource.
 use mathlib.Core.Path.{ap, _∙_}
 use borrow.Author.Needs.{needs}
 use Rattle.sets.specs.Sets.{union}

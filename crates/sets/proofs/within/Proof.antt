@@ -1,4 +1,4 @@
--- Nothing is left of a without b. Assumes nothing.
+-- Nothing is left of a without b.
 use mathlib.Core.Path.{ap}
 use Prim.Native.Nat.{ℕ}
 use lib.Dec.{eqb}

@@ -1,4 +1,4 @@
--- One resource taken out. Assumes nothing.
+-- One resource taken out.
 use mathlib.Core.Path.{ap, _∙_}
 use borrow.Author.Needs.{needs}
 use Rattle.sets.specs.Sets.{minus}

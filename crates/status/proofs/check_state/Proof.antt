@@ -1,4 +1,4 @@
--- Each refusal is the first rule that is broken; otherwise the answer is that of the consistency check. Assumes nothing.
+-- Each refusal is the first rule that is broken; otherwise the answer is that of the consistency check.
 use Rattle.status.proofs.Chains.{state-laws}
 use borrow.Author.Needs.{needs}
 use Rattle.status.proofs.check_state.Statement.{statement}

@@ -1,4 +1,4 @@
--- A refusal leaves the bytes, and otherwise all of them are the fresh state's image. Assumes nothing.
+-- A refusal leaves the bytes, and otherwise all of them are the fresh state's image.
 use Rattle.status.proofs.Chains.{fresh-laws}
 use borrow.Author.Needs.{needs}
 use Rattle.status.proofs.fresh.Statement.{statement}

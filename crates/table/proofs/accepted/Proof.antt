@@ -1,4 +1,4 @@
--- The answer of the check, asked whether it passes. Assumes nothing.
+-- The answer of the check, asked whether it passes.
 use Rattle.table.proofs.Verdicts.{accepted-is}
 use borrow.Author.Needs.{needs}
 use Rattle.table.proofs.accepted.Statement.{statement}

@@ -1,4 +1,4 @@
--- Each return is the answer of the first check that refuses; what passed meets what the rest asks. Assumes nothing.
+-- Each return is the answer of the first check that refuses; what passed meets what the rest asks.
 use Rattle.table.proofs.Verdicts.{sized-by, table-answers}
 use borrow.Author.Needs.{needs}
 use Rattle.table.proofs.check_past_header.Statement.{statement}

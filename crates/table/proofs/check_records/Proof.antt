@@ -1,4 +1,4 @@
--- Each return is the answer of the first check that refuses; the first three have passed. Assumes nothing.
+-- Each return is the answer of the first check that refuses; the first three have passed.
 use Rattle.table.proofs.Verdicts.{table-answers}
 use borrow.Author.Needs.{needs}
 use Rattle.table.proofs.check_records.Statement.{statement}

@@ -1,4 +1,4 @@
--- Bytes that are no table are told so; the answer for the others is that of the rest. Assumes nothing.
+-- Bytes that are no table are told so; the answer for the others is that of the rest.
 use Rattle.table.proofs.Verdicts.{table-answers}
 use borrow.Author.Needs.{needs}
 use Rattle.table.proofs.check_table.Statement.{statement}

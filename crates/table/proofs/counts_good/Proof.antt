@@ -1,4 +1,4 @@
--- The two tests are the rule. Assumes nothing.
+-- The two tests are the rule.
 use Rattle.table.proofs.Verdicts.{table-tests}
 use borrow.Author.Needs.{needs}
 use Rattle.table.proofs.counts_good.Statement.{statement}

@@ -1,4 +1,4 @@
--- A bad field is enough; without one the objects decide. Assumes nothing.
+-- A bad field is enough; without one the objects decide.
 use Rattle.table.proofs.Verdicts.{table-tests}
 use borrow.Author.Needs.{needs}
 use Rattle.table.proofs.device_bad.Statement.{statement}

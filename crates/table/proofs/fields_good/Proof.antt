@@ -1,4 +1,4 @@
--- Device d's record starts where its number says, and R and the width are the table's own. Assumes nothing.
+-- Device d's record starts where its number says, and R and the width are the table's own.
 use Rattle.table.proofs.Verdicts.{table-tests}
 use borrow.Author.Needs.{needs}
 use Rattle.table.proofs.fields_good.Statement.{statement}

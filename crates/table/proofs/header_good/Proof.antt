@@ -1,4 +1,4 @@
--- Fewer than 8 bytes are no table; of others the five tests are the rule. Assumes nothing.
+-- Fewer than 8 bytes are no table; of others the five tests are the rule.
 use Rattle.table.proofs.Verdicts.{table-tests}
 use borrow.Author.Needs.{needs}
 use Rattle.table.proofs.header_good.Statement.{statement}

@@ -1,4 +1,4 @@
--- The bytes end where a record D would start. Assumes nothing.
+-- The bytes end where a record D would start.
 use Rattle.table.proofs.Verdicts.{table-tests}
 use borrow.Author.Needs.{needs}
 use Rattle.table.proofs.length_good.Statement.{statement}

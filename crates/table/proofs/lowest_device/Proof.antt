@@ -1,4 +1,4 @@
--- The loop keeps: the lowest bad device is the lowest from i on. The measure is how many are left. Assumes nothing.
+-- The loop keeps: the lowest bad device is the lowest from i on. The measure is how many are left.
 use mathlib.Core.Path.{_≡_}
 use mathlib.Core.Bool.{not}
 use Prim.Native.Nat.{_-_, _≤_}

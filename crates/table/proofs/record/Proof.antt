@@ -1,4 +1,4 @@
--- Refused bytes and numbers past D have no record; else the part is the device's own bytes. Assumes nothing.
+-- Refused bytes and numbers past D have no record; else the part is the device's own bytes.
 use Rattle.table.proofs.Verdicts.{sized-told, record-part}
 use borrow.Author.Needs.{needs}
 use Rattle.table.proofs.record.Statement.{statement}

@@ -1,4 +1,4 @@
--- 5 where a field is bad, else 6. Assumes nothing.
+-- 5 where a field is bad, else 6.
 use Rattle.table.proofs.Verdicts.{table-tests}
 use borrow.Author.Needs.{needs}
 use Rattle.table.proofs.refusal.Statement.{statement}

@@ -1,4 +1,4 @@
--- The opposite of what the check of the record answers. Assumes nothing.
+-- The opposite of what the check of the record answers.
 use Rattle.table.proofs.Verdicts.{table-tests}
 use borrow.Author.Needs.{needs}
 use Rattle.table.proofs.resource_bad.Statement.{statement}

@@ -1,4 +1,4 @@
--- `readLE 2` computes to the sum that the code makes. Assumes nothing.
+-- `readLE 2` computes to the sum that the code makes.
 use native.Mathlib.Omega.{arith}
 use Rattle.words.specs.Words.{readLE}
 use borrow.Author.Needs.{needs}

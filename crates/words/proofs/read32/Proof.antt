@@ -1,4 +1,4 @@
--- Two numbers of two bytes are one of four. Assumes nothing.
+-- Two numbers of two bytes are one of four.
 use Rattle.words.proofs.Twice.{read-twice}
 use borrow.Author.Needs.{needs}
 use Rattle.words.proofs.read32.Statement.{statement}

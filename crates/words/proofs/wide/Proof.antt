@@ -1,4 +1,4 @@
--- A byte is below 256. Assumes nothing.
+-- A byte is below 256.
 use native.Mathlib.Omega.{arith}
 use Rattle.words.proofs.wide.Statement.{statement}
 use Rattle.words.proofs.wide.Tie as tie

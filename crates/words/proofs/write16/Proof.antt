@@ -1,4 +1,4 @@
--- Two stores, one after the other, are `put` of the two bytes. Assumes nothing.
+-- Two stores, one after the other, are `put` of the two bytes.
 use native.Mathlib.Numerals.{towards-suc}
 use native.Mathlib.Omega.{arith}
 use lib.ListN.{length-set}

@@ -1,4 +1,4 @@
--- Two runs of two bytes are one of four. Assumes nothing.
+-- Two runs of two bytes are one of four.
 use Rattle.words.proofs.Twice.{put-twice}
 use borrow.Author.Needs.{needs}
 use Rattle.words.proofs.write32.Statement.{statement}

@@ -1,4 +1,4 @@
--- The part that is lent has the length that its slice says. Assumes nothing.
+-- The part that is lent has the length that its slice says.
 use lib.ListN.{length-set}
 use Rattle.bench.proofs.Reading.{part-long}
 use borrow.Author.Needs.{needs}

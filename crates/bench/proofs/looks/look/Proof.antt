@@ -1,4 +1,4 @@
--- Each letter has its answer. Assumes nothing.
+-- Each letter has its answer.
 use Rattle.bench.proofs.Letters.{letters}
 use borrow.Author.Needs.{needs}
 use Rattle.bench.proofs.looks.look.Statement.{statement}

@@ -1,4 +1,4 @@
--- The part's own length. Assumes nothing.
+-- The part's own length.
 use borrow.Author.Needs.{needs}
 use Rattle.bench.proofs.looks.record.Statement.{statement}
 use Rattle.bench.proofs.looks.record.Tie as tie

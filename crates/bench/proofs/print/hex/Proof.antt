@@ -1,4 +1,4 @@
--- Each byte has its digits: the loop only counts. Assumes nothing.
+-- Each byte has its digits: the loop only counts.
 use Prim.Native.Nat.{_≤_, _-_}
 use lib.ListN.{length}
 use borrow.Author.Needs.{needs}

@@ -1,4 +1,4 @@
--- A byte from its two digits. Assumes nothing.
+-- A byte from its two digits.
 use Rattle.bench.proofs.Reading.{reading}
 use borrow.Author.Needs.{needs}
 use Rattle.bench.proofs.script.byte.Statement.{statement}

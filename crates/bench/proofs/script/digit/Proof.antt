@@ -1,4 +1,4 @@
--- The number of a digit, below 16. Assumes nothing.
+-- The number of a digit, below 16.
 use Rattle.bench.proofs.Reading.{digit-is, digit-small}
 use borrow.Author.Needs.{needs}
 use Rattle.bench.proofs.script.digit.Statement.{statement}

@@ -1,4 +1,4 @@
--- The bytes that are set so far. The measure is how many are left. Assumes nothing.
+-- The bytes that are set so far. The measure is how many are left.
 use mathlib.Core.Path.{_≡_}
 use Prim.Native.Nat.{_≤_, _-_}
 use lib.ListN.{length, length-set}

@@ -1,4 +1,4 @@
--- A letter past the end is the list's default. Assumes nothing.
+-- A letter past the end is the list's default.
 use Rattle.bench.proofs.Reading.{reading}
 use borrow.Author.Needs.{needs}
 use Rattle.bench.proofs.script.letter.Statement.{statement}

@@ -1,4 +1,4 @@
--- The loop keeps: the first end of a line is the first from i on. Assumes nothing.
+-- The loop keeps: the first end of a line is the first from i on.
 use mathlib.Core.Path.{_≡_}
 use Prim.Native.Nat.{_-_, _≤_}
 use lib.ListN.{length}

@@ -1,4 +1,4 @@
--- A number from its two bytes. Assumes nothing.
+-- A number from its two bytes.
 use Rattle.bench.proofs.Reading.{reading}
 use borrow.Author.Needs.{needs}
 use Rattle.bench.proofs.script.number.Statement.{statement}

@@ -1,4 +1,4 @@
--- The four numbers, one by one. Assumes nothing.
+-- The four numbers, one by one.
 use Rattle.bench.proofs.Reading.{reading}
 use borrow.Author.Needs.{needs}
 use Rattle.bench.proofs.script.request.Statement.{statement}

@@ -1,4 +1,4 @@
--- With no period the rest is the number itself. Assumes nothing.
+-- With no period the rest is the number itself.
 use Rattle.bench.proofs.Reading.{reading}
 use borrow.Author.Needs.{needs}
 use Rattle.bench.proofs.script.turn.Statement.{statement}

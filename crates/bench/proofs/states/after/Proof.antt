@@ -1,4 +1,4 @@
--- Each letter has its state. Assumes nothing.
+-- Each letter has its state.
 use Rattle.bench.proofs.Letters.{letters}
 use borrow.Author.Needs.{needs}
 use Rattle.bench.proofs.states.after.Statement.{statement}

@@ -1,4 +1,4 @@
--- The bytes that are added, and how many. Assumes nothing.
+-- The bytes that are added, and how many.
 use Rattle.bench.proofs.Reading.{product-fits, added-size, added-bytes}
 use borrow.Author.Needs.{needs}
 use Rattle.bench.proofs.tables.add.Statement.{statement}

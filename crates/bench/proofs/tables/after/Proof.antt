@@ -1,4 +1,4 @@
--- Each letter has its table. Assumes nothing.
+-- Each letter has its table.
 use Rattle.bench.proofs.Letters.{letters}
 use borrow.Author.Needs.{needs}
 use Rattle.bench.proofs.tables.after.Statement.{statement}

@@ -1,4 +1,4 @@
--- `calls::own::calls_method` meets its contract. A law for each way out. Assumes nothing.
+-- `calls::own::calls_method` meets its contract. A law for each way out.
 use Rattle.calls.proofs.OwnCall.{same-state, from-hot, from-other}
 use borrow.Author.Needs.{needs}
 use Rattle.calls.proofs.own.calls_method.Statement.{statement}

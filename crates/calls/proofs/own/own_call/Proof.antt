@@ -1,4 +1,4 @@
--- `calls::own::own_call` meets its contract. A law for each kind of request. Assumes nothing.
+-- `calls::own::own_call` meets its contract. A law for each kind of request.
 use Rattle.calls.proofs.OwnCall.{owning}
 use borrow.Author.Needs.{needs}
 use Rattle.calls.proofs.own.own_call.Statement.{statement}

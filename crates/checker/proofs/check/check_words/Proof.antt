@@ -1,4 +1,4 @@
--- A law for each way out, and demand 3 of every list. Assumes nothing.
+-- A law for each way out, and demand 3 of every list.
 use Rattle.laws.proofs.Demand3.{demand3}
 use Rattle.request.proofs.Changes.{permitted-by}
 use Rattle.checker.proofs.Answer.{of-words}

@@ -1,4 +1,4 @@
--- The walk over the request's change. Assumes nothing.
+-- The walk over the request's change.
 use Rattle.request.proofs.Changes.{on-small}
 use Rattle.checker.proofs.Answer.{test-is}
 use borrow.Author.Needs.{needs}

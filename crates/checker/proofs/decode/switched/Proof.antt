@@ -1,4 +1,4 @@
--- What the word says, matched. Assumes nothing.
+-- What the word says, matched.
 use borrow.Author.Needs.{needs}
 use Rattle.checker.proofs.decode.switched.Statement.{statement}
 use Rattle.checker.proofs.decode.switched.Tie as tie

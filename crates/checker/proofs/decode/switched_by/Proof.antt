@@ -1,4 +1,4 @@
--- Each arm by what the match and the test told. Assumes nothing.
+-- Each arm by what the match and the test told.
 use Rattle.checker.specs.Decode.{switchedBy}
 use borrow.Author.Needs.{needs}
 use Rattle.checker.proofs.decode.switched_by.Statement.{statement}

@@ -1,4 +1,4 @@
--- Each arm by what the match told. Assumes nothing.
+-- Each arm by what the match told.
 use Rattle.checker.specs.Decode.{switched}
 use borrow.Author.Needs.{needs}
 use Rattle.checker.proofs.decode.switched_in.Statement.{statement}

@@ -1,4 +1,4 @@
--- A law for each way out. Assumes nothing.
+-- A law for each way out.
 use Rattle.checker.proofs.Phase.{next}
 use borrow.Author.Needs.{needs}
 use Rattle.checker.proofs.take.comes_next.Statement.{statement}

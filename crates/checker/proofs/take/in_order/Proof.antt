@@ -1,4 +1,4 @@
--- The two orders compared, either way. Assumes nothing.
+-- The two orders compared, either way.
 use Rattle.checker.proofs.Phase.{orders}
 use borrow.Author.Needs.{needs}
 use Rattle.checker.proofs.take.in_order.Statement.{statement}

@@ -1,4 +1,4 @@
--- The loop keeps that what is left of the list, from i on, gives what the whole phase gives. Assumes nothing.
+-- The loop keeps that what is left of the list, from i on, gives what the whole phase gives.
 use mathlib.Core.Path.{_≡_, refl}
 use mathlib.Core.Bool.{true, false, true≢false}
 use Prim.Native.Nat.{_-_, _^_, _≤_, _<_}

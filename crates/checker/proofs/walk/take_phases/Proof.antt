@@ -1,4 +1,4 @@
--- The answer of the ONs is matched. Assumes nothing.
+-- The answer of the ONs is matched.
 use Rattle.checker.proofs.Walks.{switches}
 use borrow.Author.Needs.{needs}
 use Rattle.checker.proofs.walk.take_phases.Statement.{statement}

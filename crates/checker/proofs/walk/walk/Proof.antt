@@ -1,4 +1,4 @@
--- Each phase's answer is matched; a law for each way out. Assumes nothing.
+-- Each phase's answer is matched; a law for each way out.
 use Rattle.checker.proofs.Walks.{walks}
 use borrow.Author.Needs.{needs}
 use Rattle.checker.proofs.walk.walk.Statement.{statement}

@@ -1,4 +1,4 @@
--- The new entry beside the needed set. Assumes nothing.
+-- The new entry beside the needed set.
 use Rattle.planner.proofs.Whole.{changed-is}
 use borrow.Author.Needs.{needs}
 use Rattle.planner.proofs.plan.changed_state.Statement.{statement}

@@ -1,4 +1,4 @@
--- A refusal leaves state and plan; otherwise the calls and the state of the request are written. Assumes nothing.
+-- A refusal leaves state and plan; otherwise the calls and the state of the request are written.
 use Rattle.rules.specs.Outcomes.{planWords}
 use Rattle.request.proofs.Changes.{permitted-by}
 use Rattle.planner.proofs.Whole.{room-there, plan-refused, plan-accepted}

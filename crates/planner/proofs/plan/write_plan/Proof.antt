@@ -1,4 +1,4 @@
--- The change, the calls and the new state, each from the one before. Assumes nothing.
+-- The change, the calls and the new state, each from the one before.
 use Rattle.request.proofs.Changes.{on-small}
 use Rattle.planner.proofs.Whole.{plan-written, image-132, device-32}
 use borrow.Author.Needs.{needs}

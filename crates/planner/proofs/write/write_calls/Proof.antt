@@ -1,4 +1,4 @@
--- Two runs, the own call last or first; together they have at most R + 1 words. Assumes nothing.
+-- Two runs, the own call last or first; together they have at most R + 1 words.
 use Rattle.rules.specs.Calls.{wordOf, listOf}
 use lib.ListN.{length-map}
 use native.Mathlib.Omega.{arith}

@@ -1,4 +1,4 @@
--- One store, or none. Assumes nothing.
+-- One store, or none.
 use Rattle.calls.proofs.OwnCall.{call-in-range}
 use Rattle.planner.proofs.Run.{own-room, own-word, own-none}
 use borrow.Author.Needs.{needs}

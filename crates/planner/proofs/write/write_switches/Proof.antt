@@ -1,4 +1,4 @@
--- Two runs, one after the other. Assumes nothing.
+-- Two runs, one after the other.
 use Rattle.rules.specs.Station.{station}
 use Rattle.planner.proofs.Run.{phase-is, phase-long, two-runs}
 use borrow.Author.Needs.{needs}

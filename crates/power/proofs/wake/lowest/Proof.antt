@@ -1,4 +1,4 @@
--- The place of the lowest bit that is 1 is the lowest member. Assumes nothing.
+-- The place of the lowest bit that is 1 is the lowest member.
 use borrow.Author.Needs.{needs}
 use Rattle.power.proofs.Members.{trailing-laws}
 use Rattle.power.proofs.wake.lowest.Statement.{statement}

@@ -1,4 +1,4 @@
--- A resource that the table does not have sets no limit. Assumes nothing.
+-- A resource that the table does not have sets no limit.
 use borrow.Author.Needs.{needs}
 use Rattle.power.proofs.WakeLaws.{wake-laws}
 use Rattle.power.proofs.wake.powered.Statement.{statement}

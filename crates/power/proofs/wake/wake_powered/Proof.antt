@@ -1,4 +1,4 @@
--- Invariant: the answer for the members that are left is the answer for all. The set that is left is a smaller number with each turn. Assumes nothing.
+-- Invariant: the answer for the members that are left is the answer for all. The set that is left is a smaller number with each turn.
 use mathlib.Core.Path.{_≡_}
 use lib.Dec.{leb}
 use borrow.Author.Needs.{needs}

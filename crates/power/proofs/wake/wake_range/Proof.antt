@@ -1,4 +1,4 @@
--- Each way out is a law of the wake range. Assumes nothing.
+-- Each way out is a law of the wake range.
 use borrow.Author.Needs.{needs}
 use Rattle.power.proofs.RangeLaws.{range-laws}
 use Rattle.power.proofs.wake.wake_range.Statement.{statement}

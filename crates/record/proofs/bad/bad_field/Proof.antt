@@ -1,4 +1,4 @@
--- The first part of the record with a bad field has the answer. Assumes nothing.
+-- The first part of the record with a bad field has the answer.
 use Rattle.record.proofs.FirstBad.{bad-parts}
 use borrow.Author.Needs.{needs}
 use Rattle.record.proofs.bad.bad_field.Statement.{statement}

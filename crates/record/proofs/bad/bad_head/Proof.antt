@@ -1,4 +1,4 @@
--- Each return is the first bad of the four fields, by the tests that led to it. Assumes nothing.
+-- Each return is the first bad of the four fields, by the tests that led to it.
 use Rattle.record.proofs.FirstBad.{bad-first}
 use borrow.Author.Needs.{needs}
 use Rattle.record.proofs.bad.bad_head.Statement.{statement}

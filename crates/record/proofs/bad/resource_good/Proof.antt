@@ -1,4 +1,4 @@
--- Resource r's record starts at byte 8 + 4r. Assumes nothing.
+-- Resource r's record starts at byte 8 + 4r.
 use Rattle.record.proofs.Tests.{record-tests}
 use borrow.Author.Needs.{needs}
 use Rattle.record.proofs.bad.resource_good.Statement.{statement}

@@ -1,4 +1,4 @@
--- A byte as a wider number has the same bits. Assumes nothing.
+-- A byte as a wider number has the same bits.
 use Rattle.record.proofs.Tests.{record-tests}
 use borrow.Author.Needs.{needs}
 use Rattle.record.proofs.good.bit.Statement.{statement}

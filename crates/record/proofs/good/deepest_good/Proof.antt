@@ -1,4 +1,4 @@
--- The two tests of the deepest state, and bit 0 of the flags, which says whether there is a `_PRW`, are the rule. Assumes nothing.
+-- The two tests of the deepest state, and bit 0 of the flags, which says whether there is a `_PRW`, are the rule.
 use Rattle.record.proofs.Tests.{record-tests}
 use borrow.Author.Needs.{needs}
 use Rattle.record.proofs.good.deepest_good.Statement.{statement}

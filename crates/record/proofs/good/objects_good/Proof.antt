@@ -1,4 +1,4 @@
--- The five bits and the tests of the three bytes are the rule. Assumes nothing.
+-- The five bits and the tests of the three bytes are the rule.
 use Rattle.record.proofs.Tests.{record-tests}
 use borrow.Author.Needs.{needs}
 use Rattle.record.proofs.good.objects_good.Statement.{statement}

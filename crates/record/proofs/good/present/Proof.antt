@@ -1,4 +1,4 @@
--- Set 4 goes by bit 0 of the flags, the others by the bits of the `_PR` mask. Assumes nothing.
+-- Set 4 goes by bit 0 of the flags, the others by the bits of the `_PR` mask.
 use Rattle.record.proofs.Tests.{record-tests}
 use borrow.Author.Needs.{needs}
 use Rattle.record.proofs.good.present.Statement.{statement}

@@ -1,4 +1,4 @@
--- The three tests of the set are the rule. Assumes nothing.
+-- The three tests of the set are the rule.
 use Rattle.record.proofs.Tests.{record-tests}
 use borrow.Author.Needs.{needs}
 use Rattle.record.proofs.good.set_good.Statement.{statement}

@@ -1,4 +1,4 @@
--- None where the object is there, else the set. Assumes nothing.
+-- None where the object is there, else the set.
 use Rattle.record.proofs.AllGood.{quick-tests}
 use borrow.Author.Needs.{needs}
 use Rattle.record.proofs.quick.absent_set.Statement.{statement}

@@ -1,4 +1,4 @@
--- The four tests are the rules of the four bytes. Assumes nothing.
+-- The four tests are the rules of the four bytes.
 use Rattle.record.proofs.AllGood.{quick-tests}
 use borrow.Author.Needs.{needs}
 use Rattle.record.proofs.quick.head_good.Statement.{statement}

@@ -1,4 +1,4 @@
--- A number of bytes is zero exactly if each of its bytes is. Assumes nothing.
+-- A number of bytes is zero exactly if each of its bytes is.
 use Rattle.record.proofs.AllGood.{quick-tests}
 use borrow.Author.Needs.{needs}
 use Rattle.record.proofs.quick.last_good.Statement.{statement}

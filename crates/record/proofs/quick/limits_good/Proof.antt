@@ -1,4 +1,4 @@
--- The five tests are the rules of the five bytes. Assumes nothing.
+-- The five tests are the rules of the five bytes.
 use Rattle.record.proofs.AllGood.{quick-tests}
 use borrow.Author.Needs.{needs}
 use Rattle.record.proofs.quick.limits_good.Statement.{statement}

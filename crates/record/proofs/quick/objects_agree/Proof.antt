@@ -1,4 +1,4 @@
--- Where the masks are the same and have bits 0 and 3, the flags decide; else the whole rule does. Assumes nothing.
+-- Where the masks are the same and have bits 0 and 3, the flags decide; else the whole rule does.
 use Rattle.record.proofs.AllGood.{quick-tests}
 use borrow.Author.Needs.{needs}
 use Rattle.record.proofs.quick.objects_agree.Statement.{statement}

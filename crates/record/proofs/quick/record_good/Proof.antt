@@ -1,4 +1,4 @@
--- A part with a bad field is enough; past the others the last part decides. Assumes nothing.
+-- A part with a bad field is enough; past the others the last part decides.
 use Rattle.record.proofs.AllGood.{part-bad, last-decides}
 use borrow.Author.Needs.{needs}
 use Rattle.record.proofs.quick.record_good.Statement.{statement}

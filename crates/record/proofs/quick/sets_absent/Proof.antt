@@ -1,4 +1,4 @@
--- With all five objects no set is tested; else a union is zero exactly if each of its sets is. Assumes nothing.
+-- With all five objects no set is tested; else a union is zero exactly if each of its sets is.
 use Rattle.record.proofs.AllGood.{quick-tests}
 use borrow.Author.Needs.{needs}
 use Rattle.record.proofs.quick.sets_absent.Statement.{statement}

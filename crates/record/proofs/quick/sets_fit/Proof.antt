@@ -1,4 +1,4 @@
--- A union has no bit at or above R exactly if none of its sets has. Assumes nothing.
+-- A union has no bit at or above R exactly if none of its sets has.
 use Rattle.record.proofs.AllGood.{quick-tests}
 use borrow.Author.Needs.{needs}
 use Rattle.record.proofs.quick.sets_fit.Statement.{statement}

@@ -1,4 +1,4 @@
--- The first that fails is enough, and past the others the last one decides. Assumes nothing.
+-- The first that fails is enough, and past the others the last one decides.
 use Rattle.record.proofs.AllGood.{quick-tests, state-bad}
 use borrow.Author.Needs.{needs}
 use Rattle.record.proofs.quick.states_good.Statement.{statement}

@@ -1,4 +1,4 @@
--- The set is the number of w bytes at its start. Assumes nothing.
+-- The set is the number of w bytes at its start.
 use Rattle.record.proofs.Readers.{fields-at}
 use borrow.Author.Needs.{needs}
 use Rattle.record.proofs.read.set.Statement.{statement}

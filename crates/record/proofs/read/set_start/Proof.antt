@@ -1,4 +1,4 @@
--- The width is 8, or it is 4. Assumes nothing.
+-- The width is 8, or it is 4.
 use Rattle.record.proofs.Readers.{at-width}
 use borrow.Author.Needs.{needs}
 use Rattle.record.proofs.read.set_start.Statement.{statement}

@@ -1,4 +1,4 @@
--- Below 64 what is shifted down is 0, and from 64 on every word fits. Assumes nothing.
+-- Below 64 what is shifted down is 0, and from 64 on every word fits.
 use Rattle.sets.proofs.Machine.{shr-fits, past-fits}
 use borrow.Author.Needs.{needs}
 use Rattle.record.proofs.word.fits.Statement.{statement}

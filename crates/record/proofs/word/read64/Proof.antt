@@ -1,4 +1,4 @@
--- Two numbers of four bytes are one of eight. Assumes nothing.
+-- Two numbers of four bytes are one of eight.
 use Rattle.words.proofs.Twice.{read-twice}
 use borrow.Author.Needs.{needs}
 use Rattle.record.proofs.word.read64.Statement.{statement}

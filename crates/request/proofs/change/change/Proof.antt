@@ -1,4 +1,4 @@
--- Each part is the definition's, from what was read before it. Assumes nothing.
+-- Each part is the definition's, from what was read before it.
 use Rattle.request.proofs.Changes.{changes}
 use borrow.Author.Needs.{needs}
 use Rattle.request.proofs.change.change.Statement.{statement}

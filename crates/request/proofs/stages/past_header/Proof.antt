@@ -1,4 +1,4 @@
--- Each return is the first answer that refuses; what has passed gives what the next stage asks. Assumes nothing.
+-- Each return is the first answer that refuses; what has passed gives what the next stage asks.
 use Rattle.request.proofs.Chain.{in-turn, request-asks}
 use borrow.Author.Needs.{needs}
 use Rattle.request.proofs.stages.past_header.Statement.{statement}

@@ -1,4 +1,4 @@
--- What is no table is told so; the rest answers for the others. Assumes nothing.
+-- What is no table is told so; the rest answers for the others.
 use Rattle.table.proofs.Verdicts.{header-passed}
 use Rattle.request.proofs.Chain.{stop-header}
 use borrow.Author.Needs.{needs}

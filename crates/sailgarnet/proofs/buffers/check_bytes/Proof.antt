@@ -1,4 +1,4 @@
--- A law for each way out, and demand 3 of every list of bytes. Assumes nothing.
+-- A law for each way out, and demand 3 of every list of bytes.
 use mathlib.Core.Path.{refl, sym}
 use mathlib.Core.Bool.{false}
 use borrow.Author.Needs.{needs}

@@ -1,4 +1,4 @@
--- A refusal leaves state and plan; otherwise the calls, as bytes, and the state of the request are written. Assumes nothing.
+-- A refusal leaves state and plan; otherwise the calls, as bytes, and the state of the request are written.
 use Rattle.sailgarnet.proofs.Outer.{room-33, written-bytes, written-fits}
 use Rattle.planner.proofs.Whole.{room-bytes, plan-refused, plan-accepted}
 use Rattle.request.proofs.Changes.{permitted-by}

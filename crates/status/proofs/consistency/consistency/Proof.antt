@@ -1,4 +1,4 @@
--- The loop looks for the first device that is not consistent. Assumes nothing.
+-- The loop looks for the first device that is not consistent.
 use Prim.Native.Nat.{_≤_, _-_}
 use mathlib.Core.Path.{_≡_}
 use borrow.Author.Needs.{needs}

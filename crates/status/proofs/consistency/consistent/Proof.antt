@@ -1,4 +1,4 @@
--- The rules apart from power, then power. Assumes nothing.
+-- The rules apart from power, then power.
 use Rattle.status.proofs.Keeps.{keep-laws}
 use borrow.Author.Needs.{needs}
 use Rattle.status.proofs.consistency.consistent.Statement.{statement}

@@ -1,4 +1,4 @@
--- The three rules in their order; the parent is lower by what the stages before have shown. Assumes nothing.
+-- The three rules in their order; the parent is lower by what the stages before have shown.
 use Rattle.status.proofs.Keeps.{keep-laws}
 use borrow.Author.Needs.{needs}
 use Rattle.status.proofs.consistency.consistent_but_power.Statement.{statement}

@@ -1,4 +1,4 @@
--- Without a parent there is nothing to compare, and with one its number is below D. Assumes nothing.
+-- Without a parent there is nothing to compare, and with one its number is below D.
 use Rattle.status.proofs.Keeps.{keep-laws}
 use borrow.Author.Needs.{needs}
 use Rattle.status.proofs.consistency.parent_allows.Statement.{statement}

@@ -1,4 +1,4 @@
--- What the device needs is within the on-set. Assumes nothing.
+-- What the device needs is within the on-set.
 use Rattle.status.proofs.Keeps.{keep-laws}
 use borrow.Author.Needs.{needs}
 use Rattle.status.proofs.consistency.powered.Statement.{statement}

@@ -1,4 +1,4 @@
--- Not armed, an illegal pair, or the comparison of the state with wake D; the wake S is in range by what the stages before have shown. Assumes nothing.
+-- Not armed, an illegal pair, or the comparison of the state with wake D; the wake S is in range by what the stages before have shown.
 use Rattle.status.proofs.Keeps.{wake-unarmed, wake-illegal, wake-legal, keep-laws}
 use borrow.Author.Needs.{needs}
 use Rattle.status.proofs.consistency.wake_consistent.Statement.{statement}

@@ -1,4 +1,4 @@
--- The four bytes are read as the definition reads them. Assumes nothing.
+-- The four bytes are read as the definition reads them.
 use borrow.Author.Needs.{needs}
 use Rattle.status.proofs.Held.{held}
 use Rattle.status.proofs.image.entry.Statement.{statement}

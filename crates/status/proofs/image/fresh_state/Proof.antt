@@ -1,4 +1,4 @@
--- An array of zeros beside the first resources is the fresh state. Assumes nothing.
+-- An array of zeros beside the first resources is the fresh state.
 use borrow.Author.Needs.{needs}
 use Rattle.status.proofs.Held.{held}
 use Rattle.status.proofs.image.fresh_state.Statement.{statement}

@@ -1,4 +1,4 @@
--- The loop copies the first 128 bytes, and the number after them is the on-set. Assumes nothing.
+-- The loop copies the first 128 bytes, and the number after them is the on-set.
 use Prim.Native.Nat.{_≤_, _-_}
 use mathlib.Core.Path.{_≡_}
 use borrow.Author.Needs.{needs}

@@ -1,4 +1,4 @@
--- The on-set stands after the entries. Assumes nothing.
+-- The on-set stands after the entries.
 use borrow.Author.Needs.{needs}
 use Rattle.status.proofs.Held.{held}
 use Rattle.status.proofs.image.on_set.Statement.{statement}

@@ -1,4 +1,4 @@
--- The loop writes the device part, and the on-set follows it. Assumes nothing.
+-- The loop writes the device part, and the on-set follows it.
 use Prim.Native.Nat.{_≤_, _-_}
 use mathlib.Core.Path.{_≡_}
 use borrow.Author.Needs.{needs}

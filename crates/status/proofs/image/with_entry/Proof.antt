@@ -1,4 +1,4 @@
--- Four stores, one after another, are the entry's bytes in their place. Assumes nothing.
+-- Four stores, one after another, are the entry's bytes in their place.
 use borrow.Author.Needs.{needs}
 use Rattle.status.proofs.Written.{with-is}
 use Rattle.status.proofs.image.with_entry.Statement.{statement}

@@ -1,4 +1,4 @@
--- Each turn adds what one device more needs; what is left to add stays the answer. Assumes nothing.
+-- Each turn adds what one device more needs; what is left to add stays the answer.
 use Prim.Native.Nat.{_-_}
 use mathlib.Core.Path.{_≡_}
 use borrow.Author.Needs.{needs}

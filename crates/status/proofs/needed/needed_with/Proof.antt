@@ -1,4 +1,4 @@
--- The devices before d, d itself, and those after it. Assumes nothing.
+-- The devices before d, d itself, and those after it.
 use borrow.Author.Needs.{needs}
 use Rattle.status.proofs.NeededLaws.{with-entry}
 use Rattle.status.proofs.needed.needed_with.Statement.{statement}

@@ -1,4 +1,4 @@
--- The entries below D by one loop, the others by another. Assumes nothing.
+-- The entries below D by one loop, the others by another.
 use Rattle.status.proofs.Ranges.{range-laws}
 use borrow.Author.Needs.{needs}
 use Rattle.status.proofs.values.entries_good.Statement.{statement}

@@ -1,4 +1,4 @@
--- The code is `entryGood` as it stands. Assumes nothing.
+-- The code is `entryGood` as it stands.
 use mathlib.Core.Path.{refl}
 use Rattle.rules.specs.Status.{entryGood}
 use Rattle.status.proofs.values.entry_good.Statement.{statement}

@@ -1,4 +1,4 @@
--- The loop stops at the first entry that is not good. Assumes nothing.
+-- The loop stops at the first entry that is not good.
 use Prim.Native.Nat.{_*_, _≤_, _-_}
 use mathlib.Core.Path.{_≡_}
 use borrow.Author.Needs.{needs}

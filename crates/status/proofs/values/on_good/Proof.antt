@@ -1,4 +1,4 @@
--- The on-set is below 2 to the R-th. Assumes nothing.
+-- The on-set is below 2 to the R-th.
 use Rattle.status.proofs.Ranges.{on-is}
 use borrow.Author.Needs.{needs}
 use Rattle.status.proofs.values.on_good.Statement.{statement}

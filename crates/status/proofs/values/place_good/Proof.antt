@@ -1,4 +1,4 @@
--- Both ways out are laws of an entry's values. Assumes nothing.
+-- Both ways out are laws of an entry's values.
 use borrow.Author.Needs.{needs}
 use Rattle.status.proofs.Ranges.{range-laws}
 use Rattle.status.proofs.values.place_good.Statement.{statement}

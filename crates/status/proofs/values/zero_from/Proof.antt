@@ -1,4 +1,4 @@
--- Nothing is asked of the entries below n. The union of those from n to i is empty where each of them is zero. Assumes nothing.
+-- Nothing is asked of the entries below n. The union of those from n to i is empty where each of them is zero.
 use Prim.Native.Nat.{_≤_, _-_}
 use mathlib.Core.Path.{_≡_}
 use lib.Dec.{eqb}
