@@ -2,3 +2,4 @@ pub mod Hold
 pub mod Index
 pub mod Answers
 pub mod Width
+pub mod Conforming
