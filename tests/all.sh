@@ -86,6 +86,6 @@ step bash tests/stack.sh
 host
 step python3 tests/readme.py
 step pictures
-step make --no-print-directory soak SECONDS=120 SEED=1
+step make --no-print-directory soak SECONDS=60 SEED=1
 echo "$passed passed, $failed failed"
 [ "$failed" -eq 0 ]
