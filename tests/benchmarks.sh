@@ -36,7 +36,8 @@ where there is one: the answer number says at which stage. The inputs are in \`h
 $(cat target/bench.md)
 
 Requests with 25 calls have the highest ratios of the full table, about 0.8: the planner sorts 24 keys by insertion, with a branch for each key that the processor cannot foresee, and the checker looks at each
-word. On the bench station the table is small, and the call itself, the state and the own call weigh more.
+word. On the bench station the table is small, and the call itself, the state, the change by value and
+the decoding of each word weigh more: the checker's rows there take fewer instructions than the reference and about the same time.
 
 ## Instructions
 
