@@ -76,5 +76,20 @@ module _ (l : List ℕ) (x : ℕ) (e : x ≡ getD l 0 0) (t whole b : List ℕ) 
   unfolding seenBy
   not-seen d s i o h = h ∙ rw (← e) (rw (ne-eqb _ _ d, ne-eqb _ _ s, ne-eqb _ _ i, ne-eqb _ _ o) refl)
 
-pub ruleset letters =
-    (size-t, size-plus, size-same, table-t, table-plus, table-same, state-f, state-q, state-p, state-same, seen-d, seen-s, seen-l, seen-r, not-seen)
+pub ruleset letters = (
+  size-t,
+  size-plus,
+  size-same,
+  table-t,
+  table-plus,
+  table-same,
+  state-f,
+  state-q,
+  state-p,
+  state-same,
+  seen-d,
+  seen-s,
+  seen-l,
+  seen-r,
+  not-seen,
+)

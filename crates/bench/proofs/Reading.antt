@@ -83,7 +83,8 @@ pub product-fits : (t p : ℕ) → t < 256 → p ≤ 40 → t * p < 0x1_0000_000
 product-fits t p h k = let q : t * p ≤ 256 * 40 = mul-le-mul {n₁ = t} {m₁ = p} {n₂ = 256} {m₂ = 40} (omega arith) k in omega (arith, q)
 
 -- ---- `+`, and q, p, t and n as it works them out
-module _ (l b : List ℕ) (size q p t n : ℕ) (e : q ≡ length l / 3 - 1) (f : p ≡ min q 40) (g : t ≡ byteAt l 0) (h : n ≡ min (t * p) (1328 - size)) where
+module _ (l b : List ℕ) (size q p t n : ℕ) (e : q ≡ length l / 3 - 1) (f : p ≡ min q 40) (g : t ≡ byteAt l 0)
+    (h : n ≡ min (t * p) (1328 - size)) where
   pub added-size : size + n ≡ size + more size l
   added-size = rw (h, f, g, e) refl
 
@@ -104,6 +105,19 @@ module _ (t : List ℕ) (i n v : ℕ) (inv : leastFrom (endsAt t) i (n - i) ≡ 
 pub part-long : (n m : ℕ) (l : List ℕ) → length l ≡ m → n ≤ m → n ≡ length (take n l)
 part-long n m l e h = sym (length-take-le n l (omega arith))
 
-pub ruleset reading = (past-end, digit-is, digit-small, byte-is, number-is, request-is, fill-starts, fill-next, fill-ends, turn-none, turn-small, product-fits)
+pub ruleset reading = (
+  past-end,
+  digit-is,
+  digit-small,
+  byte-is,
+  number-is,
+  request-is,
+  fill-starts,
+  fill-next,
+  fill-ends,
+  turn-none,
+  turn-small,
+  product-fits,
+)
 
 pub ruleset lines = (starts, line-found, line-next, done)

@@ -1,4 +1,5 @@
-// Reading the script. A line is a letter and bytes of two digits, each after a space; a byte past its end is zero, so that a short line needs no rule.
+// Reading the script. A line is a letter and bytes of two digits, each after a space; a byte past its end is zero, so that a short line
+// needs no rule.
 use rules::Request;
 ghost use mathlib.Core.Path.{_≡_};
 ghost use Prim.Native.Nat.{_+_, _*_, _/_, _%_, _-_, _≤_, _<_, min};

@@ -14,7 +14,8 @@ pub type Image = [u8; 132];
 
 // A fresh state in lent bytes: prints the answer, and gives it.
 pub fn fresh(table: &[u8], state: &mut [u8]) -> u64
-    ensures { λ r. ⌜ (r ≡ packed (fresh (now (table .entry)) (now (state .entry)) .verdict)) × (now (state .exit) ≡ fresh (now (table .entry)) (now (state .entry)) .state) ⌝ }
+    ensures { λ r. ⌜ (r ≡ packed (fresh (now (table .entry)) (now (state .entry)) .verdict))
+        × (now (state .exit) ≡ fresh (now (table .entry)) (now (state .entry)) .state) ⌝ }
 {
     let answer = sailgarnet::sailgarnet_fresh(table, state);
     print::answer(b":", answer);
@@ -30,8 +31,8 @@ pub fn check(table: &[u8], state: &[u8], q: Request, list: &[u8]) -> u64
     answer
 }
 
-// A request on a lent plan: prints the answer, the calls and the whole state; then what the checker answers on these calls, given the state as it
-// was before. Answers the state afterwards.
+// A request on a lent plan: prints the answer, the calls and the whole state; then what the checker answers on these calls, given the state
+// as it was before. Answers the state afterwards.
 fn request(table: &[u8], before: Image, q: Request, plan: &mut [u8]) -> Image
     requires { ⌜ length before ≡ 132 ⌝ }
     ensures { λ r. ⌜ (length r ≡ 132) × (r ≡ planBytes (now (table .entry)) before q (now (plan .entry)) .state) ⌝ }

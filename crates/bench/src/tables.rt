@@ -5,7 +5,8 @@ ghost use Prim.Native.Nat.{_+_, _≤_};
 ghost use lib.ListN.{length};
 ghost use Rattle.bench.specs.Cases.{more, added, tableAfter, sizeAfter};
 
-// `+`: the table goes on with the bytes of a line past the first, which says how often; with 40 of them at most, a device's record. Answers its size.
+// `+`: the table goes on with the bytes of a line past the first, which says how often; with 40 of them at most, a device's record. Answers
+// its size.
 fn add(table: &mut [u8], size: usize, line: &[u8]) -> usize
     requires { ⌜ (length (now table) ≡ 1328) × (size ≤ 1328) ⌝ }
     ensures { λ r. ⌜ (r ≡ size + more size (now (line .entry))) × (r ≤ 1328) ⌝ }

@@ -1,4 +1,5 @@
--- The calls that document 01 has: resources and devices that a byte holds, `_PS0` to `_PS3`, and the wake pairs. These have a word of 32 bits.
+-- The calls that document 01 has: resources and devices that a byte holds, `_PS0` to `_PS3`, and the wake pairs. These have a word of 32
+-- bits.
 use Prim.Native.Nat.{_≤_, _<_}
 use Rattle.rules.specs.declared.Wake.{Wake}
 use Rattle.rules.specs.declared.Wake.the-variants.{Enable, Disable}

@@ -26,7 +26,8 @@ use Rattle.checker.proofs.Walks.{walked-is}
 
 -- the walk over the change with the state's own on-set
 pub test-is : (t b : List ℕ) (q : Request) (on : ℕ) (c : Change) (ws : List ℕ) (r : Bool)
-    → on ≡ status t b .on → c ≡ changeOf (station t) (statusWith t b on) q → r ≡ walked (station t) c ws → r ≡ conforming (station t) (status t b) q ws
+    → on ≡ status t b .on → c ≡ changeOf (station t) (statusWith t b on) q → r ≡ walked (station t) c ws
+    → r ≡ conforming (station t) (status t b) q ws
 test-is t b q on c ws r e f g =
     let change : c ≡ changeOf (station t) (status t b) q = f ∙ ap (λ (st : Status). changeOf (station t) st q) (status-with t b on e) in
     g ∙ ap (λ (x : Change). walked (station t) x ws) change ∙ walked-is (station t) (status t b) q ws
@@ -70,7 +71,8 @@ module _ (t b : List ℕ) (q : Request) (list : List ℕ) (v : Verdict) (p : Boo
   unfolding checkBytes
   bytes-refused n = refused-before _ n
 
-  module _ (c : Bool) (n : not p ≡ false) (g : c ≡ eqb (length list % 4) 0 && conforming (station t) (status t b) q (byteWords (length list / 4) list)) where
+  module _ (c : Bool) (n : not p ≡ false) (g : c ≡ eqb (length list % 4) 0 && conforming (station t) (status t b) q
+      (byteWords (length list / 4) list)) where
     pub bytes-19 : not c ≡ true → Refused NotConforming 0 ≡ checkBytes t b q list
     unfolding checkBytes
     bytes-19 z = answer-19 c _ n g z

@@ -69,7 +69,8 @@ module _ (s : Station) (off : Bool) (todo : ℕ) (first : Bool) (last : ℕ) whe
 
     pub phase-short : 0 < todo → length l ≤ i → refused ≡ v
     phase-short k h =
-        sym (ap (takePhase s off todo first last) (drop-of-length-le l {i = i} h) ∙ take-short _ _ todo first last (ne-eqb todo 0 (omega arith)))
+        sym (ap (takePhase s off todo first last) (drop-of-length-le l {i = i} h) ∙ take-short _ _ todo first last
+        (ne-eqb todo 0 (omega arith)))
         ∙ inv
 
     -- w stands there
@@ -79,13 +80,15 @@ module _ (s : Station) (off : Bool) (todo : ℕ) (first : Bool) (last : ℕ) whe
 
       stops : mayCome (switchWord off) (follows s off) todo first last w ≡ false → refused ≡ v
       stops m =
-          sym (ap (takePhase s off todo first last) (drop-cons l i 0 h) ∙ take-bad _ _ todo first last w _ (ne-eqb todo 0 (omega arith)) m) ∙ inv
+          sym (ap (takePhase s off todo first last) (drop-cons l i 0 h) ∙ take-bad _ _ todo first last w _
+          (ne-eqb todo 0 (omega arith)) m) ∙ inv
 
       pub phase-other : (found : OptionalResource) → found ≡ switched off (callOf w) → found ≡ NoResource → refused ≡ v
       phase-other found e f = stops (come-none s off todo first last w (sym e ∙ f))
 
       -- and switches r, a number of one byte
-      module _ (found : OptionalResource) (n r : ℕ) (e : found ≡ switched off (callOf w)) (f : found ≡ Resource n) (same : r ≡ n) (u : r < 256) where
+      module _ (found : OptionalResource) (n r : ℕ) (e : found ≡ switched off (callOf w)) (f : found ≡ Resource n)
+          (same : r ≡ n) (u : r < 256) where
         says : switched off (callOf w) ≡ Resource r
         says = sym e ∙ f ∙ ap Resource (sym same)
 
@@ -96,7 +99,8 @@ module _ (s : Station) (off : Bool) (todo : ℕ) (first : Bool) (last : ℕ) whe
             → takePhase s off rest false r (drop (i + 1) l) ≡ v
         phase-next b rest m z p =
             let may = come-is s off todo first last w r u says ∙ sym m ∙ not-false b z in
-            sym (ap (takePhase s off todo first last) (drop-cons l i 0 h) ∙ take-one _ _ todo first last w _ (ne-eqb todo 0 (omega arith)) may
+            sym (ap (takePhase s off todo first last) (drop-cons l i 0 h) ∙ take-one _ _ todo first last w _
+            (ne-eqb todo 0 (omega arith)) may
             ∙ rw (come-names s off todo first last w r u says, ← p, ← add-one i) refl)
             ∙ inv
 

@@ -88,7 +88,8 @@ module _ (s : Station) (on off at : ℕ) (ws : List ℕ) (a : Taken) (ha : Leave
 pub ruleset switches = (within, ons-refused, offs-follow)
 
 -- the own call, these, and the own call
-module _ (s : Station) (c : Change) (ws : List ℕ) (a : Taken) (ha : Leaves ws a (takeWords (ownWords (not (c .last)) (c .own)) (drop 0 ws))) where
+module _ (s : Station) (c : Change) (ws : List ℕ) (a : Taken)
+    (ha : Leaves ws a (takeWords (ownWords (not (c .last)) (c .own)) (drop 0 ws))) where
   pub first-refused : a ≡ Refused → false ≡ walked s c ws
   unfolding walked andThen isEnd
   first-refused e = rw (refused-is ws a _ ha e) refl

@@ -13,7 +13,8 @@ ghost use Rattle.request.specs.Permitted.{PermittedRequest};
 // Whether the list is that of a request which has passed every check.
 pub fn conforming(table: &[u8], state: &[u8], q: Request, list: &[u32]) -> bool
     requires { ⌜ PermittedRequest (now table) (now state) q ⌝ }
-    ensures { λ r. ⌜ r ≡ conforming (station (now (table .entry))) (status (now (table .entry)) (now (state .entry))) q (now (list .entry)) ⌝ }
+    ensures { λ r. ⌜ r ≡ conforming (station (now (table .entry))) (status (now (table .entry)) (now (state .entry))) q
+        (now (list .entry)) ⌝ }
 {
     let on = status::image::on_set(table, state);
     let c = request::change::change(table, state, on, q);

@@ -1,4 +1,5 @@
-// One phase of a list: the calls that switch each resource of a set, each once and in order. The first word that cannot stand there ends it.
+// One phase of a list: the calls that switch each resource of a set, each once and in order. The first word that cannot stand there ends
+// it.
 use crate::Taken;
 use crate::decode::OptionalResource;
 ghost use mathlib.Core.Path.{_≡_};
@@ -39,7 +40,8 @@ fn comes_next(table: &[u8], off: bool, left: u32, first: bool, last: usize, r: u
 // The place after the words that switch each resource of the set, from `at` on.
 pub fn take_phase(table: &[u8], off: bool, set: u32, list: &[u32], at: usize) -> Taken
     requires { ⌜ WellSized (now table) × (set < 2 ^ countR (now table)) × (at ≤ length (now list)) ⌝ }
-    ensures { λ r. ⌜ Leaves (now (list .entry)) r (takePhase (station (now (table .entry))) off set true 0 (drop at (now (list .entry)))) ⌝ }
+    ensures { λ r. ⌜ Leaves (now (list .entry)) r (takePhase (station (now (table .entry))) off set true 0
+        (drop at (now (list .entry)))) ⌝ }
 {
     let mut left = set;
     let mut first = true;

@@ -1,4 +1,5 @@
--- What an accepted table gives: its counts and length, and of each resource and device every rule of document 01's table, read off the station.
+-- What an accepted table gives: its counts and length, and of each resource and device every rule of document 01's table, read off the
+-- station.
 use mathlib.Core.Path.{_≡_, refl, sym, _∙_}
 use mathlib.Core.Bool.{true, false}
 use mathlib.Core.List.{List, [], _∷_, _++_}
@@ -12,8 +13,11 @@ use Rattle.rules.specs.declared.Verdict.the-variants.{Refused}
 use Rattle.rules.specs.declared.Reason.the-variants.{BadResource}
 use Rattle.rules.specs.Index.{eachFrom}
 use Rattle.rules.specs.Answers.{passes}
-use Rattle.rules.specs.Station.{Device, width, limit, station, recordSize, countR, countD, resourceStart, deviceStart, resourceAt, deviceAt, stationOf}
-use Rattle.rules.specs.Table.{countsGood, lengthGood, Field, field, firstBad, resourceFields, resourceGood, parentGood, setGood, sxdGood, sxwGood, deepestGood, headFields, setFields, sxdFields, sxwFields, lastFields, deviceFields, badField, fieldsGood, objectsGood, deviceRefusal, deviceGood, tableVerdict}
+use Rattle.rules.specs.Station.{Device, width, limit, station, recordSize, countR, countD, resourceStart, deviceStart, resourceAt}
+use Rattle.rules.specs.Station.{deviceAt, stationOf}
+use Rattle.rules.specs.Table.{countsGood, lengthGood, Field, field, firstBad, resourceFields, resourceGood, parentGood, setGood}
+use Rattle.rules.specs.Table.{sxdGood, sxwGood, deepestGood, headFields, setFields, sxdFields, sxwFields, lastFields, deviceFields}
+use Rattle.rules.specs.Table.{badField, fieldsGood, objectsGood, deviceRefusal, deviceGood, tableVerdict}
 use Rattle.rules.proofs.Index.{below-in}
 use Rattle.rules.proofs.Answers.{first-both, unless-at, refused-stops, lowest-at}
 use Rattle.laws.specs.Carried.{All}
@@ -72,7 +76,8 @@ module _ (w resources : ℕ) (t : List ℕ) (d at : ℕ) where
   fields-rules e =
       let v = deviceAt w t at in
       let Good : Field → Type 0 = λ f. f .good ≡ true in
-      let all : All Good (headFields d v ++ setFields w resources v ++ sxdFields w v ++ sxwFields w v ++ lastFields w t at v) = no-bad (recordSize w) (deviceFields w resources t d at) inside e in
+      let all : All Good (headFields d v ++ setFields w resources v ++ sxdFields w v ++ sxwFields w v ++ lastFields w t at v) =
+      no-bad (recordSize w) (deviceFields w resources t d at) inside e in
       let front3 = all-left Good (headFields d v ++ setFields w resources v ++ sxdFields w v ++ sxwFields w v) (lastFields w t at v) all in
       let front2 = all-left Good (headFields d v ++ setFields w resources v ++ sxdFields w v) (sxwFields w v) front3 in
       let front1 = all-left Good (headFields d v ++ setFields w resources v) (sxdFields w v) front2 in
@@ -82,9 +87,13 @@ module _ (w resources : ℕ) (t : List ℕ) (d at : ℕ) where
         ps = ltb-true _ _ (head .1 .0);
         pr = ltb-true _ _ (head .1 .1 .0);
         flags = ltb-true _ _ (head .1 .1 .1 .0);
-        sets = λ k h. each-at Good (λ j. field (4 + w * j) (setGood resources v j)) 0 5 (all-right Good (headFields d v) (setFields w resources v) front1) k (omega arith) (omega arith);
-        sxd = λ k h. each-at Good (λ j. field (4 + 5 * w + j) (sxdGood v (j + 1))) 0 4 (all-right Good (headFields d v ++ setFields w resources v) (sxdFields w v) front2) k (omega arith) (omega arith);
-        sxw = λ k h. each-at Good (λ j. field (8 + 5 * w + j) (sxwGood v j)) 0 5 (all-right Good (headFields d v ++ setFields w resources v ++ sxdFields w v) (sxwFields w v) front3) k (omega arith) (omega arith);
+        sets = λ k h. each-at Good (λ j. field (4 + w * j) (setGood resources v j)) 0 5
+            (all-right Good (headFields d v) (setFields w resources v) front1) k (omega arith) (omega arith);
+        sxd = λ k h. each-at Good (λ j. field (4 + 5 * w + j) (sxdGood v (j + 1))) 0 4
+            (all-right Good (headFields d v ++ setFields w resources v) (sxdFields w v) front2) k (omega arith) (omega arith);
+        sxw = λ k h. each-at Good (λ j. field (8 + 5 * w + j) (sxwGood v j)) 0 5
+            (all-right Good (headFields d v ++ setFields w resources v ++ sxdFields w v) (sxwFields w v) front3) k
+            (omega arith) (omega arith);
         deepest = all-right Good (headFields d v ++ setFields w resources v ++ sxdFields w v ++ sxwFields w v) (lastFields w t at v) all .0;
       }
 
@@ -130,7 +139,9 @@ accepted t e =
       resources = leb-true _ _ (counts .0);
       devices = leb-true _ _ (counts .1);
       long = eqb-true _ _ (unless-at _ _ _ (c .0));
-      resource = λ r h. rw (resource-at (width t) t r h) (level-good t r (not-false _ (lowest-at _ (countR t) (Refused BadResource) (refused-stops BadResource) (f .0) r h)));
-      device = λ d h. rw (device-at (width t) t d h) (fields-rules (width t) (countR t) t d (deviceStart (width t) t d) (eqb-true _ _ (each d h .0)));
+      resource = λ r h. rw (resource-at (width t) t r h)
+          (level-good t r (not-false _ (lowest-at _ (countR t) (Refused BadResource) (refused-stops BadResource) (f .0) r h)));
+      device = λ d h. rw (device-at (width t) t d h) (fields-rules (width t) (countR t) t d (deviceStart (width t) t d)
+          (eqb-true _ _ (each d h .0)));
       objects = λ d h. rw (device-at (width t) t d h) (each d h .1);
     }

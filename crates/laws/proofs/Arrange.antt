@@ -1,4 +1,5 @@
--- A list that conforms is arranged: own call, ONs, OFFs, own call, from the on-set to the needed set after the request. So the execution theorem holds of it.
+-- A list that conforms is arranged: own call, ONs, OFFs, own call, from the on-set to the needed set after the request. So the execution
+-- theorem holds of it.
 use mathlib.Core.Path.{_≡_, refl, sym, _∙_}
 use mathlib.Core.Bool.{Bool, true, false, cond}
 use mathlib.Core.List.{List, [], _∷_, map, append-assoc, append-nil}
@@ -27,7 +28,8 @@ use Rattle.laws.proofs.Conform.{by-phase}
 
 -- the words of an arranged list of calls
 pub arranged-words : (s : Station) (st : Status) (q : Request) (ons offs : List ℕ)
-    → map wordOf (arrange (ownLast q) (listOf (ownCall s (st .entries (q .device)) q)) ons offs) ≡ listed (map wordOf (ownFirstCalls s st q)) ons offs (map wordOf (ownLastCalls s st q))
+    → map wordOf (arrange (ownLast q) (listOf (ownCall s (st .entries (q .device)) q)) ons offs) ≡ listed
+    (map wordOf (ownFirstCalls s st q)) ons offs (map wordOf (ownLastCalls s st q))
 arranged-words s st q ons offs = by-phase s st q ons offs ∙ simp (append-assoc, append-nil)
 
 -- ---- the own call is neither `_ON` nor `_OFF`
@@ -61,8 +63,10 @@ once-has m l h r = rw (h r) (decide (member m r) (λ e. rw e refl) (λ e. rw e r
 has-all : (P : ℕ → Type 0) (l : List ℕ) → ((r : ℕ) → hasIn r l ≡ true → P r) → All P l
 unfolding All times
 has-all P [] h = tt
-has-all P (x ∷ l) h =
-    (h x (rw (eq-eqb x x refl) (lt-ltb 0 (1 + times x l) (omega arith))), has-all P l (λ r e. h r (lt-ltb _ _ (more (eqb x r) (times r l) (ltb-true _ _ e)))))
+has-all P (x ∷ l) h = (
+  h x (rw (eq-eqb x x refl) (lt-ltb 0 (1 + times x l) (omega arith))),
+  has-all P l (λ r e. h r (lt-ltb _ _ (more (eqb x r) (times r l) (ltb-true _ _ e)))),
+)
   where
     more : (b : Bool) (n : ℕ) → 0 < n → 0 < cond b 1 0 + n
     more true n h = omega arith
@@ -73,9 +77,11 @@ once-small w m l h k o =
     has-all (λ r. r < 256) l (λ r e. let b = member-below w m r h (sym (once-has m l o r) ∙ e) in omega arith)
 
 -- ---- so a list that conforms is arranged, and carried out as the theorem says
-module _ (w : ℕ) (small : w ≤ 256) (s : Station) (st : Status) (q : Request) (on : st .on < 2 ^ w) (end : endSet s (st .entries) q < 2 ^ w) where
+module _ (w : ℕ) (small : w ≤ 256) (s : Station) (st : Status) (q : Request) (on : st .on < 2 ^ w)
+    (end : endSet s (st .entries) q < 2 ^ w) where
   pub conforms-arranged : (ws : List ℕ) (c : Conforms s st q ws)
-      → Arranged (member (st .on)) (member (endSet s (st .entries) q)) (map wordOf (ownFirstCalls s st q)) (c .ons) (c .offs) (map wordOf (ownLastCalls s st q))
+      → Arranged (member (st .on)) (member (endSet s (st .entries) q)) (map wordOf (ownFirstCalls s st q)) (c .ons) (c .offs)
+      (map wordOf (ownLastCalls s st q))
   unfolding toTurnOn toTurnOff
   conforms-arranged ws c =
       let need = endSet s (st .entries) q in
@@ -89,5 +95,6 @@ module _ (w : ℕ) (small : w ≤ 256) (s : Station) (st : Status) (q : Request)
       }
 
   pub conforms-carried : (ws : List ℕ) (c : Conforms s st q ws)
-      → Carried (member (st .on)) (member (endSet s (st .entries) q)) (map wordOf (ownFirstCalls s st q)) (c .ons) (c .offs) (map wordOf (ownLastCalls s st q))
+      → Carried (member (st .on)) (member (endSet s (st .entries) q)) (map wordOf (ownFirstCalls s st q)) (c .ons) (c .offs)
+      (map wordOf (ownLastCalls s st q))
   conforms-carried ws c = carried (conforms-arranged ws c)

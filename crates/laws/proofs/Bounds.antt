@@ -32,7 +32,8 @@ use Rattle.laws.proofs.Stages.{Stages, stages-of}
 
 -- ---- what holds of each answer that a chain of checks can come to holds of the chain
 module _ (P : Verdict → Type 0) where
-  pub chain-holds : (v : Verdict) (vs : List Verdict) (last : Verdict) → P v → (passes v ≡ true → P (firstOf vs last)) → P (firstOf (v ∷ vs) last)
+  pub chain-holds : (v : Verdict) (vs : List Verdict) (last : Verdict) → P v → (passes v ≡ true → P (firstOf vs last))
+      → P (firstOf (v ∷ vs) last)
   chain-holds v vs last p rest = decide (passes v) (λ e. rw (first-pass v vs last e) (rest e)) (λ e. rw (first-stop v vs last e) p)
 
   pub last-holds : (last : Verdict) → P last → P (firstOf [] last)
@@ -41,7 +42,8 @@ module _ (P : Verdict → Type 0) where
   pub unless-holds : (good : Bool) (why : Reason) (at : ℕ) → P (Done 0) → (good ≡ false → P (Refused why at)) → P (unless good why at)
   unless-holds good why at p r = decide good (λ e. rw (unless-of good why at e) p) (λ e. rw (unless-stop good why at e) (r e))
 
-  pub lowest-holds : (bad : ℕ → Bool) (n : ℕ) (refusal : ℕ → Verdict) → P (Done 0) → ((i : ℕ) → i < n → P (refusal i)) → P (lowest bad n refusal)
+  pub lowest-holds : (bad : ℕ → Bool) (n : ℕ) (refusal : ℕ → Verdict) → P (Done 0) → ((i : ℕ) → i < n → P (refusal i))
+      → P (lowest bad n refusal)
   lowest-holds bad n refusal p r =
       decide (ltb (least bad n) n)
       (λ e. let h = ltb-true (least bad n) n e in rw (lowest-stop bad n (least bad n) refusal refl h) (r (least bad n) h))
@@ -60,18 +62,22 @@ module _ (w : ℕ) (h : 4 ≤ w) where
   refused why n i l u = record { place = omega arith; count = omega arith }
 
   -- a check whose refusal has no place, and the checks after it
-  next : (good : Bool) (why : Reason) (vs : List Verdict) (last : Verdict) → (passes (unless good why 0) ≡ true → Bounded w (firstOf vs last))
+  next : (good : Bool) (why : Reason) (vs : List Verdict) (last : Verdict) → (passes (unless good why 0) ≡ true
+      → Bounded w (firstOf vs last))
       → Bounded w (firstOf (unless good why 0 ∷ vs) last)
   next good why vs last rest =
-      chain-holds (Bounded w) (unless good why 0) vs last (unless-holds (Bounded w) good why 0 done (λ _. refused why 1 0 (omega arith) (omega arith))) rest
+      chain-holds (Bounded w) (unless good why 0) vs last (unless-holds (Bounded w) good why 0 done
+      (λ _. refused why 1 0 (omega arith) (omega arith))) rest
 
   module _ (s : Station) (few : s .devices ≤ limit w) (rules : StationRules s) (entries : ℕ → Entry) where
     -- 13: a parent that bars the move is there, so it is lower than its child
-    parent-bounded : (d x : ℕ) → d < s .devices → parentAllows s entries d x ≡ false → Bounded w (Refused ParentDeeper (s .device d .parent))
+    parent-bounded : (d x : ℕ) → d < s .devices → parentAllows s entries d x ≡ false
+        → Bounded w (Refused ParentDeeper (s .device d .parent))
     unfolding parentAllows parentGood
     parent-bounded d x u e =
         ⊎-elim
-        (λ (a : ltb (s .device d .parent) d ≡ true). refused _ (s .devices) (s .device d .parent) few (omega (arith, ltb-true (s .device d .parent) d a)))
+        (λ (a : ltb (s .device d .parent) d ≡ true). refused _ (s .devices) (s .device d .parent) few
+        (omega (arith, ltb-true (s .device d .parent) d a)))
         (λ a. absurd (true≢false (sym (or-left _ _ a) ∙ e)))
         (or-cases _ _ (rules .parents d u))
 
@@ -81,7 +87,8 @@ module _ (w : ℕ) (h : 4 ≤ w) where
         next _ _ _ _
         (λ _. next _ _ _ _
         (λ _. chain-holds (Bounded w) _ _ _ (unless-holds (Bounded w) _ ParentDeeper (s .device d .parent) done (parent-bounded d x u))
-        (λ _. chain-holds (Bounded w) _ _ _ (lowest-holds (Bounded w) _ (s .devices) (Refused ChildShallower) done (λ i v. refused ChildShallower (s .devices) i few v))
+        (λ _. chain-holds (Bounded w) _ _ _ (lowest-holds (Bounded w) _ (s .devices) (Refused ChildShallower) done
+        (λ i v. refused ChildShallower (s .devices) i few v))
         (λ _. next _ _ _ _ (λ _. last-holds (Bounded w) (Done 0) done)))))
 
     arm-bounded : (d x y : ℕ) → Bounded w (armVerdict s entries d x y)
@@ -96,7 +103,8 @@ module _ (w : ℕ) (h : 4 ≤ w) where
         (λ e.
         let u = form-device s q (unless-at _ _ _ e) in
         chain-holds (Bounded w) _ _ _
-        (decide (isMove q) (λ m. rw m (move-bounded (q .device) (q .a) u)) (λ m. decide (isArm q) (λ a. rw (m, a) (arm-bounded (q .device) (q .a) (q .b))) (λ a. rw (m, a) done)))
+        (decide (isMove q) (λ m. rw m (move-bounded (q .device) (q .a) u))
+        (λ m. decide (isArm q) (λ a. rw (m, a) (arm-bounded (q .device) (q .a) (q .b))) (λ a. rw (m, a) done)))
         (λ _. last-holds (Bounded w) (Done 0) done))
 
 -- ---- a table's answers, at its own width
@@ -115,20 +123,24 @@ module _ (t : List ℕ) where
       let many = leb-true (countR t) (limit (width t)) (counts .0) in
       let more = leb-true (countD t) (limit (width t)) (counts .1) in
       next _ low _ _ _ _
-      (λ _. chain-holds (Bounded (width t)) _ _ _ (lowest-holds (Bounded (width t)) _ (countR t) (Refused BadResource) (done _ low) (λ i u. refused _ low BadResource (countR t) i many u))
-      (λ _. chain-holds (Bounded (width t)) _ _ _ (lowest-holds (Bounded (width t)) _ (countD t) (deviceRefusal t) (done _ low) (λ i u. refused _ low _ (countD t) i more u))
+      (λ _. chain-holds (Bounded (width t)) _ _ _ (lowest-holds (Bounded (width t)) _ (countR t) (Refused BadResource) (done _ low)
+      (λ i u. refused _ low BadResource (countR t) i many u))
+      (λ _. chain-holds (Bounded (width t)) _ _ _ (lowest-holds (Bounded (width t)) _ (countD t) (deviceRefusal t) (done _ low)
+      (λ i u. refused _ low _ (countD t) i more u))
       (λ _. last-holds (Bounded (width t)) (Done 0) (done _ low))))))
 
   pub fresh-bounded : (b : List ℕ) → Bounded (width t) (freshVerdict t b)
   unfolding freshVerdict
-  fresh-bounded b = chain-holds (Bounded (width t)) _ _ _ table-bounded (λ _. next _ low _ _ _ _ (λ _. last-holds (Bounded (width t)) (Done 0) (done _ low)))
+  fresh-bounded b = chain-holds (Bounded (width t)) _ _ _ table-bounded
+      (λ _. next _ low _ _ _ _ (λ _. last-holds (Bounded (width t)) (Done 0) (done _ low)))
 
   -- 7 and 8
   state-bounded : (b : List ℕ) → station t .devices ≤ limit (width t) → Bounded (width t) (stateVerdict t b)
   unfolding stateVerdict consistencyVerdict
   state-bounded b few =
       next _ low _ _ _ _
-      (λ _. chain-holds (Bounded (width t)) _ _ _ (lowest-holds (Bounded (width t)) _ (station t .devices) (Refused Inconsistent) (done _ low) (λ i u. refused _ low Inconsistent (station t .devices) i few u))
+      (λ _. chain-holds (Bounded (width t)) _ _ _ (lowest-holds (Bounded (width t)) _ (station t .devices) (Refused Inconsistent)
+      (done _ low) (λ i u. refused _ low Inconsistent (station t .devices) i few u))
       (λ _. last-holds (Bounded (width t)) (Done 0) (done _ low)))
 
   module _ (b : List ℕ) (q : Request) where
@@ -144,7 +156,8 @@ module _ (t : List ℕ) where
         (λ _. chain-holds (Bounded (width t)) _ _ _ (request-bounded _ low (station t) few (station-rules t a) (status t b .entries) q)
         (λ _. last-holds (Bounded (width t)) (Done 0) (done _ low)))))
 
-    pub plan-bounded : (room : Bool) → (Stages t b q → length (planned t b q) ≤ planRoom (width t)) → Bounded (width t) (planVerdict room t b q)
+    pub plan-bounded : (room : Bool) → (Stages t b q → length (planned t b q) ≤ planRoom (width t))
+        → Bounded (width t) (planVerdict room t b q)
     unfolding planVerdict
     plan-bounded room short =
         chain-holds (Bounded (width t)) _ _ _ (stages-bounded room)
@@ -153,4 +166,5 @@ module _ (t : List ℕ) where
     pub check-bounded : (list : List ℕ) → Bounded (width t) (checkBytes t b q list)
     unfolding checkBytes
     check-bounded list =
-        chain-holds (Bounded (width t)) _ _ _ (stages-bounded true) (λ _. next _ low _ _ _ _ (λ _. last-holds (Bounded (width t)) (Done 0) (done _ low)))
+        chain-holds (Bounded (width t)) _ _ _ (stages-bounded true)
+        (λ _. next _ low _ _ _ _ (λ _. last-holds (Bounded (width t)) (Done 0) (done _ low)))

@@ -1,5 +1,5 @@
--- Demand 3 of byte lists: their words get the same answer, a length that is no multiple of four never passes, and the planner's own bytes pass, since each of
--- its words fits four bytes.
+-- Demand 3 of byte lists: their words get the same answer, a length that is no multiple of four never passes, and the planner's own bytes
+-- pass, since each of its words fits four bytes.
 use mathlib.Core.Path.{_≡_, refl, ap, _∙_}
 use mathlib.Core.Bool.{Bool, true, false}
 use mathlib.Core.List.{List, _++_, map}
@@ -54,9 +54,11 @@ method-small x h = decide (eqb x 4) (λ e. rw e (omega arith)) (λ e. rw e h)
 own-fits : (s : Station) (e : Entry) (q : Request) → q .device < 256 → Kinds q → All Fits (map wordOf (listOf (ownCall s e q)))
 unfolding ownCall moveCall wakeCall Kinds
 own-fits s e q d k =
-    ⊎-elim (λ m. rw (m .0) (only-fits _ (SetState (q .device) (methodFor (q .a))) (omega (arith, method-small (q .a) (leb-true _ _ (m .1))))))
+    ⊎-elim (λ m. rw (m .0) (only-fits _ (SetState (q .device) (methodFor (q .a)))
+    (omega (arith, method-small (q .a) (leb-true _ _ (m .1))))))
     (λ n. ⊎-elim
-    (λ m. rw (m .0, m .1) (only-fits _ (SetWake (q .device) (Enable (q .a) (q .b))) (omega (arith, leb-true (q .a) 4 (m .2), leb-true (q .b) 4 (m .3)))))
+    (λ m. rw (m .0, m .1) (only-fits _ (SetWake (q .device) (Enable (q .a) (q .b)))
+    (omega (arith, leb-true (q .a) 4 (m .2), leb-true (q .b) 4 (m .3)))))
     (λ m. rw (m .0, m .1) (only-fits _ (SetWake (q .device) Disable) (omega arith))) n) k
 
 module _ (t b : List ℕ) (q : Request) (g : Stages t b q) where
@@ -66,7 +68,8 @@ module _ (t b : List ℕ) (q : Request) (g : Stages t b q) where
   own : All Fits (map wordOf (listOf (ownCall (station t) (status t b .entries (q .device)) q)))
   own =
       let most : station t .devices ≤ limit (width t) = unfold stationOf in accepted t (g .table) .devices in
-      own-fits (station t) (status t b .entries (q .device)) q (omega (arith, form-device (station t) q form, width-wide t .high)) (kinds (station t) q form)
+      own-fits (station t) (status t b .entries (q .device)) q (omega (arith, form-device (station t) q form, width-wide t .high))
+      (kinds (station t) q form)
 
   own-first : All Fits (map wordOf (ownFirstCalls (station t) (status t b) q))
   unfolding ownFirstCalls All
@@ -99,16 +102,19 @@ module _ (t b : List ℕ) (q : Request) (g : Stages t b q) where
       (λ e. rw (List·getD-eq-default (planned t b q) 0 {n = i} (ltb-false _ _ e)) (omega arith))
 
 -- ---- bytes and words
-pub bytes-words : (t b : List ℕ) (q : Request) (list : List ℕ) → length list % 4 ≡ 0 → checkBytes t b q list ≡ checkWords t b q (byteWords (length list / 4) list)
+pub bytes-words : (t b : List ℕ) (q : Request) (list : List ℕ) → length list % 4 ≡ 0 → checkBytes t b q list ≡ checkWords t b q
+    (byteWords (length list / 4) list)
 unfolding checkBytes checkWords
 bytes-words t b q list e = rw (eq-eqb (length list % 4) 0 e) refl
 
 pub bytes-multiple : (t b : List ℕ) (q : Request) (list : List ℕ) → passes (checkBytes t b q list) ≡ true → length list % 4 ≡ 0
 unfolding checkBytes
-bytes-multiple t b q list e = eqb-true _ _ (both-true (eqb (length list % 4) 0) _ (unless-at _ _ _ (first-both _ _ _ (first-both _ _ _ e .1) .0)) .0)
+bytes-multiple t b q list e = eqb-true _ _ (both-true (eqb (length list % 4) 0) _
+    (unless-at _ _ _ (first-both _ _ _ (first-both _ _ _ e .1) .0)) .0)
 
 -- the bytes of words are a list of these words
-pub word-list : (t b : List ℕ) (q : Request) (ws : List ℕ) → ((i : ℕ) → getD ws i 0 < 2 ^ 32) → checkBytes t b q (wordBytes ws) ≡ checkWords t b q ws
+pub word-list : (t b : List ℕ) (q : Request) (ws : List ℕ) → ((i : ℕ) → getD ws i 0 < 2 ^ 32)
+    → checkBytes t b q (wordBytes ws) ≡ checkWords t b q ws
 word-list t b q ws h =
     let l = word-bytes-length ws in
     let four : length (wordBytes ws) / 4 ≡ length ws = omega arith in
@@ -118,7 +124,8 @@ pub planner-bytes : (t b : List ℕ) (q : Request) (plan : List ℕ) → passes 
     → take (4 * countOf (planBytes t b q plan .verdict)) (planBytes t b q plan .plan) ≡ wordBytes (planned t b q)
 unfolding planBytes outcome passes
 planner-bytes t b q plan e =
-    rw (plan-done (leb (4 * planRoom (width t)) (length plan)) t b q e) (take-put plan (wordBytes (planned t b q)) (4 * length (planned t b q)) (word-bytes-length (planned t b q)))
+    rw (plan-done (leb (4 * planRoom (width t)) (length plan)) t b q e) (take-put plan (wordBytes (planned t b q))
+    (4 * length (planned t b q)) (word-bytes-length (planned t b q)))
 
 pub demand3-bytes : (t b : List ℕ) (q : Request) (list : List ℕ) → Demand3Bytes t b q list
 demand3-bytes t b q list =

@@ -13,7 +13,8 @@ use Rattle.rules.specs.Status.{Status}
 use Rattle.rules.specs.declared.Request.{Request}
 use Rattle.rules.specs.Calls.{word4, wordOf, listOf, ownCall, ownLast, toTurnOn, toTurnOff, orderIn, turnOn, turnOff, arrange, calls}
 use Rattle.rules.specs.Conforms.{Conforms}
-use Rattle.rules.specs.Check.{Rest, left, refused, andThen, resourceIn, onWord, offWord, notLower, notHigher, ownFirstCalls, ownLastCalls, isEnd, conforming}
+use Rattle.rules.specs.Check.{Rest, left, refused, andThen, resourceIn, onWord, offWord, notLower, notHigher, ownFirstCalls}
+use Rattle.rules.specs.Check.{ownLastCalls, isEnd, conforming}
 use Rattle.laws.proofs.Chain.{chain-iff, rises-chained, falls-chained}
 use Rattle.laws.proofs.Order.{turn-on-ordered, turn-off-ordered}
 use Rattle.laws.proofs.Take.{not-left, take-words-at, take-words-of, take-at, take-of}
@@ -53,7 +54,8 @@ by-phase s st q ons offs =
     (λ e. rw e (simp regroup))
 
 joined : (s : Station) (st : Status) (q : Request) (ons offs ws a b c : List ℕ)
-    → ws ≡ map wordOf (ownFirstCalls s st q) ++ a → a ≡ map onWord ons ++ b → b ≡ map offWord offs ++ c → c ≡ map wordOf (ownLastCalls s st q) ++ []
+    → ws ≡ map wordOf (ownFirstCalls s st q) ++ a → a ≡ map onWord ons ++ b → b ≡ map offWord offs ++ c
+    → c ≡ map wordOf (ownLastCalls s st q) ++ []
     → ws ≡ map wordOf (arrange (ownLast q) (listOf (ownCall s (st .entries (q .device)) q)) ons offs)
 joined s st q ons offs ws a b c p on off l = p ∙ rw (on, off, l) (sym (by-phase s st q ons offs))
 
@@ -83,7 +85,8 @@ conforming-at s st q ws e =
       offsFall = chain-iff _ _ (falls-chained (orderIn s)) (off .list) .1 (off .chain);
     }
 
-conforming-of : (s : Station) (st : Status) (q : Request) (ws : List ℕ) (n : ℕ) → n ≤ 256 → toTurnOn s st q < 2 ^ n → toTurnOff s st q < 2 ^ n
+conforming-of : (s : Station) (st : Status) (q : Request) (ws : List ℕ) (n : ℕ) → n ≤ 256 → toTurnOn s st q < 2 ^ n
+    → toTurnOff s st q < 2 ^ n
     → Conforms s st q ws → conforming s st q ws ≡ true
 unfolding conforming
 conforming-of s st q ws n small u v c =
@@ -96,7 +99,8 @@ conforming-of s st q ws n small u v c =
     (then-of _ _ _ _ on (then-of _ _ _ _ off (take-words-of (map wordOf (ownLastCalls s st q)) [])))))
 
 -- the test passes exactly if the list conforms, where a byte can name each resource
-pub conforming-iff : (s : Station) (st : Status) (q : Request) (ws : List ℕ) (n : ℕ) → n ≤ 256 → toTurnOn s st q < 2 ^ n → toTurnOff s st q < 2 ^ n
+pub conforming-iff : (s : Station) (st : Status) (q : Request) (ws : List ℕ) (n : ℕ) → n ≤ 256 → toTurnOn s st q < 2 ^ n
+    → toTurnOff s st q < 2 ^ n
     → (conforming s st q ws ≡ true) ↔ Conforms s st q ws
 conforming-iff s st q ws n small on off = (conforming-at s st q ws, conforming-of s st q ws n small on off)
 

@@ -1,5 +1,5 @@
--- Consistency is kept: from a status in which every device is consistent, an accepted request leads to one in which every device is, with exactly the
--- needed set on. Over a station whose parents have lower numbers and whose sets have no bit at or above R.
+-- Consistency is kept: from a status in which every device is consistent, an accepted request leads to one in which every device is, with
+-- exactly the needed set on. Over a station whose parents have lower numbers and whose sets have no bit at or above R.
 use mathlib.Core.Path.{_≡_, refl}
 use mathlib.Core.Bool.{true, false}
 use Prim.Native.Nat.{ℕ, _<_}

@@ -1,4 +1,5 @@
--- Demand 3 holds of every list: from the equivalence of test and definition, the execution theorem, and what accepted tables and states give.
+-- Demand 3 holds of every list: from the equivalence of test and definition, the execution theorem, and what accepted tables and states
+-- give.
 use mathlib.Core.Path.{_≡_, refl, sym, ap, _∙_}
 use mathlib.Core.Bool.{Bool, true, false, _&&_, true≢false}
 use mathlib.Core.List.{List, [], _∷_, _++_, map, append-nil}
@@ -47,11 +48,13 @@ number-passes (Done n) e = done-passes n
 number-passes (Refused why at) e = absurd (no-reason-0 why e)
 
 -- a list passes exactly if the request is permitted and the test holds
-pub passed-of : (t b : List ℕ) (q : Request) (ws : List ℕ) → Stages t b q → conforming (station t) (status t b) q ws ≡ true → checkWords t b q ws ≡ Done 0
+pub passed-of : (t b : List ℕ) (q : Request) (ws : List ℕ) → Stages t b q → conforming (station t) (status t b) q ws ≡ true
+    → checkWords t b q ws ≡ Done 0
 unfolding checkWords firstOf passes
 passed-of t b q ws g e = rw (stages-pass true t b q g refl, unless-of _ NotConforming 0 e) refl
 
-pub passed-at : (t b : List ℕ) (q : Request) (ws : List ℕ) → passes (checkWords t b q ws) ≡ true → Stages t b q × (conforming (station t) (status t b) q ws ≡ true)
+pub passed-at : (t b : List ℕ) (q : Request) (ws : List ℕ) → passes (checkWords t b q ws) ≡ true → Stages t b q
+    × (conforming (station t) (status t b) q ws ≡ true)
 unfolding checkWords
 passed-at t b q ws e =
     let x = first-both _ _ _ e in
@@ -63,15 +66,18 @@ own-after : (q : Request) (before after : Entry) → ownLast q ≡ true → ownE
 unfolding ownLast
 own-after q before after e =
     decide (eqb (q .kind) 1)
-    (λ k. let z : eqb (q .a) 0 ≡ true = let o = rw (eqb-true (q .kind) 1 k) at e in ⊎-elim (λ x. x) (λ x. absurd (true≢false (sym x))) (or-cases (eqb (q .a) 0) false o) in rw (k, z) refl)
+    (λ k. let z : eqb (q .a) 0 ≡ true = let o = rw (eqb-true (q .kind) 1 k) at e in ⊎-elim (λ x. x) (λ x. absurd (true≢false (sym x)))
+    (or-cases (eqb (q .a) 0) false o) in rw (k, z) refl)
     (λ k. rw (k, (rw k at e)) refl)
 
 own-before : (q : Request) (before after : Entry) → ownLast q ≡ false → ownEntry q before after ≡ before
 unfolding ownLast
 own-before q before after e =
     decide (eqb (q .kind) 1)
-    (λ k. decide (eqb (q .a) 0) (λ z. absurd (true≢false (sym (or-left (eqb (q .kind) 1 && eqb (q .a) 0) _ (rw (k, z) refl)) ∙ e))) (λ z. rw (k, z) refl))
-    (λ k. decide (eqb (q .kind) 2) (λ z. absurd (true≢false (sym (or-right (eqb (q .kind) 1 && eqb (q .a) 0) _ z) ∙ e))) (λ z. rw (k, z) refl))
+    (λ k. decide (eqb (q .a) 0) (λ z. absurd (true≢false (sym (or-left (eqb (q .kind) 1 && eqb (q .a) 0) _ (rw (k, z) refl)) ∙ e)))
+    (λ z. rw (k, z) refl))
+    (λ k. decide (eqb (q .kind) 2) (λ z. absurd (true≢false (sym (or-right (eqb (q .kind) 1 && eqb (q .a) 0) _ z) ∙ e)))
+    (λ z. rw (k, z) refl))
 
 module _ (t b : List ℕ) (q : Request) (g : Stages t b q) where
   pub few : station t .resources ≤ 256
@@ -84,7 +90,8 @@ module _ (t b : List ℕ) (q : Request) (g : Stages t b q) where
   pub end-lt : neededAfter t b q < 2 ^ station t .resources
   unfolding endSet needed
   end-lt =
-      needed-lt (station t .resources) (station t) (entriesAfter (status t b .entries) q) (station t .devices) (station-rules t (accepted t (g .table)) .sets)
+      needed-lt (station t .resources) (station t) (entriesAfter (status t b .entries) q) (station t .devices)
+      (station-rules t (accepted t (g .table)) .sets)
 
   pub on-lt : status t b .on < 2 ^ station t .resources
   on-lt = consistent-of t b (g .state) .1 .on
@@ -99,7 +106,8 @@ module _ (t b : List ℕ) (q : Request) (g : Stages t b q) where
       passed-of t b q _ g (test-iff _ .1 (planner-conforms (station t) (status t b) q (minus-lt _ _ _ end-lt) (minus-lt _ _ _ on-lt)))
 
   pub list-carried : (ws : List ℕ) (c : Conforms (station t) (status t b) q ws)
-      → Carried (member (status t b .on)) (member (neededAfter t b q)) (map wordOf (ownFirstCalls (station t) (status t b) q)) (c .ons) (c .offs) (map wordOf (ownLastCalls (station t) (status t b) q))
+      → Carried (member (status t b .on)) (member (neededAfter t b q)) (map wordOf (ownFirstCalls (station t) (status t b) q)) (c .ons)
+      (c .offs) (map wordOf (ownLastCalls (station t) (status t b) q))
   list-carried ws c = conforms-carried (station t .resources) few (station t) (status t b) q on-lt end-lt ws c
 
   -- what is needed before is on at the start
@@ -114,7 +122,8 @@ module _ (t b : List ℕ) (q : Request) (g : Stages t b q) where
   unfolding ownFirstCalls
   first-none-last n e h = let z = rw e at h in omega arith
 
-  last-none-first : (ons offs ws : List ℕ) (n : ℕ) → ownLast q ≡ false → ws ≡ listed (map wordOf (ownFirstCalls (station t) (status t b) q)) ons offs (map wordOf (ownLastCalls (station t) (status t b) q))
+  last-none-first : (ons offs ws : List ℕ) (n : ℕ) → ownLast q ≡ false
+      → ws ≡ listed (map wordOf (ownFirstCalls (station t) (status t b) q)) ons offs (map wordOf (ownLastCalls (station t) (status t b) q))
       → n < length ws → length (map wordOf (ownFirstCalls (station t) (status t b) q) ++ map onWord ons ++ map offWord offs) ≤ n → ⊥
   unfolding ownLastCalls
   last-none-first ons offs ws n e same h k =
@@ -123,11 +132,13 @@ module _ (t b : List ℕ) (q : Request) (g : Stages t b q) where
       let long : length ws ≡ length m = ap length whole in
       omega arith
 
-  after-needed : (r : ℕ) → member (needs (station t) (q .device) (entriesAfter (status t b .entries) q (q .device))) r ≡ true → member (neededAfter t b q) r ≡ true
+  after-needed : (r : ℕ) → member (needs (station t) (q .device) (entriesAfter (status t b .entries) q (q .device))) r ≡ true
+      → member (neededAfter t b q) r ≡ true
   unfolding endSet needed
   after-needed r e = needed-of (station t) (entriesAfter (status t b .entries) q) (station t .devices) (q .device) r asked e
 
-  before-needed : (r : ℕ) → member (needs (station t) (q .device) (status t b .entries (q .device))) r ≡ true → member (status t b .on) r ≡ true
+  before-needed : (r : ℕ) → member (needs (station t) (q .device) (status t b .entries (q .device))) r ≡ true
+      → member (status t b .on) r ≡ true
   before-needed r e = subset-at _ _ r (consistent-of t b (g .state) .1 .power (q .device) asked) e
 
   pub own-finds : (ws : List ℕ) (c : Conforms (station t) (status t b) q ws) (n : ℕ) → n < length ws → Other (getD ws n 0)
@@ -143,7 +154,8 @@ module _ (t b : List ℕ) (q : Request) (g : Stages t b q) where
       (λ e. ⊎-elim (λ k. absurd (first-none-last n e k))
       (λ k. ap (λ (l : List ℕ). onAfter t b l n r) same ∙ x .lastFinds n r k ∙ after-needed r (rw (own-after q _ _ e) at m))
       (other-place first (c .ons) (c .offs) last n (rw same at o)))
-      (λ e. ⊎-elim (λ k. ap (λ (l : List ℕ). onAfter t b l n r) same ∙ x .firstFinds n r (omega arith) ∙ before-needed r (rw (own-before q _ _ e) at m))
+      (λ e. ⊎-elim (λ k. ap (λ (l : List ℕ). onAfter t b l n r) same ∙ x .firstFinds n r (omega arith)
+      ∙ before-needed r (rw (own-before q _ _ e) at m))
       (λ k. absurd (last-none-first (c .ons) (c .offs) ws n e same h k))
       (other-place first (c .ons) (c .offs) last n (rw same at o)))
 
@@ -164,14 +176,20 @@ pub demand3 : (t b : List ℕ) (q : Request) (ws : List ℕ) → Demand3 t b q w
 demand3 t b q ws =
     let passed : Passed t b q ws → Stages t b q × (conforming (station t) (status t b) q ws ≡ true) =
     λ e. passed-at t b q ws (number-passes _ e) in
-    let conforms : (e : Passed t b q ws) → Conforms (station t) (status t b) q ws = λ e. let p = passed e in test-iff t b q (p .0) ws .0 (p .1) in
-    let same : (e : Passed t b q ws) → ws ≡ listed (map wordOf (ownFirstCalls (station t) (status t b) q)) (conforms e .ons) (conforms e .offs) (map wordOf (ownLastCalls (station t) (status t b) q)) =
+    let conforms : (e : Passed t b q ws) → Conforms (station t) (status t b) q ws = λ e. let p = passed e in
+    test-iff t b q (p .0) ws .0 (p .1) in
+    let same : (e : Passed t b q ws) → ws ≡ listed (map wordOf (ownFirstCalls (station t) (status t b) q)) (conforms e .ons)
+    (conforms e .offs) (map wordOf (ownLastCalls (station t) (status t b) q)) =
     λ e. conforms e .whole ∙ arranged-words (station t) (status t b) q (conforms e .ons) (conforms e .offs) in
     record {
-      exactly = λ e. let g = stages-of true t b q (number-passes _ e) in
-          (λ p. test-iff t b q g ws .0 (passed-at t b q ws (number-passes _ p) .1), λ c. ap numberOf (passed-of t b q ws g (test-iff t b q g ws .1 c)));
+      exactly = λ e. let g = stages-of true t b q (number-passes _ e) in (
+        λ p. test-iff t b q g ws .0 (passed-at t b q ws (number-passes _ p) .1),
+        λ c. ap numberOf
+            (passed-of t b q ws g (test-iff t b q g ws .1 c)),
+      );
       keeps = λ e n r x y. let p = passed e in
-          ap (λ (l : List ℕ). onAfter t b l n r) (same e) ∙ list-carried t b q (p .0) ws (conforms e) .keeps n r (before-on t b q (p .0) r x) y;
+          ap (λ (l : List ℕ). onAfter t b l n r) (same e) ∙ list-carried t b q (p .0) ws (conforms e) .keeps n r
+          (before-on t b q (p .0) r x) y;
       own = λ e c one n h is r m. let p = passed e in
           own-finds t b q (p .0) ws (conforms e) n h (rw is (other-word (station t) (status t b .entries (q .device)) q c one)) r m;
       ends = λ e r. let p = passed e in

@@ -51,6 +51,7 @@ every-suc f n =
 -- what is the same below n
 pub every-ext : (f g : ℕ → Bool) (n : ℕ) → ((i : ℕ) → i < n → f i ≡ g i) → every f n ≡ every g n
 every-ext f g n h =
-    same-test (every f n) (every g n) (λ e. every-of g n (λ i l. sym (h i l) ∙ every-at f n i e l)) (λ e. every-of f n (λ i l. h i l ∙ every-at g n i e l))
+    same-test (every f n) (every g n) (λ e. every-of g n (λ i l. sym (h i l) ∙ every-at f n i e l))
+    (λ e. every-of f n (λ i l. h i l ∙ every-at g n i e l))
 
 pub ruleset everyOf = (every-starts, every-next, every-stops, every-done)

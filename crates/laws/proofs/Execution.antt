@@ -1,5 +1,7 @@
--- Carrying out a list: a word that is neither `_ON` nor `_OFF` leaves the set, a run of `_ON` words adds to it, a run of `_OFF` words takes from it.
--- From this the execution theorem: any list arranged as other words, ONs, OFFs, other words takes one set to another and keeps what is in both.
+-- Carrying out a list: a word that is neither `_ON` nor `_OFF` leaves the set, a run of `_ON` words adds to it, a run of `_OFF` words takes
+-- from it.
+-- From this the execution theorem: any list arranged as other words, ONs, OFFs, other words takes one set to another and keeps what is in
+-- both.
 use mathlib.Core.Path.{_≡_, refl, sym, _∙_, fun-ext}
 use mathlib.Core.Bool.{Bool, true, false, not, cond, _&&_, true≢false, and-false}
 use mathlib.Core.List.{List, [], _∷_, _++_, map, append-assoc}
@@ -26,7 +28,8 @@ cond-same false x = refl
 pub other-leaves : (w : ℕ) → Other w → (on : ℕ → Bool) → carryOut on w ≡ on
 unfolding carryOut
 other-leaves w h on =
-    fun-ext (λ r. rw (ne-eqb (w % 0x100) 1 (omega arith), ne-eqb (w % 0x100) 2 (omega arith)) (cond-same (eqb (w / 0x1_0000) 0 && eqb (w / 0x100 % 0x100) r) (on r)))
+    fun-ext (λ r. rw (ne-eqb (w % 0x100) 1 (omega arith), ne-eqb (w % 0x100) 2 (omega arith))
+    (cond-same (eqb (w / 0x1_0000) 0 && eqb (w / 0x100 % 0x100) r) (on r)))
 
 -- the word that puts r in, or takes it out
 abbrev pub putWord : Bool → ℕ → ℕ
@@ -61,7 +64,8 @@ has-cons : (b : Bool) (k n : ℕ) (x y : Bool) → cond (ltb 0 n) x (cond b x y)
 has-cons true k n x y = rw (lt-ltb 0 (1 + n) (omega arith)) (cond-same (ltb 0 n) x)
 has-cons false k n x y = rw (zero-add n) refl
 
-pub run-switch : (b : Bool) (l : List ℕ) → All (λ r. r < 256) l → (on : ℕ → Bool) (k : ℕ) → execution on (map (putWord b) l) k ≡ cond (hasIn k l) b (on k)
+pub run-switch : (b : Bool) (l : List ℕ) → All (λ r. r < 256) l → (on : ℕ → Bool) (k : ℕ) → execution on (map (putWord b) l) k ≡ cond
+    (hasIn k l) b (on k)
 unfolding execution All times
 run-switch b [] a on k = refl
 run-switch b (x ∷ l) a on k =
@@ -102,7 +106,12 @@ module _ {start target : ℕ → Bool} {first ons offs last : List ℕ} (a : Arr
   -- after the ONs and OFFs the set is the target
   middle-ends : execution start (first ++ map onWord ons ++ map offWord offs) ≡ target
   middle-ends =
-      rw (run-append (first ++ map onWord ons) (map offWord offs) start, run-append first (map onWord ons) start, run-others first (a .firstOther) start)
+      rw (
+        run-append (first ++ map onWord ons) (map offWord offs) start,
+        run-append first (map onWord ons) start,
+        run-others first
+            (a .firstOther) start,
+      )
       (fun-ext (λ r.
       run-switch false offs (a .offsSmall) (execution start (map onWord ons)) r
       ∙ rw (run-switch true ons (a .onsSmall) start r, a .onsAre r, a .offsAre r) (go (start r) (target r))))
@@ -120,8 +129,10 @@ module _ {start target : ℕ → Bool} {first ons offs last : List ℕ} (a : Arr
       all-append (Keeps r) _ last
       (all-append (Keeps r) _ (map offWord offs)
       (all-append (Keeps r) first (map onWord ons) (others first (a .firstOther))
-      (all-map (Keeps r) onWord ons (all-imp (λ k. k < 256) (λ k. Keeps r (onWord k)) (λ k h. switch-keeps true r k h (and-false (eqb k r))) ons (a .onsSmall))))
-      (all-map (Keeps r) offWord offs (all-both (λ k. k < 256) (λ k. eqb k r && true ≡ false) (λ k. Keeps r (offWord k)) (λ k h. switch-keeps false r k h) offs (a .offsSmall) (not-in r offs none))))
+      (all-map (Keeps r) onWord ons (all-imp (λ k. k < 256) (λ k. Keeps r (onWord k))
+      (λ k h. switch-keeps true r k h (and-false (eqb k r))) ons (a .onsSmall))))
+      (all-map (Keeps r) offWord offs (all-both (λ k. k < 256) (λ k. eqb k r && true ≡ false) (λ k. Keeps r (offWord k))
+      (λ k h. switch-keeps false r k h) offs (a .offsSmall) (not-in r offs none))))
       (others last (a .lastOther))
 
   pub carried : Carried start target first ons offs last
@@ -129,11 +140,24 @@ module _ {start target : ℕ → Bool} {first ons offs last : List ℕ} (a : Arr
       let m = first ++ map onWord ons ++ map offWord offs in
       let rest : listed first ons offs last ≡ first ++ (map onWord ons ++ map offWord offs ++ last) = simp append-assoc in
       record {
-        keeps = λ n r x y. run-keeps r (take n (listed first ons offs last)) (all-take (Keeps r) n (listed first ons offs last) (all-keep r x y)) start x;
+        keeps = λ n r x y. run-keeps r (take n (listed first ons offs last)) (all-take (Keeps r) n (listed first ons offs last)
+            (all-keep r x y)) start x;
         ends = λ r. rw (run-append m last start, middle-ends, run-others last (a .lastOther) target) refl;
-        firstFinds = λ n r h. rw (rest, take-append-le n first (map onWord ons ++ map offWord offs ++ last) h, run-others (take n first) (all-take Other n first (a .firstOther)) start) refl;
+        firstFinds = λ n r h. rw (
+          rest,
+          take-append-le n first (map onWord ons ++ map offWord offs ++ last) h,
+          run-others (take n first)
+              (all-take Other n first (a .firstOther)) start,
+        ) refl;
         lastFinds = λ n r h.
             let k = n - length m in
             let e : n ≡ length m + k = omega arith in
-            rw (e, take-append-add m last k, run-append m (take k last) start, middle-ends, run-others (take k last) (all-take Other k last (a .lastOther)) target) refl;
+            rw (
+              e,
+              take-append-add m last k,
+              run-append m (take k last) start,
+              middle-ends,
+              run-others (take k last)
+                  (all-take Other k last (a .lastOther)) target,
+            ) refl;
       }

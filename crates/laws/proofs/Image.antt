@@ -27,7 +27,16 @@ bytes-bits (suc w) =
 entry-past : (xs ys : List ℕ) (n : ℕ) → entryAt (xs ++ ys) (length xs + n) ≡ entryAt ys n
 unfolding entryAt
 entry-past xs ys n =
-    rw (add-assoc (length xs) n 1, add-assoc (length xs) n 2, add-assoc (length xs) n 3, getD-append-add xs ys n 0, getD-append-add xs ys (n + 1) 0, getD-append-add xs ys (n + 2) 0, getD-append-add xs ys (n + 3) 0) refl
+    rw (
+      add-assoc (length xs) n 1,
+      add-assoc (length xs) n 2,
+      add-assoc (length xs) n 3,
+      getD-append-add xs ys n 0,
+      getD-append-add xs ys
+          (n + 1) 0,
+      getD-append-add xs ys (n + 2) 0,
+      getD-append-add xs ys (n + 3) 0,
+    ) refl
 
 entry-here : (e : Entry) (ys : List ℕ) → entryAt (entryBytes e ++ ys) 0 ≡ e
 unfolding entryAt entryBytes
@@ -43,12 +52,14 @@ unfolding entriesBytes entryBytes
 entries-length entries i zero = refl
 entries-length entries i (suc k) = omega (arith, entries-length entries (suc i) k)
 
-pub entry-back : (entries : ℕ → Entry) (ys : List ℕ) (i k j : ℕ) → j < k → entryAt (entriesBytes entries i k ++ ys) (4 * j) ≡ entries (i + j)
+pub entry-back : (entries : ℕ → Entry) (ys : List ℕ) (i k j : ℕ) → j < k → entryAt (entriesBytes entries i k ++ ys)
+    (4 * j) ≡ entries (i + j)
 unfolding entriesBytes
 entry-back entries ys i zero j h = absurd (omega arith)
 entry-back entries ys i (suc k) zero h =
     let z : i + 0 ≡ i = omega arith in
-    rw (append-assoc (entryBytes (entries i)) (entriesBytes entries (suc i) k) ys, z) (entry-here (entries i) (entriesBytes entries (suc i) k ++ ys))
+    rw (append-assoc (entryBytes (entries i)) (entriesBytes entries (suc i) k) ys, z)
+    (entry-here (entries i) (entriesBytes entries (suc i) k ++ ys))
 entry-back entries ys i (suc k) (suc j) h =
     let a : 4 * suc j ≡ 4 + 4 * j = omega arith in
     let b : i + suc j ≡ suc i + j = omega arith in
@@ -58,7 +69,8 @@ entry-back entries ys i (suc k) (suc j) h =
 -- ---- the image
 pub image-length : (w : ℕ) (st : Status) → length (imageOf w st) ≡ imageSize w
 unfolding imageOf
-image-length w st = length-append (entriesBytes (st .entries) 0 (8 * w)) (bytesLE w (st .on)) ∙ omega (arith, entries-length (st .entries) 0 (8 * w), bytes-length w (st .on))
+image-length w st = length-append (entriesBytes (st .entries) 0 (8 * w)) (bytesLE w (st .on))
+    ∙ omega (arith, entries-length (st .entries) 0 (8 * w), bytes-length w (st .on))
 
 pub image-entry : (w : ℕ) (st : Status) (k : ℕ) → k < 8 * w → entriesOf w (imageOf w st) k ≡ st .entries k
 unfolding imageOf entriesOf
@@ -75,7 +87,8 @@ image-on w st h =
     ∙ mod-eq-of-lt (rw (bytes-bits w) h)
 
 -- what is read back is the status, where numbers from 8w on stand for nothing
-pub status-image : (w : ℕ) (st : Status) → st .on < 2 ^ (8 * w) → ((k : ℕ) → 8 * w ≤ k → st .entries k ≡ noEntry) → statusOf w (imageOf w st) ≡ st
+pub status-image : (w : ℕ) (st : Status) → st .on < 2 ^ (8 * w) → ((k : ℕ) → 8 * w ≤ k → st .entries k ≡ noEntry)
+    → statusOf w (imageOf w st) ≡ st
 unfolding statusOf
 status-image w st h out =
     let es : entriesOf w (imageOf w st) ≡ st .entries =

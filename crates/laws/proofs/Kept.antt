@@ -1,5 +1,5 @@
--- An accepted request keeps every device consistent, and the entries' values good. Over a station whose parents have lower numbers and whose sets have no
--- bit at or above R, as an accepted table's station has.
+-- An accepted request keeps every device consistent, and the entries' values good. Over a station whose parents have lower numbers and
+-- whose sets have no bit at or above R, as an accepted table's station has.
 use mathlib.Core.Path.{_≡_, refl}
 use mathlib.Core.Bool.{Bool, true, false, not, _&&_, _||_}
 use mathlib.Core.Logic.{_⊎_, inl, inr, ⊎-elim}
@@ -25,12 +25,14 @@ pub record StationRules (s : Station) : Type 0 where
   pub sets : (d : ℕ) → d < s .devices → (k : ℕ) → k < 5 → s .device d .sets k < 2 ^ s .resources
 
 -- a device's parent, where it has one, is another device
-other-parent : (s : Station) (d : ℕ) → parentGood d (s .device d) ≡ true → (eqb (s .device d .parent) absent ≡ true) ⊎ (s .device d .parent < d)
+other-parent : (s : Station) (d : ℕ) → parentGood d (s .device d) ≡ true → (eqb (s .device d .parent) absent ≡ true)
+    ⊎ (s .device d .parent < d)
 unfolding parentGood
 other-parent s d e = ⊎-elim (λ a. inr (ltb-true _ _ a)) (λ a. inl a) (or-cases _ _ e)
 
 -- where no state changes, nor does what depends on the states alone
-states-same : (s : Station) (old new : ℕ → Entry) (d : ℕ) → ((k : ℕ) → new k .state ≡ old k .state) → Apart s old d → wakeConsistent s d (new d) ≡ true → Apart s new d
+states-same : (s : Station) (old new : ℕ → Entry) (d : ℕ) → ((k : ℕ) → new k .state ≡ old k .state) → Apart s old d
+    → wakeConsistent s d (new d) ≡ true → Apart s new d
 unfolding parentAllows
 states-same s old new d h a w =
     record { known = rw (h d) (a .known); under = rw (h (s .device d .parent), h d) (a .under); wake = w }
@@ -40,17 +42,20 @@ still : (a p l m : Bool) → a || p && l ≡ true → a || m ≡ true → a || p
 still true p l m e f = refl
 still false p l m e f = and-true p m (both-true p l e .0) f
 
-module _ (s : Station) (rules : StationRules s) (entries : ℕ → Entry) (q : Request) (all : (d : ℕ) → d < s .devices → Apart s entries d) where
+module _ (s : Station) (rules : StationRules s) (entries : ℕ → Entry) (q : Request) (all : (d : ℕ) → d < s .devices
+    → Apart s entries d) where
   -- ---- a move
   moved : isMove q ≡ true → newEntry (entries (q .device)) q .state ≡ q .a
   unfolding newEntry
   moved m = rw m refl
 
-  moved-wake : isMove q ≡ true → Moves s entries (q .device) (q .a) → wakeConsistent s (q .device) (entries (q .device)) ≡ true → wakeConsistent s (q .device) (newEntry (entries (q .device)) q) ≡ true
+  moved-wake : isMove q ≡ true → Moves s entries (q .device) (q .a) → wakeConsistent s (q .device) (entries (q .device)) ≡ true
+      → wakeConsistent s (q .device) (newEntry (entries (q .device)) q) ≡ true
   unfolding newEntry wakeConsistent wakeAllows
   moved-wake m v h =
       let e = entries (q .device) in
-      rw m (still (not (isArmed e)) (wakePair s (q .device) (e .sleep) (e .wake)) (leb (e .state) (e .wake)) (leb (q .a) (e .wake)) h (v .wake))
+      rw m (still (not (isArmed e)) (wakePair s (q .device) (e .sleep) (e .wake)) (leb (e .state) (e .wake))
+      (leb (q .a) (e .wake)) h (v .wake))
 
   move-same : q .device < s .devices → isMove q ≡ true → Moves s entries (q .device) (q .a) → Apart s (entriesAfter entries q) (q .device)
   unfolding parentAllows
@@ -64,7 +69,8 @@ module _ (s : Station) (rules : StationRules s) (entries : ℕ → Entry) (q : R
         wake = rw e (moved-wake m v (all d l .wake));
       }
 
-  move-other : (d : ℕ) → d < s .devices → (d ≡ q .device → ⊥) → isMove q ≡ true → Moves s entries (q .device) (q .a) → Apart s (entriesAfter entries q) d
+  move-other : (d : ℕ) → d < s .devices → (d ≡ q .device → ⊥) → isMove q ≡ true → Moves s entries (q .device) (q .a)
+      → Apart s (entriesAfter entries q) d
   unfolding parentAllows childBars
   move-other d l n m v =
       let e : entriesAfter entries q d ≡ entries d = after-other entries q d n in
@@ -76,7 +82,8 @@ module _ (s : Station) (rules : StationRules s) (entries : ℕ → Entry) (q : R
             (λ z.
             let free : ltb (entries d .state) (q .a) ≡ false = rw z at (v .children d l) in
             let at : entriesAfter entries q p .state ≡ q .a = rw (eqb-true p (q .device) z, after-same entries q) (moved m) in
-            or-right (eqb p absent) (leb (entriesAfter entries q p .state) (entries d .state)) (rw at (le-leb (q .a) (entries d .state) (ltb-false (entries d .state) (q .a) free))))
+            or-right (eqb p absent) (leb (entriesAfter entries q p .state) (entries d .state))
+            (rw at (le-leb (q .a) (entries d .state) (ltb-false (entries d .state) (q .a) free))))
             (λ z. rw (after-other entries q p (eqb-false _ _ z)) (all d l .under)));
         wake = rw e (all d l .wake);
       }
@@ -85,10 +92,12 @@ module _ (s : Station) (rules : StationRules s) (entries : ℕ → Entry) (q : R
   unmoved : isMove q ≡ false → (k : ℕ) → entriesAfter entries q k .state ≡ entries k .state
   unfolding newEntry
   unmoved m k =
-      decide (eqb k (q .device)) (λ z. rw (eqb-true k (q .device) z, after-same entries q, m) (decide (isArm q) (λ y. rw y refl) (λ y. rw y refl)))
+      decide (eqb k (q .device)) (λ z. rw (eqb-true k (q .device) z, after-same entries q, m)
+      (decide (isArm q) (λ y. rw y refl) (λ y. rw y refl)))
       (λ z. rw (after-other entries q k (eqb-false k (q .device) z)) refl)
 
-  armed-wake : isMove q ≡ false → isArm q ≡ true → Arms s entries (q .device) (q .a) (q .b) → wakeConsistent s (q .device) (newEntry (entries (q .device)) q) ≡ true
+  armed-wake : isMove q ≡ false → isArm q ≡ true → Arms s entries (q .device) (q .a) (q .b) → wakeConsistent s (q .device)
+      (newEntry (entries (q .device)) q) ≡ true
   unfolding newEntry wakeConsistent wakePair
   armed-wake m y v = rw (m, y, v .from, v .powered, v .state, v .deeper) refl
 
@@ -96,9 +105,11 @@ module _ (s : Station) (rules : StationRules s) (entries : ℕ → Entry) (q : R
   unfolding newEntry wakeConsistent
   disarmed-wake m y = rw (m, y) refl
 
-  wake-others : wakeConsistent s (q .device) (newEntry (entries (q .device)) q) ≡ true → (d : ℕ) → d < s .devices → wakeConsistent s d (entriesAfter entries q d) ≡ true
+  wake-others : wakeConsistent s (q .device) (newEntry (entries (q .device)) q) ≡ true → (d : ℕ) → d < s .devices
+      → wakeConsistent s d (entriesAfter entries q d) ≡ true
   wake-others h d l =
-      decide (eqb d (q .device)) (λ z. rw (eqb-true d (q .device) z, after-same entries q) h) (λ z. rw (after-other entries q d (eqb-false d (q .device) z)) (all d l .wake))
+      decide (eqb d (q .device)) (λ z. rw (eqb-true d (q .device) z, after-same entries q) h)
+      (λ z. rw (after-other entries q d (eqb-false d (q .device) z)) (all d l .wake))
 
   -- ---- any accepted request
   pub apart-after : passes (requestVerdict s entries q) ≡ true → (d : ℕ) → d < s .devices → Apart s (entriesAfter entries q) d
@@ -110,6 +121,8 @@ module _ (s : Station) (rules : StationRules s) (entries : ℕ → Entry) (q : R
       decide (isMove q)
       (λ m.
       let v = moves s entries (q .device) (q .a) (rw m at (b .0)) in
-      decide (eqb d (q .device)) (λ z. rw (eqb-true d (q .device) z) (move-same dev m v)) (λ z. move-other d l (eqb-false d (q .device) z) m v))
+      decide (eqb d (q .device)) (λ z. rw (eqb-true d (q .device) z) (move-same dev m v))
+      (λ z. move-other d l (eqb-false d (q .device) z) m v))
       (λ m. states-same s entries (entriesAfter entries q) d (unmoved m) (all d l)
-      (wake-others (decide (isArm q) (λ y. armed-wake m y (arms s entries (q .device) (q .a) (q .b) (rw (m, y) at (b .0)))) (λ y. disarmed-wake m y)) d l))
+      (wake-others (decide (isArm q) (λ y. armed-wake m y (arms s entries (q .device) (q .a) (q .b) (rw (m, y) at (b .0))))
+      (λ y. disarmed-wake m y)) d l))

@@ -1,5 +1,5 @@
--- The needed set by its law: a resource is needed exactly if some device below D needs it. And its bound: where every set of the table has no bit at
--- or above R, neither has what a device needs, nor the needed set.
+-- The needed set by its law: a resource is needed exactly if some device below D needs it. And its bound: where every set of the table has
+-- no bit at or above R, neither has what a device needs, nor the needed set.
 use mathlib.Core.Path.{_≡_, refl, sym, _∙_}
 use mathlib.Core.Bool.{Bool, true, false, _&&_, cond, true≢false, or-true}
 use mathlib.Core.Logic.{_⊎_, ⊎-elim}
@@ -18,7 +18,8 @@ use Rattle.rules.specs.Power.{isArmed, ownSet, listedSet, stateNeeds, wakeNeeds
 -- ---- members
 
 -- what a device below n needs is needed
-pub needed-of : (s : Station) (entries : ℕ → Entry) (n d r : ℕ) → d < n → member (needs s d (entries d)) r ≡ true → member (neededBelow s entries n) r ≡ true
+pub needed-of : (s : Station) (entries : ℕ → Entry) (n d r : ℕ) → d < n → member (needs s d (entries d)) r ≡ true
+    → member (neededBelow s entries n) r ≡ true
 unfolding neededBelow
 needed-of s entries zero d r h e = absurd (omega arith)
 needed-of s entries (suc n) d r h e =
@@ -28,7 +29,8 @@ needed-of s entries (suc n) d r h e =
     (λ p. rw (rest (omega (arith, eqb-false d n p)) e) refl)
 
 -- what is needed is needed by a device below n
-pub needed-by : (s : Station) (entries : ℕ → Entry) (n r : ℕ) → member (neededBelow s entries n) r ≡ true → (d : ℕ) × (d < n) × (member (needs s d (entries d)) r ≡ true)
+pub needed-by : (s : Station) (entries : ℕ → Entry) (n r : ℕ) → member (neededBelow s entries n) r ≡ true → (d : ℕ) × (d < n)
+    × (member (needs s d (entries d)) r ≡ true)
 unfolding neededBelow
 needed-by s entries zero r e = absurd (true≢false (sym e ∙ member-none r))
 needed-by s entries (suc n) r e =
@@ -66,7 +68,8 @@ pub needs-lt : (w : ℕ) (s : Station) (d : ℕ) (e : Entry) → ((k : ℕ) → 
 unfolding needs
 needs-lt w s d e small = union-lt w _ _ (state-lt w (s .device d) small (e .state)) (wake-lt w (s .device d) small e)
 
-pub needed-lt : (w : ℕ) (s : Station) (entries : ℕ → Entry) (n : ℕ) → ((d : ℕ) → d < n → (k : ℕ) → k < 5 → s .device d .sets k < 2 ^ w) → neededBelow s entries n < 2 ^ w
+pub needed-lt : (w : ℕ) (s : Station) (entries : ℕ → Entry) (n : ℕ) → ((d : ℕ) → d < n → (k : ℕ) → k < 5 → s .device d .sets k < 2 ^ w)
+    → neededBelow s entries n < 2 ^ w
 unfolding neededBelow
 needed-lt w s entries zero small = pow-pos w
 needed-lt w s entries (suc n) small =
@@ -77,4 +80,5 @@ pub all-powered : (w : ℕ) (s : Station) (entries : ℕ → Entry) (d : ℕ) �
     → subset (needs s d (entries d)) (needed s entries) ≡ true
 unfolding needed
 all-powered w s entries d h small =
-    subset-of w (needs s d (entries d)) (neededBelow s entries (s .devices)) (needs-lt w s d (entries d) small) (λ r l e. needed-of s entries (s .devices) d r h e)
+    subset-of w (needs s d (entries d)) (neededBelow s entries (s .devices)) (needs-lt w s d (entries d) small)
+    (λ r l e. needed-of s entries (s .devices) d r h e)

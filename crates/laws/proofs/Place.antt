@@ -33,7 +33,8 @@ pub other-place : (first ons offs last : List ℕ) (n : ℕ) → Other (getD (li
 other-place first ons offs last n o =
     let mid = map onWord ons ++ map offWord offs in
     let same : listed first ons offs last ≡ first ++ (mid ++ last) = simp append-assoc in
-    let long : length (first ++ map onWord ons ++ map offWord offs) ≡ length first + length mid = ap length (append-assoc first (map onWord ons) (map offWord offs)) ∙ length-append first mid in
+    let long : length (first ++ map onWord ons ++ map offWord offs) ≡ length first + length mid =
+    ap length (append-assoc first (map onWord ons) (map offWord offs)) ∙ length-append first mid in
     decide (ltb n (length first)) (λ e. inl (ltb-true n (length first) e))
     (λ e.
     let k = n - length first in

@@ -45,7 +45,8 @@ pub run-consistent : (t b : List ℕ) (rs : List Asked) → passes (tableVerdict
     → passes (stateVerdict t (stateAfterAll t b rs)) ≡ true
 unfolding stateAfterAll
 run-consistent t b [] e f = f
-run-consistent t b (r ∷ rs) e f = run-consistent t (planWords t b (r .request) (r .plan) .state) rs e (plan-consistent t b (r .request) (r .plan) e f)
+run-consistent t b (r ∷ rs) e f = run-consistent t (planWords t b (r .request) (r .plan) .state) rs e
+    (plan-consistent t b (r .request) (r .plan) e f)
 
 -- from fresh
 pub fresh-run-consistent : (t b : List ℕ) (rs : List Asked) → passes (fresh t b .verdict) ≡ true

@@ -33,7 +33,8 @@ module _ (room : Bool) (t b : List ℕ) (q : Request) where
   pub stages-pass : Stages t b q → room ≡ true → stagesVerdict room t b q ≡ Done 0
   unfolding stagesVerdict requestStage
   stages-pass g e =
-      first-pass _ _ _ (g .table) ∙ first-pass _ _ _ (g .state) ∙ first-pass _ _ _ (rw (unless-of room NoRoom 0 e) (done-passes 0)) ∙ first-pass _ _ _ (g .request) ∙ first-none (Done 0)
+      first-pass _ _ _ (g .table) ∙ first-pass _ _ _ (g .state) ∙ first-pass _ _ _ (rw (unless-of room NoRoom 0 e) (done-passes 0))
+      ∙ first-pass _ _ _ (g .request) ∙ first-none (Done 0)
 
   -- without room they refuse
   pub room-passed : passes (stagesVerdict room t b q) ≡ true → room ≡ true

@@ -1,5 +1,5 @@
--- The state image along requests: a fresh one is consistent, an accepted request leaves a consistent one with exactly the needed set on, and so after
--- any run of requests from fresh, refused ones among them, it is consistent.
+-- The state image along requests: a fresh one is consistent, an accepted request leaves a consistent one with exactly the needed set on,
+-- and so after any run of requests from fresh, refused ones among them, it is consistent.
 use mathlib.Core.Path.{_≡_, refl, sym, _∙_}
 use mathlib.Core.Bool.{Bool, true, false, _&&_, _||_, true≢false}
 use mathlib.Core.List.{List}
@@ -21,7 +21,9 @@ use Rattle.rules.specs.Station.{Station, absent, width, limit, stationOf, stati
 use Rattle.rules.specs.Table.{tableVerdict, setGood}
 use Rattle.rules.specs.declared.Entry.{Entry}
 use Rattle.rules.specs.Power.{supported, needs, needed}
-use Rattle.rules.specs.Status.{Status, noEntry, entriesOf, statusOf, status, imageOf, imageSize, freshStatus, entryGood, entryZero, entriesGood, onGood, parentAllows, wakeConsistent, consistentButPower, powered, consistent, valuesGood, consistencyVerdict, stateVerdict}
+use Rattle.rules.specs.Status.{Status, noEntry, entriesOf, statusOf, status, imageOf, imageSize, freshStatus, entryGood, entryZero}
+use Rattle.rules.specs.Status.{entriesGood, onGood, parentAllows, wakeConsistent, consistentButPower, powered, consistent, valuesGood}
+use Rattle.rules.specs.Status.{consistencyVerdict, stateVerdict}
 use Rattle.rules.specs.Request.{isMove, isArm, isDisarm, numbersGood, formGood, requestVerdict, newEntry, entriesAfter}
 use Rattle.rules.specs.Calls.{endSet, statusAfter}
 use Rattle.rules.specs.Outcomes.{stateAfter}
@@ -47,7 +49,8 @@ pub record ConsistentStatus (n : ℕ) (s : Station) (st : Status) : Type 0 where
   pub apart : (d : ℕ) → d < s .devices → Apart s (st .entries) d
   pub power : (d : ℕ) → d < s .devices → subset (needs s d (st .entries d)) (st .on) ≡ true
 
-pub consistent-of : (t b : List ℕ) → passes (stateVerdict t b) ≡ true → (length b ≡ imageSize (width t)) × ConsistentStatus (limit (width t)) (station t) (status t b)
+pub consistent-of : (t b : List ℕ) → passes (stateVerdict t b) ≡ true → (length b ≡ imageSize (width t))
+    × ConsistentStatus (limit (width t)) (station t) (status t b)
 unfolding stateVerdict valuesGood onGood consistencyVerdict consistent powered
 consistent-of t b e =
     let s = station t in
@@ -56,9 +59,15 @@ consistent-of t b e =
     let v = both-true (eqb (length b) (imageSize (width t))) _ (unless-at _ _ _ (a .0)) in
     let u = both-true (entriesGood (limit (width t)) s (status t b .entries)) _ (v .1) in
     let k : (d : ℕ) → d < s .devices → (consistentButPower s (status t b .entries) d ≡ true) × (powered s (status t b) d ≡ true) =
-    λ d h. both-true _ _ (not-false (consistent s (status t b) d) (lowest-at _ (s .devices) (Refused Inconsistent) (refused-stops Inconsistent) (c .0) d h)) in (
+    λ d h. both-true _ _ (not-false (consistent s (status t b) d) (lowest-at _ (s .devices) (Refused Inconsistent)
+    (refused-stops Inconsistent) (c .0) d h)) in (
       eqb-true _ _ (v .0),
-      record { entries = u .0; on = ltb-true _ _ (u .1); apart = λ d h. apart-of s (status t b .entries) d (k d h .0); power = λ d h. k d h .1 },
+      record {
+        entries = u .0;
+        on = ltb-true _ _ (u .1);
+        apart = λ d h. apart-of s (status t b .entries) d (k d h .0);
+        power = λ d h. k d h .1;
+      },
     )
 
 all-consistent : (n : ℕ) (s : Station) (st : Status) → ConsistentStatus n s st → consistencyVerdict s st ≡ Done 0
@@ -66,10 +75,18 @@ unfolding consistencyVerdict consistent powered
 all-consistent n s st a =
     lowest-of _ (s .devices) (Refused Inconsistent) (λ d h. rw (apart-is s (st .entries) d (a .apart d h), a .power d h) refl)
 
-pub consistent-is : (t b : List ℕ) → length b ≡ imageSize (width t) → ConsistentStatus (limit (width t)) (station t) (status t b) → stateVerdict t b ≡ Done 0
+pub consistent-is : (t b : List ℕ) → length b ≡ imageSize (width t) → ConsistentStatus (limit (width t)) (station t) (status t b)
+    → stateVerdict t b ≡ Done 0
 unfolding stateVerdict valuesGood onGood passes firstOf
 consistent-is t b l a =
-    rw (eq-eqb (length b) (imageSize (width t)) l, a .entries, lt-ltb _ _ (a .on), unless-of true BadState 0 refl, all-consistent (limit (width t)) (station t) (status t b) a) refl
+    rw (
+      eq-eqb (length b) (imageSize (width t)) l,
+      a .entries,
+      lt-ltb _ _ (a .on),
+      unless-of true BadState 0 refl,
+      all-consistent
+          (limit (width t)) (station t) (status t b) a,
+    ) refl
 
 -- ---- the bounds of what a status has on: R bits are no more than the image's 8w
 fits-image : (w n x : ℕ) → n ≤ 8 * w → x < 2 ^ n → x < 2 ^ (8 * w)
@@ -83,7 +100,8 @@ fresh-status-consistent n s rules =
       entries = every-of _ n (λ k h. or-right (ltb k (s .devices)) true refl);
       on = firstN-lt (s .resources) (s .resources) (omega arith);
       apart = λ d h. record { known = refl; under = or-right (eqb (s .device d .parent) absent) true refl; wake = refl };
-      power = λ d h. subset-of (s .resources) (needs s d noEntry) (firstN (s .resources)) (needs-lt (s .resources) s d noEntry (rules .sets d h))
+      power = λ d h. subset-of (s .resources) (needs s d noEntry) (firstN (s .resources))
+          (needs-lt (s .resources) s d noEntry (rules .sets d h))
           (λ r l e. member-firstN (s .resources) r ∙ lt-ltb r (s .resources) l);
     }
 
@@ -93,7 +111,8 @@ fresh-consistent t e =
     let s = station t in
     let st = freshStatus s in
     let f = fresh-status-consistent (limit (width t)) s (station-rules t a) in
-    let same : status t (imageOf (width t) st) ≡ st = status-image (width t) st (fits-image (width t) (s .resources) (st .on) (unfold stationOf in a .resources) (f .on)) (λ k h. unfold freshStatus in refl) in
+    let same : status t (imageOf (width t) st) ≡ st = status-image (width t) st (fits-image (width t) (s .resources) (st .on)
+    (unfold stationOf in a .resources) (f .on)) (λ k h. unfold freshStatus in refl) in
     consistent-is t (imageOf (width t) st) (image-length (width t) st) (rw same f)
 
 -- ---- an accepted request
@@ -115,13 +134,15 @@ pub kinds : (s : Station) (q : Request) → formGood s q ≡ true → Kinds q
 unfolding formGood numbersGood Kinds
 kinds s q e =
     ⊎-elim
-    (λ x. ⊎-elim (λ m. let a = both-true (isMove q) (leb (q .a) 4) (both-true (isMove q && leb (q .a) 4) (eqb (q .b) 0) m .0) in inl (a .0, a .1))
+    (λ x. ⊎-elim (λ m. let a = both-true (isMove q) (leb (q .a) 4) (both-true (isMove q && leb (q .a) 4)
+    (eqb (q .b) 0) m .0) in inl (a .0, a .1))
     (λ m. let a = both-true (isArm q && leb (q .a) 4) (leb (q .b) 4) m in
     let b = both-true (isArm q) (leb (q .a) 4) (a .0) in inr (inl (rw (eqb-true (q .kind) 2 (b .0)) refl, b .0, b .1, a .1)))
     (or-cases (isMove q && leb (q .a) 4 && eqb (q .b) 0) (isArm q && leb (q .a) 4 && leb (q .b) 4) x))
     (λ m. let b = both-true (isDisarm q) (eqb (q .a) 0) (both-true (isDisarm q && eqb (q .a) 0) (eqb (q .b) 0) m .0) in
     inr (inr (rw (eqb-true (q .kind) 3 (b .0)) refl, rw (eqb-true (q .kind) 3 (b .0)) refl)))
-    (or-cases (isMove q && leb (q .a) 4 && eqb (q .b) 0 || isArm q && leb (q .a) 4 && leb (q .b) 4) (isDisarm q && eqb (q .a) 0 && eqb (q .b) 0)
+    (or-cases (isMove q && leb (q .a) 4 && eqb (q .b) 0 || isArm q && leb (q .a) 4 && leb (q .b) 4)
+    (isDisarm q && eqb (q .a) 0 && eqb (q .b) 0)
     (both-true (ltb (q .device) (s .devices)) _ e .1))
 
 -- five tests that hold, with the first exchanged for another that holds
@@ -137,10 +158,12 @@ new-good : (e : Entry) (q : Request) → entryGood e ≡ true → Kinds q → en
 unfolding entryGood newEntry Kinds
 new-good e q g k =
     let small : leb (e .state) 4 ≡ true = first-holds (leb (e .state) 4) (leb (e .armed) 1) (leb (e .sleep) 4) (leb (e .wake) 4) _ g in
-    ⊎-elim (λ m. rw (m .0) (exchange (leb (e .state) 4) (leb (q .a) 4) (leb (e .armed) 1) (leb (e .sleep) 4) (leb (e .wake) 4) (eqb (e .armed) 1 || eqb (e .sleep) 0 && eqb (e .wake) 0) (m .1) g))
+    ⊎-elim (λ m. rw (m .0) (exchange (leb (e .state) 4) (leb (q .a) 4) (leb (e .armed) 1) (leb (e .sleep) 4) (leb (e .wake) 4)
+    (eqb (e .armed) 1 || eqb (e .sleep) 0 && eqb (e .wake) 0) (m .1) g))
     (λ n. ⊎-elim (λ m. rw (m .0, m .1, small, m .2, m .3) refl) (λ m. rw (m .0, m .1, small) refl) n) k
 
-entries-after : (n : ℕ) (s : Station) (entries : ℕ → Entry) (q : Request) → formGood s q ≡ true → entriesGood n s entries ≡ true → entriesGood n s (entriesAfter entries q) ≡ true
+entries-after : (n : ℕ) (s : Station) (entries : ℕ → Entry) (q : Request) → formGood s q ≡ true → entriesGood n s entries ≡ true
+    → entriesGood n s (entriesAfter entries q) ≡ true
 unfolding entriesGood
 entries-after n s entries q f g =
     every-of _ n
@@ -153,7 +176,8 @@ entries-after n s entries q f g =
     rw (e, l, new-good (entries k) q (a .0) (kinds s q f)) refl)
     (λ z. rw (after-other entries q k (eqb-false k (q .device) z)) (every-at _ n k g h)))
 
-pub after-status-consistent : (n : ℕ) (s : Station) (st : Status) (q : Request) → StationRules s → ConsistentStatus n s st → passes (requestVerdict s (st .entries) q) ≡ true → ConsistentStatus n s (statusAfter s st q)
+pub after-status-consistent : (n : ℕ) (s : Station) (st : Status) (q : Request) → StationRules s → ConsistentStatus n s st
+    → passes (requestVerdict s (st .entries) q) ≡ true → ConsistentStatus n s (statusAfter s st q)
 unfolding statusAfter endSet needed
 after-status-consistent n s st q rules a e =
     let form = form-passed s (st .entries) q e in
@@ -170,7 +194,8 @@ entries-out w b k h = below-out (8 * w) noEntry _ k h
 
 -- the image after an accepted request reads back as the status after it
 pub after-reads : (t b : List ℕ) (q : Request) → passes (tableVerdict t) ≡ true → passes (stateVerdict t b) ≡ true
-    → passes (requestVerdict (station t) (status t b .entries) q) ≡ true → status t (stateAfter t b q) ≡ statusAfter (station t) (status t b) q
+    → passes (requestVerdict (station t) (status t b .entries) q) ≡ true → status t (stateAfter t b q) ≡ statusAfter
+    (station t) (status t b) q
 unfolding stateAfter
 after-reads t b q e f g =
     let a = accepted t e in
@@ -178,7 +203,8 @@ after-reads t b q e f g =
     let st = status t b in
     let form = form-passed s (st .entries) q g in
     let new = after-status-consistent (limit (width t)) s st q (station-rules t a) (consistent-of t b f .1) g in
-    status-image (width t) (statusAfter s st q) (fits-image (width t) (s .resources) (statusAfter s st q .on) (unfold stationOf in a .resources) (new .on))
+    status-image (width t) (statusAfter s st q) (fits-image (width t) (s .resources) (statusAfter s st q .on) (unfold stationOf in
+    a .resources) (new .on))
     (λ k h.
     let l : q .device < limit (width t) = lt-of-lt-of-le (form-device s q form) (unfold stationOf in a .devices) in
     unfold statusAfter in (after-other (st .entries) q k (λ z. omega arith) ∙ entries-out (width t) b k h))
@@ -188,4 +214,5 @@ pub after-consistent : (t b : List ℕ) (q : Request) → passes (tableVerdict t
 after-consistent t b q e f g =
     let s = station t in
     consistent-is t (stateAfter t b q) (unfold stateAfter in image-length (width t) (statusAfter s (status t b) q))
-    (rw (after-reads t b q e f g) (after-status-consistent (limit (width t)) s (status t b) q (station-rules t (accepted t e)) (consistent-of t b f .1) g))
+    (rw (after-reads t b q e f g) (after-status-consistent (limit (width t)) s (status t b) q (station-rules t (accepted t e))
+    (consistent-of t b f .1) g))

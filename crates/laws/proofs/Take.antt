@@ -72,7 +72,8 @@ module _ (word : ℕ → ℕ) (after : ℕ → ℕ → Bool) where
       let b = both-true _ _ (a .0) in
       (eqb-true _ _ (b .0), b .1, a .1)
 
-  none-taken : (todo : ℕ) (first : Bool) (last : ℕ) (ws rest : List ℕ) → eqb todo 0 ≡ true → takeSet word after todo first last ws ≡ left rest
+  none-taken : (todo : ℕ) (first : Bool) (last : ℕ) (ws rest : List ℕ) → eqb todo 0 ≡ true
+      → takeSet word after todo first last ws ≡ left rest
       → PhaseTaken word after todo first last ws rest
   unfolding EachOnce times Follows
   none-taken todo first last ws rest z e =
@@ -111,7 +112,8 @@ module _ (word : ℕ → ℕ) (after : ℕ → ℕ → Bool) where
     unfolding mayCome
     may-of todo first last r l h a = rw (index r l, eq-eqb (word r) (word r) refl, h, a)
 
-    pub take-of : (l : List ℕ) (todo : ℕ) (first : Bool) (last : ℕ) (rest : List ℕ) → todo < 2 ^ n → EachOnce todo l → Follows after first last l
+    pub take-of : (l : List ℕ) (todo : ℕ) (first : Bool) (last : ℕ) (rest : List ℕ) → todo < 2 ^ n → EachOnce todo l
+        → Follows after first last l
         → takeSet word after todo first last (map word l ++ rest) ≡ left rest
     unfolding Follows
     take-of [] todo first last rest u o f = take-stop todo first last rest (eq-eqb todo 0 (once-none n todo u o))

@@ -35,10 +35,11 @@ pub record Arranged (start target : ℕ → Bool) (first ons offs last : List �
   pub onsAre : (r : ℕ) → hasIn r ons ≡ target r && not (start r)
   pub offsAre : (r : ℕ) → hasIn r offs ≡ start r && not (target r)
 
--- what holds of such a list: after any n of its words all that is in both sets is on; it ends with the target; the words at its front find the
--- start, and those at its end find the target
+-- what holds of such a list: after any n of its words all that is in both sets is on; it ends with the target; the words at its front find
+-- the start, and those at its end find the target
 pub record Carried (start target : ℕ → Bool) (first ons offs last : List ℕ) : Type 0 where
   pub keeps : (n r : ℕ) → start r ≡ true → target r ≡ true → execution start (take n (listed first ons offs last)) r ≡ true
   pub ends : (r : ℕ) → execution start (listed first ons offs last) r ≡ target r
   pub firstFinds : (n r : ℕ) → n ≤ length first → execution start (take n (listed first ons offs last)) r ≡ start r
-  pub lastFinds : (n r : ℕ) → length (first ++ map onWord ons ++ map offWord offs) ≤ n → execution start (take n (listed first ons offs last)) r ≡ target r
+  pub lastFinds : (n r : ℕ) → length (first ++ map onWord ons ++ map offWord offs) ≤ n
+      → execution start (take n (listed first ons offs last)) r ≡ target r

@@ -37,13 +37,14 @@ neededBefore t b = needed (station t) (status t b .entries)
 abbrev pub neededAfter : List ℕ → List ℕ → Request → ℕ
 neededAfter t b q = endSet (station t) (status t b .entries) q
 
--- what the device's own method must find on, by the kind of the request: its needs after for a move to D0 and for arming, its needs before for a
--- deeper move and for disarming
+-- what the device's own method must find on, by the kind of the request: its needs after for a move to D0 and for arming, its needs before
+-- for a deeper move and for disarming
 abbrev pub ownEntry : Request → Entry → Entry → Entry
 ownEntry q before after = cond (eqb (q .kind) 1) (cond (eqb (q .a) 0) after before) (cond (eqb (q .kind) 2) after before)
 
 abbrev pub ownNeeds : List ℕ → List ℕ → Request → ℕ
-ownNeeds t b q = needs (station t) (q .device) (ownEntry q (status t b .entries (q .device)) (entriesAfter (status t b .entries) q (q .device)))
+ownNeeds t b q =
+    needs (station t) (q .device) (ownEntry q (status t b .entries (q .device)) (entriesAfter (status t b .entries) q (q .device)))
 
 -- the set after the first n words: at the start the lent state's on-set
 abbrev pub onAfter : List ℕ → List ℕ → List ℕ → ℕ → ℕ → Bool
@@ -53,9 +54,11 @@ pub record Demand3 (t b : List ℕ) (q : Request) (ws : List ℕ) : Type 0 where
   -- for a permitted request the checker passes the list exactly if it conforms
   pub exactly : Permitted t b q → Passed t b q ws ↔ Conforms (station t) (status t b) q ws
   -- at the start and after every word, what is needed before and after is on
-  pub keeps : Passed t b q ws → (n r : ℕ) → member (neededBefore t b) r ≡ true → member (neededAfter t b q) r ≡ true → onAfter t b ws n r ≡ true
+  pub keeps : Passed t b q ws → (n r : ℕ) → member (neededBefore t b) r ≡ true → member (neededAfter t b q) r ≡ true
+      → onAfter t b ws n r ≡ true
   -- wherever the device's own method stands, it finds its needs on
-  pub own : Passed t b q ws → (c : Call) → ownCall (station t) (status t b .entries (q .device)) q ≡ Is c → (n : ℕ) → n < length ws → getD ws n 0 ≡ wordOf c
+  pub own : Passed t b q ws → (c : Call) → ownCall (station t) (status t b .entries (q .device)) q ≡ Is c
+      → (n : ℕ) → n < length ws → getD ws n 0 ≡ wordOf c
       → (r : ℕ) → member (ownNeeds t b q) r ≡ true → onAfter t b ws n r ≡ true
   -- the list ends with exactly the needed set
   pub ends : Passed t b q ws → (r : ℕ) → execution (member (status t b .on)) ws r ≡ member (neededAfter t b q) r

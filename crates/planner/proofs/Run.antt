@@ -1,4 +1,5 @@
--- The plan as runs of words that follow one another: the own call's, the ONs' and the OFFs'. Two sets with no resource in common have at most R words.
+-- The plan as runs of words that follow one another: the own call's, the ONs' and the OFFs'. Two sets with no resource in common have at
+-- most R words.
 use mathlib.Core.Path.{_≡_, refl, sym, ap, _∙_}
 use mathlib.Core.Bool.{true, false}
 use mathlib.Core.List.{List, [], _∷_, _++_, map, map-append, map-map, append-assoc}
@@ -35,7 +36,8 @@ pub own-word : (o : OptionalCall) (c : Call) (w at : ℕ) (d : List ℕ) → at 
 unfolding listOf
 own-word o c w at d h e f = rw (e, f) (refl, sets-put d at (wordOf c ∷ []) (rw e at h))
 
-pub own-none : (o : OptionalCall) (at : ℕ) (d : List ℕ) → o ≡ NoCall → (at ≡ at + length (map wordOf (listOf o))) × (d ≡ put d at (map wordOf (listOf o)))
+pub own-none : (o : OptionalCall) (at : ℕ) (d : List ℕ) → o ≡ NoCall → (at ≡ at + length (map wordOf (listOf o)))
+    × (d ≡ put d at (map wordOf (listOf o)))
 unfolding listOf
 own-none o at d e = rw e (omega arith, sym (put-none d at))
 
@@ -53,7 +55,8 @@ pub phase-is : (s : Station) (on off : ℕ) → phaseWords s on off ≡ switchWo
 unfolding phaseWords
 phase-is s on off = refl
 
-pub phase-long : (s : Station) (on off : ℕ) → length (phaseWords s on off) ≡ length (switchWords false s on) + length (switchWords true s off)
+pub phase-long : (s : Station) (on off : ℕ) → length (phaseWords s on off) ≡ length (switchWords false s on) + length
+    (switchWords true s off)
 unfolding phaseWords
 phase-long s on off = length-append (switchWords false s on) (switchWords true s off)
 
@@ -101,7 +104,8 @@ module _ (t : List ℕ) (c : Change) where
   unfolding changeWords phaseWords switchWords switchWord inOrder arrange
   own-comes-last h = rw h (simp regroup)
 
-  pub own-comes-first : c .last ≡ false → changeWords (station t) c ≡ map wordOf (listOf (c .own)) ++ phaseWords (station t) (c .on) (c .off)
+  pub own-comes-first : c .last ≡ false → changeWords (station t) c ≡ map wordOf (listOf (c .own)) ++ phaseWords
+      (station t) (c .on) (c .off)
   unfolding changeWords phaseWords switchWords switchWord inOrder arrange
   own-comes-first h = rw h (simp regroup)
 
@@ -119,7 +123,8 @@ module _ (t : List ℕ) (c : Change) where
         (λ p. rw (own-comes-first p) (omega (arith, length-append own phases)))
 
     -- two runs are the whole plan
-    pub runs-written : {l m : List ℕ} {p r : ℕ} (d xs ys : List ℕ) → changeWords (station t) c ≡ xs ++ ys → WellSized t → planRoom (width t) ≤ length d
+    pub runs-written : {l m : List ℕ} {p r : ℕ} (d xs ys : List ℕ) → changeWords (station t) c ≡ xs ++ ys → WellSized t
+        → planRoom (width t) ≤ length d
         → (p ≡ 0 + length xs) × (l ≡ put d 0 xs) → (r ≡ p + length ys) × (m ≡ put l p ys)
         → (r ≡ length (changeWords (station t) c)) × (m ≡ put d 0 (changeWords (station t) c))
     runs-written d xs ys w z n a b =

@@ -28,12 +28,14 @@ use Rattle.laws.proofs.Stages.{room-passed}
 use Rattle.planner.specs.Plan.{changeWords, changedState, Written}
 
 -- ---- the state by value after a change
-pub changed-is : (st entered : State) (d : ℕ) (c : Change) → entered ≡ withEntry st d (c .entry) → record { devices = entered .devices; on = c .needed } ≡ changedState st d c
+pub changed-is : (st entered : State) (d : ℕ) (c : Change) → entered ≡ withEntry st d (c .entry)
+    → record { devices = entered .devices; on = c .needed } ≡ changedState st d c
 unfolding changedState
 changed-is st entered d c e = rw e refl
 
 -- ---- the words and the state of a permitted request, from the values as the code has them
-module _ (t b : List ℕ) (q : Request) (g : PermittedRequest t b q) (on : ℕ) (c : Change) (h : on ≡ status t b .on) (i : c ≡ changeOf (station t) (statusWith t b on) q) where
+module _ (t b : List ℕ) (q : Request) (g : PermittedRequest t b q) (on : ℕ) (c : Change) (h : on ≡ status t b .on)
+    (i : c ≡ changeOf (station t) (statusWith t b on) q) where
   change-is : c ≡ changeOf (station t) (status t b) q
   change-is = i ∙ ap (λ (st : Status). changeOf (station t) st q) (status-with t b on h)
 
@@ -41,13 +43,16 @@ module _ (t b : List ℕ) (q : Request) (g : PermittedRequest t b q) (on : ℕ) 
   unfolding changeWords planned calls turnOn turnOff
   words-are = rw change-is refl
 
-  pub plan-written : (before after : State) (n : ℕ) (b′ plan plan′ : List ℕ) → before ≡ loadState b → after ≡ changedState before (q .device) c
-      → (n ≡ length (changeWords (station t) c)) × (plan′ ≡ put plan 0 (changeWords (station t) c)) → b′ ≡ storeState after → Written t b q plan n b′ plan′
+  pub plan-written : (before after : State) (n : ℕ) (b′ plan plan′ : List ℕ) → before ≡ loadState b
+      → after ≡ changedState before (q .device) c
+      → (n ≡ length (changeWords (station t) c)) × (plan′ ≡ put plan 0 (changeWords (station t) c)) → b′ ≡ storeState after
+      → Written t b q plan n b′ plan′
   unfolding changedState
   plan-written before after n b′ plan plan′ l m w s =
       let image : storeState after ≡ stateAfter t b q =
       ap storeState (m ∙ rw l refl)
-      ∙ after-image t b q (c .entry) (c .needed) (g .long) (omega (arith, g .device, g .ready .sized .devices)) (ap (λ (x : Change). x .entry) change-is) (ap (λ (x : Change). x .needed) change-is) in
+      ∙ after-image t b q (c .entry) (c .needed) (g .long) (omega (arith, g .device, g .ready .sized .devices))
+      (ap (λ (x : Change). x .entry) change-is) (ap (λ (x : Change). x .needed) change-is) in
       record { count = w .0 ∙ ap length words-are; state = s ∙ image; words = w .1 ∙ ap (put plan 0) words-are }
 
 -- ---- what the code asks of its parts

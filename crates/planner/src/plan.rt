@@ -47,7 +47,9 @@ pub fn write_plan(table: &[u8], state: &mut [u8], q: Request, plan: &mut [u32]) 
 
 // Plans one request on a plan of words.
 pub fn plan_words(table: &[u8], state: &mut [u8], q: Request, plan: &mut [u32]) -> Verdict
-    ensures { λ r. ⌜ (r ≡ planWords (now (table .entry)) (now (state .entry)) q (now (plan .entry)) .verdict) × (now (state .exit) ≡ planWords (now (table .entry)) (now (state .entry)) q (now (plan .entry)) .state) × (now (plan .exit) ≡ planWords (now (table .entry)) (now (state .entry)) q (now (plan .entry)) .plan) ⌝ }
+    ensures { λ r. ⌜ (r ≡ planWords (now (table .entry)) (now (state .entry)) q (now (plan .entry)) .verdict)
+        × (now (state .exit) ≡ planWords (now (table .entry)) (now (state .entry)) q (now (plan .entry)) .state)
+        × (now (plan .exit) ≡ planWords (now (table .entry)) (now (state .entry)) q (now (plan .entry)) .plan) ⌝ }
 {
     let fits = plan.len() >= room(table);
     let v = request::stages::verdict(table, state, fits, q);

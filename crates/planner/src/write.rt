@@ -20,7 +20,8 @@ ghost use Rattle.planner.specs.Plan.{changeWords};
 // The own call's word, if there is one. The answer is the place after it.
 fn write_own(own: OptionalCall, plan: &mut [u32], at: usize) -> usize
     requires { ⌜ OptionalInRange own × (at + length (listOf own) ≤ length (now plan)) ⌝ }
-    ensures { λ r. ⌜ (r ≡ at + length (map wordOf (listOf own))) × (now (plan .exit) ≡ put (now (plan .entry)) at (map wordOf (listOf own))) ⌝ }
+    ensures { λ r. ⌜ (r ≡ at + length (map wordOf (listOf own)))
+        × (now (plan .exit) ≡ put (now (plan .entry)) at (map wordOf (listOf own))) ⌝ }
 {
     match own {
         OptionalCall::Is(call) => {
@@ -34,7 +35,8 @@ fn write_own(own: OptionalCall, plan: &mut [u32], at: usize) -> usize
 // The words that turn one set on, then those that turn another off. The answer is the place after the last.
 fn write_switches(table: &[u8], on: u32, off: u32, plan: &mut [u32], at: usize) -> usize
     requires { ⌜ WellSized (now table) × (at + length (phaseWords (station (now table)) on off) ≤ length (now plan)) ⌝ }
-    ensures { λ r. ⌜ (r ≡ at + length (phaseWords (station (now (table .entry))) on off)) × (now (plan .exit) ≡ put (now (plan .entry)) at (phaseWords (station (now (table .entry))) on off)) ⌝ }
+    ensures { λ r. ⌜ (r ≡ at + length (phaseWords (station (now (table .entry))) on off))
+        × (now (plan .exit) ≡ put (now (plan .entry)) at (phaseWords (station (now (table .entry))) on off)) ⌝ }
 {
     let p = emit(table, false, on, plan, at);
     emit(table, true, off, plan, p)
@@ -43,7 +45,8 @@ fn write_switches(table: &[u8], on: u32, off: u32, plan: &mut [u32], at: usize) 
 // The words of all calls of a change, from the start of the plan. The answer is their count.
 pub fn write_calls(table: &[u8], c: Change, plan: &mut [u32]) -> usize
     requires { ⌜ WellSized (now table) × GoodChange (now table) c × (planRoom (width (now table)) ≤ length (now plan)) ⌝ }
-    ensures { λ r. ⌜ (r ≡ length (changeWords (station (now (table .entry))) c)) × (now (plan .exit) ≡ put (now (plan .entry)) 0 (changeWords (station (now (table .entry))) c)) ⌝ }
+    ensures { λ r. ⌜ (r ≡ length (changeWords (station (now (table .entry))) c))
+        × (now (plan .exit) ≡ put (now (plan .entry)) 0 (changeWords (station (now (table .entry))) c)) ⌝ }
 {
     let own = c.own;
     if c.last {

@@ -8,7 +8,8 @@ use borrow.Author.Tests.{eqb-true, eqb-false, ltb-true, ltb-false, lt-ltb, not-t
 use lib.Count.{trailingZeros}
 use lib.Dec.{eqb, ltb}
 use Rattle.sets.specs.Sets.{member, minus, single}
-use Rattle.sets.proofs.Laws.{decide, member-zero, member-suc, member-none, member-below, minus-single-same, minus-single-other, minus-single-lt}
+use Rattle.sets.proofs.Laws.{decide, member-zero, member-suc, member-none, member-below, minus-single-same, minus-single-other}
+use Rattle.sets.proofs.Laws.{minus-single-lt}
 use Rattle.rules.specs.Index.{least, every}
 use Rattle.rules.proofs.Index.{hit, none-below, every-at, every-of}
 use Rattle.laws.proofs.Every.{every-ext}
@@ -30,7 +31,8 @@ trailing-none : (w s j : ℕ) → j < trailingZeros w s → member s j ≡ false
 unfolding trailingZeros
 trailing-none zero s j h = absurd (omega arith)
 trailing-none (suc w) s zero h =
-    decide (eqb (s % 2) 1) (λ e. let odd : s % 2 ≡ 1 = eqb-true (s % 2) 1 e in let l = rw odd at h in absurd (omega (arith, l))) (λ e. member-zero s ∙ e)
+    decide (eqb (s % 2) 1) (λ e. let odd : s % 2 ≡ 1 = eqb-true (s % 2) 1 e in let l = rw odd at h in absurd (omega (arith, l)))
+    (λ e. member-zero s ∙ e)
 trailing-none (suc w) s (suc j) h =
     decide (eqb (s % 2) 1) (λ e. let odd : s % 2 ≡ 1 = eqb-true (s % 2) 1 e in let l = rw odd at h in absurd (omega (arith, l)))
     (λ e. let no = eqb-false (s % 2) 1 e in
@@ -50,7 +52,8 @@ module _ (s : ℕ) (n : 0 < s) (h : s < 2 ^ 32) where
       let k = trailingZeros 32 s in
       let l = least (member s) 32 in
       decide (ltb k l) (λ e. absurd (true≢false (sym trailing-in ∙ none-below (member s) 0 32 k (omega arith) (ltb-true k l e))))
-      (λ e. decide (ltb l k) (λ f. absurd (true≢false (sym (hit (member s) 0 32 (omega (arith, ltb-true l k f, trailing-lt))) ∙ trailing-none 32 s l (ltb-true l k f))))
+      (λ e. decide (ltb l k) (λ f. absurd (true≢false (sym (hit (member s) 0 32 (omega (arith, ltb-true l k f, trailing-lt)))
+      ∙ trailing-none 32 s l (ltb-true l k f))))
       (λ f. omega (arith, ltb-false k l e, ltb-false l k f)))
 
 -- ---- the loop
@@ -80,7 +83,8 @@ module _ (f : ℕ → Bool) (n : ℕ) (v : Bool) where
         let no = not-true b t in
         let l = fails-below no in
         decide (every (λ k. not (member set k) || f k) n)
-        (λ e. let here : f r ≡ true = rw m at (every-at (λ k. not (member set k) || f k) n r e l) in absurd (true≢false (sym here ∙ sym (told l) ∙ no)))
+        (λ e. let here : f r ≡ true = rw m at (every-at (λ k. not (member set k) || f k) n r e l) in
+        absurd (true≢false (sym here ∙ sym (told l) ∙ no)))
         (λ e. sym e ∙ inv)
 
     pub in-next : (rest : ℕ) → not b ≡ false → rest ≡ minus set (single r) → everyIn f rest n ≡ v

@@ -1,4 +1,5 @@
--- What a device supports and needs, a law for each way that the code answers: from the tests on the way and what the readers of the table gave.
+-- What a device supports and needs, a law for each way that the code answers: from the tests on the way and what the readers of the table
+-- gave.
 use mathlib.Core.Path.{_≡_, sym, _∙_}
 use mathlib.Core.Bool.{Bool, true, false, or-false}
 use Prim.Native.Nat.{ℕ, zero, suc, _-_, _≤_, _<_}
@@ -105,6 +106,7 @@ pub ruleset set-laws = (own-yes, own-no, shallow-needs, d3cold-needs, d3hot-need
 -- apart, since these end in a bare w, which every goal fits
 pub ruleset listed-laws = (listed-here, listed-next, listed-last)
 
-pub needs-are : (s : Station) (d a b r : ℕ) (e : Entry) → r ≡ union a b → a ≡ stateNeeds (s .device d) (e .state) → b ≡ wakeNeeds (s .device d) e → r ≡ needs s d e
+pub needs-are : (s : Station) (d a b r : ℕ) (e : Entry) → r ≡ union a b → a ≡ stateNeeds (s .device d) (e .state)
+    → b ≡ wakeNeeds (s .device d) e → r ≡ needs s d e
 unfolding needs
 needs-are s d a b r e q p n = q ∙ rw (p, n)

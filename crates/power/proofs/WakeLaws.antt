@@ -1,4 +1,5 @@
--- How a device may wake the system, a law for each way that the code answers. The wake range stays shut: no law here depends on how it is decided.
+-- How a device may wake the system, a law for each way that the code answers. The wake range stays shut: no law here depends on how it is
+-- decided.
 use mathlib.Core.Path.{_≡_, refl, sym, _∙_}
 use mathlib.Core.Bool.{Bool, true, false, not, _||_}
 use mathlib.Core.List.{List}
@@ -10,7 +11,8 @@ use Rattle.rules.specs.Power.{supported, wakeRange, wakeFrom, wakePowered, wake
 use Rattle.power.proofs.Members.{everyIn}
 
 -- ---- the sleep state
-pub from-told : (s : Station) (d x k : ℕ) (b : Bool) → b ≡ hasPRW (s .device d) → b ≡ true → k ≡ s .device d .deepest → leb x k ≡ wakeFrom s d x
+pub from-told : (s : Station) (d x k : ℕ) (b : Bool) → b ≡ hasPRW (s .device d) → b ≡ true → k ≡ s .device d .deepest
+    → leb x k ≡ wakeFrom s d x
 unfolding wakeFrom
 from-told s d x k b e t q = rw (sym e ∙ t, q)
 
@@ -37,7 +39,8 @@ powered-starts t d x set p = rw (p, resources-are t) refl
 
 -- ---- the device state, and the pair
 module _ (s : Station) (d x y : ℕ) where
-  pub state-told : (a b : ℕ) (u v : Bool) → u ≡ supported s d y → u ≡ true → a ≡ s .device d .sxd x → b ≡ s .device d .sxw x → v ≡ wakeRange a b y → v ≡ wakeState s d x y
+  pub state-told : (a b : ℕ) (u v : Bool) → u ≡ supported s d y → u ≡ true → a ≡ s .device d .sxd x → b ≡ s .device d .sxw x
+      → v ≡ wakeRange a b y → v ≡ wakeState s d x y
   unfolding wakeState
   state-told a b u v e t p q r = rw (sym e ∙ t, ← p, ← q) r
 
@@ -53,7 +56,8 @@ module _ (s : Station) (d x y : ℕ) where
   unfolding wakePair
   pair-unpowered u v e t f h = rw (sym e ∙ not-false u t, sym f ∙ not-true v h)
 
-  pub pair-told : (u v w : Bool) → u ≡ wakeFrom s d x → not u ≡ false → v ≡ wakePowered s d x → not v ≡ false → w ≡ wakeState s d x y → w ≡ wakePair s d x y
+  pub pair-told : (u v w : Bool) → u ≡ wakeFrom s d x → not u ≡ false → v ≡ wakePowered s d x → not v ≡ false → w ≡ wakeState s d x y
+      → w ≡ wakePair s d x y
   unfolding wakePair
   pair-told u v w e t f h q = rw (sym e ∙ not-false u t, sym f ∙ not-false v h) q
 

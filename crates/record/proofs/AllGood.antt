@@ -1,4 +1,5 @@
--- Whether every field is good, as one test: of fields one after the other, of the five sets, of zeros read as one number, of a device's parts.
+-- Whether every field is good, as one test: of fields one after the other, of the five sets, of zeros read as one number, of a device's
+-- parts.
 -- Where the code asks another function, that function's answer comes with what it says.
 use mathlib.Core.Path.{_≡_, refl, sym, ap, _∙_}
 use mathlib.Core.Bool.{Bool, true, false, not, _&&_, _||_, and-assoc, and-true, or-true, true≢false}
@@ -16,7 +17,8 @@ use Rattle.words.specs.Words.{readLE}
 use Rattle.words.proofs.Twice.{read-split}
 use Rattle.rules.specs.Index.{eachFrom, each, every}
 use Rattle.rules.specs.Station.{Device, recordSize, deviceAt}
-use Rattle.rules.specs.Table.{Field, field, firstBad, parentGood, present, setGood, sxdGood, sxwGood, deepestGood, headFields, setFields, sxdFields, sxwFields, lastFields, deviceFields, objectsGood}
+use Rattle.rules.specs.Table.{Field, field, firstBad, parentGood, present, setGood, sxdGood, sxwGood, deepestGood, headFields}
+use Rattle.rules.specs.Table.{setFields, sxdFields, sxwFields, lastFields, deviceFields, objectsGood}
 use Rattle.rules.proofs.Index.{every-at, every-of}
 use Rattle.laws.specs.Carried.{All}
 use Rattle.laws.proofs.All.{all-append, all-each, each-at}
@@ -226,7 +228,8 @@ module _ (w resources : ℕ) (t : List ℕ) (d at : ℕ) where
   dev = deviceAt w t at
 
   -- a record without a bad field is one whose fields are all good
-  pub device-good : eqb (firstBad (recordSize w) (deviceFields w resources t d at)) (recordSize w) ≡ allGood (deviceFields w resources t d at)
+  pub device-good : eqb (firstBad (recordSize w) (deviceFields w resources t d at)) (recordSize w) ≡ allGood
+      (deviceFields w resources t d at)
   unfolding deviceFields
   device-good =
       let In = Inside w in
@@ -262,11 +265,30 @@ module _ (w resources : ℕ) (t : List ℕ) (d at : ℕ) where
   pub last-decides : (h f a x y b : Bool) → h ≡ part 0 → f ≡ part 1 → a ≡ part 2 → x ≡ part 3 → y ≡ part 4 → b ≡ part 5
       → not h ≡ false → not f ≡ false → not a ≡ false → not x ≡ false → not y ≡ false → b ≡ allGood (deviceFields w resources t d at)
   last-decides h f a x y b p q r s u v hh ff aa xx yy =
-      v ∙ rw (sym p ∙ not-false h hh, sym q ∙ not-false f ff, sym r ∙ not-false a aa, sym s ∙ not-false x xx, sym u ∙ not-false y yy) at all-parts
+      v ∙ rw (
+        sym p ∙ not-false h hh,
+        sym q ∙ not-false f ff,
+        sym r ∙ not-false a aa,
+        sym s ∙ not-false x xx,
+        sym u
+            ∙ not-false y yy,
+      ) at all-parts
 
 -- one part that is bad is enough
 pub part-bad : (k w resources : ℕ) (t : List ℕ) (d at : ℕ) (b : Bool) → k < 6 → b ≡ part w resources t d at k → not b ≡ true
     → false ≡ allGood (deviceFields w resources t d at)
 part-bad k w resources t d at b h e p = one-bad (part w resources t d at) 6 k b h e p ∙ every-part w resources t d at
 
-pub ruleset quick-tests = (head-test, limits-test, states-test, present-none, absent-same, absent-test, all-present, fit-test, last-bad, last-test, same-masks-agree)
+pub ruleset quick-tests = (
+  head-test,
+  limits-test,
+  states-test,
+  present-none,
+  absent-same,
+  absent-test,
+  all-present,
+  fit-test,
+  last-bad,
+  last-test,
+  same-masks-agree,
+)

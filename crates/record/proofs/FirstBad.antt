@@ -13,7 +13,8 @@ use lib.ListN.{getD}
 use Rattle.sets.proofs.Laws.{decide}
 use Rattle.rules.specs.Index.{eachFrom}
 use Rattle.rules.specs.Station.{Device, recordSize, deviceAt}
-use Rattle.rules.specs.Table.{Field, field, firstBad, resourceFields, parentGood, setGood, sxdGood, sxwGood, deepestGood, headFields, setFields, sxdFields, sxwFields, lastFields, deviceFields}
+use Rattle.rules.specs.Table.{Field, field, firstBad, resourceFields, parentGood, setGood, sxdGood, sxwGood, deepestGood, headFields}
+use Rattle.rules.specs.Table.{setFields, sxdFields, sxwFields, lastFields, deviceFields}
 use Rattle.laws.specs.Carried.{All}
 use Rattle.laws.proofs.All.{all-each}
 use Rattle.laws.proofs.Accepted.{field-good, field-bad}
@@ -88,13 +89,15 @@ module _ (end d : ℕ) (v : Device) (b : Bool) (e : b ≡ parentGood d v) where
       pub pr-bad : 16 ≤ pr → 2 ≡ firstBad end (headFields d v)
       unfolding headFields
       pr-bad h =
-          sym (field-good end _ _ (sym e ∙ not-false b p) ∙ field-good end _ _ (lt-ltb _ _ (rw x at q)) ∙ field-bad end _ _ (le-ltb _ _ (rw y at h)))
+          sym (field-good end _ _ (sym e ∙ not-false b p) ∙ field-good end _ _ (lt-ltb _ _ (rw x at q))
+          ∙ field-bad end _ _ (le-ltb _ _ (rw y at h)))
 
       module _ (flags : ℕ) (z : flags ≡ v .flags) (r : pr < 16) where
         past-masks : firstBad end (field 3 (ltb (v .flags) 4) ∷ []) ≡ firstBad end (headFields d v)
         unfolding headFields
         past-masks =
-            sym (field-good end _ _ (sym e ∙ not-false b p) ∙ field-good end _ _ (lt-ltb _ _ (rw x at q)) ∙ field-good end _ _ (lt-ltb _ _ (rw y at r)))
+            sym (field-good end _ _ (sym e ∙ not-false b p) ∙ field-good end _ _ (lt-ltb _ _ (rw x at q))
+            ∙ field-good end _ _ (lt-ltb _ _ (rw y at r)))
 
         pub flags-bad : 4 ≤ flags → 3 ≡ firstBad end (headFields d v)
         flags-bad h = sym (field-bad end _ _ (le-ltb _ _ (rw z at h))) ∙ past-masks

@@ -1,5 +1,5 @@
--- Each rule of a device as a test of its fields: what the checks of one record cite. What the code asks of another function, a field, a bit or
--- a test, comes as that function's answer, with what it says.
+-- Each rule of a device as a test of its fields: what the checks of one record cite. What the code asks of another function, a field, a bit
+-- or a test, comes as that function's answer, with what it says.
 use mathlib.Core.Path.{_≡_, refl, sym}
 use mathlib.Core.Bool.{Bool, not, _&&_, _||_, or-false}
 use mathlib.Core.List.{List}
@@ -10,7 +10,8 @@ use lib.Dec.{eqb, leb, ltb}
 use Rattle.sets.specs.Sets.{member}
 use Rattle.sets.proofs.Laws.{decide}
 use Rattle.rules.specs.Station.{Device}
-use Rattle.rules.specs.Table.{firstBad, resourceFields, resourceGood, parentGood, present, setGood, sxdGood, sxwGood, deepestGood, objectsGood}
+use Rattle.rules.specs.Table.{firstBad, resourceFields, resourceGood, parentGood, present, setGood, sxdGood, sxwGood, deepestGood}
+use Rattle.rules.specs.Table.{objectsGood}
 
 -- a byte as a wider number has the byte's bits
 pub bit-is : (mask n x : ℕ) (b : Bool) → n ≡ mask → b ≡ member n x → b ≡ member mask x
@@ -63,4 +64,16 @@ module _ (v : Device) where
   unfolding objectsGood
   objects-test ps pr flags ps0 ps3 pr0 dsw prw e f g a b c d h = rw (a, b, c, d, h, e, f, g) refl
 
-pub ruleset record-tests = (bit-is, resource-test, parent-test, wake-present, power-present, set-test, sxd-state, sxd-absent, sxw-test, deepest-test, objects-test)
+pub ruleset record-tests = (
+  bit-is,
+  resource-test,
+  parent-test,
+  wake-present,
+  power-present,
+  set-test,
+  sxd-state,
+  sxd-absent,
+  sxw-test,
+  deepest-test,
+  objects-test,
+)

@@ -3,7 +3,8 @@ ghost use mathlib.Core.Path.{_≡_};
 ghost use Prim.Native.Nat.{_+_, _*_, _<_, _≤_};
 ghost use lib.ListN.{length};
 ghost use Rattle.rules.specs.Station.{Wide, limit, recordSize, deviceAt};
-ghost use Rattle.rules.specs.Table.{firstBad, resourceFields, resourceGood, headFields, setFields, sxdFields, sxwFields, lastFields, deviceFields};
+ghost use Rattle.rules.specs.Table.{firstBad, resourceFields, resourceGood, headFields, setFields, sxdFields, sxwFields, lastFields};
+ghost use Rattle.rules.specs.Table.{deviceFields};
 
 // Where a resource's first bad field starts, 4 if none is bad.
 pub fn bad_resource(table: &[u8], at: usize) -> usize

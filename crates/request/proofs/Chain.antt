@@ -35,7 +35,8 @@ ready-of t b e f =
     let s = consistent-of t b f in
     record { sized = sized-of t e; parents = λ d h. a .device d h .parent; long = omega (arith, s .0); good = s .1 .entries }
 
-request-alone : (s : Station) (entries : ℕ → Entry) (q : Request) → firstOf (requestVerdict s entries q ∷ []) (Done 0) ≡ requestVerdict s entries q
+request-alone : (s : Station) (entries : ℕ → Entry) (q : Request) → firstOf (requestVerdict s entries q ∷ [])
+    (Done 0) ≡ requestVerdict s entries q
 unfolding requestVerdict
 request-alone s entries q = first-alone _
 
@@ -56,7 +57,8 @@ module _ (t b : List ℕ) (q : Request) (room : Bool) (v : Verdict) (p : Bool) (
       pub stop-state : not r ≡ true → u ≡ stagesVerdict room t b q
       unfolding stagesVerdict
       stop-state n =
-          rw g (sym (first-pass (tableVerdict t) _ (Done 0) on-table ∙ first-stop (stateVerdict t b) _ (Done 0) (sym (ap passes g) ∙ sym h ∙ not-true r n)))
+          rw g (sym (first-pass (tableVerdict t) _ (Done 0) on-table ∙ first-stop (stateVerdict t b) _ (Done 0) (sym (ap passes g)
+          ∙ sym h ∙ not-true r n)))
 
       module _ (yes2 : not r ≡ false) where
         on-state : passes (stateVerdict t b) ≡ true
@@ -79,7 +81,8 @@ module _ (t b : List ℕ) (q : Request) (room : Bool) (v : Verdict) (p : Bool) (
             ∙ request-alone (station t) (entries t b) q)
 
 -- h: whether the header is good
-pub stop-header : (t b : List ℕ) (q : Request) (room h : Bool) → h ≡ headerGood t → not h ≡ true → Refused NotATable 0 ≡ stagesVerdict room t b q
+pub stop-header : (t b : List ℕ) (q : Request) (room h : Bool) → h ≡ headerGood t → not h ≡ true
+    → Refused NotATable 0 ≡ stagesVerdict room t b q
 stop-header t b q room h e n = stop-table t b q room (Refused NotATable 0) false (no-table t h e n) (sym (refused-stops NotATable 0)) refl
 
 pub ruleset in-turn = (stop-table, state-asks, stop-state, request-asks, stop-room, last-request)

@@ -44,7 +44,8 @@ permitted-of t b q g =
       passed = ap passes (stages-pass true t b q g refl) ∙ done-passes 0;
     }
 
-pub permitted-by : (t b : List ℕ) (q : Request) (room : Bool) (v : Verdict) (p : Bool) → v ≡ stagesVerdict room t b q → p ≡ passes v → not p ≡ false → PermittedRequest t b q
+pub permitted-by : (t b : List ℕ) (q : Request) (room : Bool) (v : Verdict) (p : Bool) → v ≡ stagesVerdict room t b q → p ≡ passes v
+    → not p ≡ false → PermittedRequest t b q
 permitted-by t b q room v p e f n = permitted-of t b q (stages-of room t b q (ap passes (sym e) ∙ sym f ∙ not-false p n))
 
 -- what is in one set and not in another, and the other way round
@@ -63,7 +64,8 @@ module _ (t b : List ℕ) (q : Request) (g : PermittedRequest t b q) where
     abbrev made : Change
     made = record { entry = f; needed = n; on = u; off = v; own = o; last = l }
 
-    module _ (read : e ≡ entryAt b (4 * q .device)) (new : f ≡ newEntry e q) (need : n ≡ needed (station t) (replaceEntry (entries t b) (q .device) f)) (own : o ≡ ownCall (station t) e q) where
+    module _ (read : e ≡ entryAt b (4 * q .device)) (new : f ≡ newEntry e q)
+        (need : n ≡ needed (station t) (replaceEntry (entries t b) (q .device) f)) (own : o ≡ ownCall (station t) e q) where
       same : e ≡ entries t b (q .device)
       same = entry-ready t b (q .device) e (g .ready) (g .device) read
 

@@ -11,12 +11,14 @@ use Rattle.rules.specs.declared.Entry.{Entry}
 use Rattle.rules.specs.declared.Request.{Request}
 use Rattle.rules.specs.declared.Verdict.{Verdict}
 use Rattle.rules.specs.declared.Verdict.the-variants.{Done, Refused}
-use Rattle.rules.specs.declared.Reason.the-variants.{BadRequest, Unsupported, Shallower, ParentDeeper, ChildShallower, TooDeepToWake, NoWake, WakeUnpowered, BadWakeState}
+use Rattle.rules.specs.declared.Reason.the-variants.{BadRequest, Unsupported, Shallower, ParentDeeper, ChildShallower, TooDeepToWake}
+use Rattle.rules.specs.declared.Reason.the-variants.{NoWake, WakeUnpowered, BadWakeState}
 use Rattle.rules.specs.Index.{leastFrom, least}
 use Rattle.rules.specs.Answers.{passes, firstOf, unless}
 use Rattle.rules.specs.Station.{Station, countD, stationOf, station}
 use Rattle.rules.specs.Power.{supported, wakeFrom, wakePowered, wakeState}
-use Rattle.rules.specs.Request.{isMove, isArm, isDisarm, formGood, notShallowerOrD0, childBars, wakeAllows, moveVerdict, armVerdict, kindVerdict, requestVerdict, newEntry, numbersGood}
+use Rattle.rules.specs.Request.{isMove, isArm, isDisarm, formGood, notShallowerOrD0, childBars, wakeAllows, moveVerdict, armVerdict}
+use Rattle.rules.specs.Request.{kindVerdict, requestVerdict, newEntry, numbersGood}
 use Rattle.rules.specs.Status.{entryAt, entries, parentAllows}
 use Rattle.rules.proofs.Index.{starts, found, next, done}
 use Rattle.rules.proofs.Answers.{lowest-stop, lowest-none, first-pass, first-alone}
@@ -113,7 +115,8 @@ pub no-child : (s : Station) (entries : ℕ → Entry) (d x c p : ℕ) → p ≡
 unfolding childBars
 no-child s entries d x c p e h = rw (← e, ne-eqb p d h) refl
 
-pub its-child : (s : Station) (entries : ℕ → Entry) (d x c p : ℕ) (u : Entry) → p ≡ s .device c .parent → p ≡ d → u ≡ entries c → ltb (u .state) x ≡ childBars s entries d x c
+pub its-child : (s : Station) (entries : ℕ → Entry) (d x c p : ℕ) (u : Entry) → p ≡ s .device c .parent → p ≡ d → u ≡ entries c
+    → ltb (u .state) x ≡ childBars s entries d x c
 unfolding childBars
 its-child s entries d x c p u e h f = rw (← e, eq-eqb p d h, f) refl
 
@@ -126,7 +129,8 @@ from-none f n m e = starts f n ∙ ap (least f) e
 pub ruleset lowest-bad = (from-none, found, next, done)
 
 -- ---- 11 to 15. Each test's result stands apart from what it tests
-module _ (t b : List ℕ) (r : Ready t b) (d x : ℕ) (h : d < countD t) (u : Entry) (read : u ≡ entryAt b (4 * d)) (y : Bool) (known : y ≡ supported (station t) d x) where
+module _ (t b : List ℕ) (r : Ready t b) (d x : ℕ) (h : d < countD t) (u : Entry) (read : u ≡ entryAt b (4 * d)) (y : Bool)
+    (known : y ≡ supported (station t) d x) where
   own : u ≡ entries t b d
   own = entry-ready t b d u r h read
 
@@ -140,28 +144,54 @@ module _ (t b : List ℕ) (r : Ready t b) (d x : ℕ) (h : d < countD t) (u : En
     move-12 n = rw (← own, sym known ∙ not-false y yes, sym deep ∙ not-true e n) refl
 
     module _ (yes2 : not e ≡ false) (c : Bool) (up : c ≡ parentAllows (station t) (entries t b) d x) where
-      pub move-13 : (p : ℕ) → p ≡ station t .device d .parent → not c ≡ true → Refused ParentDeeper p ≡ moveVerdict (station t) (entries t b) d x
+      pub move-13 : (p : ℕ) → p ≡ station t .device d .parent → not c ≡ true → Refused ParentDeeper p ≡ moveVerdict
+          (station t) (entries t b) d x
       unfolding moveVerdict firstOf unless passes
       move-13 p f n = rw (← own, sym known ∙ not-false y yes, sym deep ∙ not-false e yes2, sym up ∙ not-true c n, f) refl
 
-      module _ (yes3 : not c ≡ false) (k m : ℕ) (low : k ≡ least (childBars (station t) (entries t b) d x) m) (all : m ≡ station t .devices) where
+      module _ (yes3 : not c ≡ false) (k m : ℕ) (low : k ≡ least (childBars (station t) (entries t b) d x) m)
+          (all : m ≡ station t .devices) where
         low-all : k ≡ least (childBars (station t) (entries t b) d x) (station t .devices)
         low-all = low ∙ ap (least (childBars (station t) (entries t b) d x)) all
 
         pub move-14 : k < m → Refused ChildShallower k ≡ moveVerdict (station t) (entries t b) d x
         unfolding moveVerdict firstOf unless passes
         move-14 l =
-            rw (← own, sym known ∙ not-false y yes, sym deep ∙ not-false e yes2, sym up ∙ not-false c yes3, lowest-stop (childBars (station t) (entries t b) d x) (station t .devices) k (Refused ChildShallower) low-all (omega arith)) refl
+            rw (
+              ← own,
+              sym known ∙ not-false y yes,
+              sym deep ∙ not-false e yes2,
+              sym up ∙ not-false c yes3,
+              lowest-stop (childBars (station t) (entries t b) d x) (station t .devices) k
+                  (Refused ChildShallower) low-all (omega arith),
+            ) refl
 
-        pub move-15 : m ≤ k → (g : Bool) → g ≡ wakeAllows u x → not g ≡ true → Refused TooDeepToWake 0 ≡ moveVerdict (station t) (entries t b) d x
+        pub move-15 : m ≤ k → (g : Bool) → g ≡ wakeAllows u x → not g ≡ true → Refused TooDeepToWake 0 ≡ moveVerdict
+            (station t) (entries t b) d x
         unfolding moveVerdict firstOf unless passes
         move-15 l g w n =
-            rw (← own, sym known ∙ not-false y yes, sym deep ∙ not-false e yes2, sym up ∙ not-false c yes3, lowest-none (childBars (station t) (entries t b) d x) (station t .devices) k (Refused ChildShallower) low-all (omega arith), sym w ∙ not-true g n) refl
+            rw (
+              ← own,
+              sym known ∙ not-false y yes,
+              sym deep ∙ not-false e yes2,
+              sym up ∙ not-false c yes3,
+              lowest-none (childBars (station t) (entries t b) d x) (station t .devices) k (Refused ChildShallower) low-all
+                  (omega arith),
+              sym w ∙ not-true g n,
+            ) refl
 
         pub move-done : m ≤ k → (g : Bool) → g ≡ wakeAllows u x → not g ≡ false → Done 0 ≡ moveVerdict (station t) (entries t b) d x
         unfolding moveVerdict firstOf unless passes
         move-done l g w n =
-            rw (← own, sym known ∙ not-false y yes, sym deep ∙ not-false e yes2, sym up ∙ not-false c yes3, lowest-none (childBars (station t) (entries t b) d x) (station t .devices) k (Refused ChildShallower) low-all (omega arith), sym w ∙ not-false g n) refl
+            rw (
+              ← own,
+              sym known ∙ not-false y yes,
+              sym deep ∙ not-false e yes2,
+              sym up ∙ not-false c yes3,
+              lowest-none (childBars (station t) (entries t b) d x) (station t .devices) k (Refused ChildShallower) low-all
+                  (omega arith),
+              sym w ∙ not-false g n,
+            ) refl
 
 pub ruleset moving = (devices-are, move-11, move-12, move-13, move-14, move-15, move-done)
 
@@ -181,13 +211,26 @@ module _ (s : Station) (entries : ℕ → Entry) (d x y : ℕ) (a : Bool) (from 
       unfolding armVerdict firstOf unless passes
       arm-18 n = rw (sym from ∙ not-false a yes, sym level ∙ not-false b yes2, sym state ∙ not-true c n) refl
 
-      pub arm-18-shallower : not c ≡ false → (u : Entry) → u ≡ entries d → y < u .state → Refused BadWakeState 0 ≡ armVerdict s entries d x y
+      pub arm-18-shallower : not c ≡ false → (u : Entry) → u ≡ entries d → y < u .state
+          → Refused BadWakeState 0 ≡ armVerdict s entries d x y
       unfolding armVerdict firstOf unless passes
-      arm-18-shallower n u e h = rw (sym from ∙ not-false a yes, sym level ∙ not-false b yes2, sym state ∙ not-false c n, ← e, lt-leb (u .state) y h) refl
+      arm-18-shallower n u e h = rw (
+        sym from ∙ not-false a yes,
+        sym level ∙ not-false b yes2,
+        sym state ∙ not-false c n,
+        ← e,
+        lt-leb (u .state) y h,
+      ) refl
 
       pub arm-done : not c ≡ false → (u : Entry) → u ≡ entries d → u .state ≤ y → Done 0 ≡ armVerdict s entries d x y
       unfolding armVerdict firstOf unless passes
-      arm-done n u e h = rw (sym from ∙ not-false a yes, sym level ∙ not-false b yes2, sym state ∙ not-false c n, ← e, le-leb (u .state) y h) refl
+      arm-done n u e h = rw (
+        sym from ∙ not-false a yes,
+        sym level ∙ not-false b yes2,
+        sym state ∙ not-false c n,
+        ← e,
+        le-leb (u .state) y h,
+      ) refl
 
 pub ruleset arming = (entry-ready, arm-16, arm-17, arm-18, arm-18-shallower, arm-done)
 
@@ -197,13 +240,17 @@ module _ (s : Station) (entries : ℕ → Entry) (q : Request) (f : Bool) (form 
   unfolding requestVerdict firstOf unless passes
   asked-10 n = rw (sym form ∙ not-true f n) refl
 
-  pub asked-move : not f ≡ false → q .kind ≡ 1 → (v : Verdict) → v ≡ moveVerdict s entries (q .device) (q .a) → v ≡ requestVerdict s entries q
+  pub asked-move : not f ≡ false → q .kind ≡ 1 → (v : Verdict) → v ≡ moveVerdict s entries (q .device) (q .a)
+      → v ≡ requestVerdict s entries q
   unfolding requestVerdict kindVerdict moveVerdict
-  asked-move n k v e = e ∙ sym (rw (sym form ∙ not-false f n, k) (first-pass (unless true BadRequest 0) _ (Done 0) (unfold unless passes in refl) ∙ first-alone _))
+  asked-move n k v e = e ∙ sym (rw (sym form ∙ not-false f n, k) (first-pass (unless true BadRequest 0) _ (Done 0) (unfold unless passes in
+      refl) ∙ first-alone _))
 
-  pub asked-arm : not f ≡ false → q .kind ≡ 2 → (v : Verdict) → v ≡ armVerdict s entries (q .device) (q .a) (q .b) → v ≡ requestVerdict s entries q
+  pub asked-arm : not f ≡ false → q .kind ≡ 2 → (v : Verdict) → v ≡ armVerdict s entries (q .device) (q .a) (q .b)
+      → v ≡ requestVerdict s entries q
   unfolding requestVerdict kindVerdict armVerdict
-  asked-arm n k v e = e ∙ sym (rw (sym form ∙ not-false f n, k) (first-pass (unless true BadRequest 0) _ (Done 0) (unfold unless passes in refl) ∙ first-alone _))
+  asked-arm n k v e = e ∙ sym (rw (sym form ∙ not-false f n, k) (first-pass (unless true BadRequest 0) _ (Done 0) (unfold unless passes in
+      refl) ∙ first-alone _))
 
   pub asked-disarm : not f ≡ false → (q .kind ≡ 1 → ⊥) → (q .kind ≡ 2 → ⊥) → Done 0 ≡ requestVerdict s entries q
   unfolding requestVerdict kindVerdict firstOf unless passes
@@ -212,7 +259,13 @@ module _ (s : Station) (entries : ℕ → Entry) (q : Request) (f : Bool) (form 
 pub ruleset asking = (asked-10, asked-move, asked-arm, asked-disarm)
 
 -- ---- the new entry
-pub entry-moved : (e : Entry) (q : Request) → q .kind ≡ 1 → record { state = q .a; armed = e .armed; sleep = e .sleep; wake = e .wake } ≡ newEntry e q
+pub entry-moved : (e : Entry) (q : Request) → q .kind ≡ 1 → record {
+  state = q .a;
+  armed = e .armed;
+  sleep = e .sleep;
+  wake =
+      e .wake;
+} ≡ newEntry e q
 unfolding newEntry
 entry-moved e q k = rw k refl
 
@@ -220,7 +273,12 @@ pub entry-armed : (e : Entry) (q : Request) → q .kind ≡ 2 → record { state
 unfolding newEntry
 entry-armed e q k = rw k refl
 
-pub entry-disarmed : (e : Entry) (q : Request) → (q .kind ≡ 1 → ⊥) → (q .kind ≡ 2 → ⊥) → record { state = e .state; armed = 0; sleep = 0; wake = 0 } ≡ newEntry e q
+pub entry-disarmed : (e : Entry) (q : Request) → (q .kind ≡ 1 → ⊥) → (q .kind ≡ 2 → ⊥) → record {
+  state = e .state;
+  armed = 0;
+  sleep = 0;
+  wake = 0;
+} ≡ newEntry e q
 unfolding newEntry
 entry-disarmed e q k l = rw (ne-eqb (q .kind) 1 k, ne-eqb (q .kind) 2 l) refl
 

@@ -26,7 +26,8 @@ pub record PermittedRequest (t b : List ℕ) (q : Request) : Type 0 where
 unfoldable pub Disjoint : ℕ → ℕ → Type 0
 Disjoint a b = (r : ℕ) → member a r && member b r ≡ false
 
--- what holds of a change, so that its calls can be written or looked for: resources of the table, none switched both ways, a call of document 01
+-- what holds of a change, so that its calls can be written or looked for: resources of the table, none switched both ways, a call of
+-- document 01
 pub record GoodChange (t : List ℕ) (c : Change) : Type 0 where
   pub on : c .on < 2 ^ countR t
   pub off : c .off < 2 ^ countR t

@@ -11,7 +11,8 @@ ghost use Rattle.request.specs.Permitted.{PermittedRequest, GoodChange};
 
 pub fn change(table: &[u8], devices: &[u8], on: u32, q: Request) -> Change
     requires { ⌜ PermittedRequest (now table) (now devices) q × (on < 2 ^ countR (now table)) ⌝ }
-    ensures { λ r. ⌜ (r ≡ changeOf (station (now (table .entry))) (statusWith (now (table .entry)) (now (devices .entry)) on) q) × GoodChange (now (table .entry)) r ⌝ }
+    ensures { λ r. ⌜ (r ≡ changeOf (station (now (table .entry))) (statusWith (now (table .entry)) (now (devices .entry)) on) q)
+        × GoodChange (now (table .entry)) r ⌝ }
 {
     let d = q.device as usize;
     let e = status::image::entry(devices, d);

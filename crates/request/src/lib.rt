@@ -12,7 +12,8 @@ ghost use Prim.Native.Nat.{_<_, _≤_};
 ghost use Rattle.rules.specs.Index.{least};
 ghost use Rattle.rules.specs.Station.{countD, station};
 ghost use Rattle.rules.specs.Status.{entries};
-ghost use Rattle.rules.specs.Request.{formGood, notShallowerOrD0, childBars, wakeAllows, moveVerdict, armVerdict, requestVerdict, newEntry, numbersGood};
+ghost use Rattle.rules.specs.Request.{formGood, notShallowerOrD0, childBars, wakeAllows, moveVerdict, armVerdict, requestVerdict};
+ghost use Rattle.rules.specs.Request.{newEntry, numbersGood};
 ghost use Rattle.table.specs.Layout.{WellSized};
 ghost use Rattle.status.specs.Ready.{Ready};
 
@@ -69,7 +70,8 @@ fn child_bars(table: &[u8], devices: &[u8], d: usize, x: u8, c: usize) -> bool
 // 14: the lowest such child, or D.
 fn lowest_child(table: &[u8], devices: &[u8], d: usize, x: u8) -> usize
     requires { ⌜ Ready (now table) (now devices) × (d < countD (now table)) ⌝ }
-    ensures { λ r. ⌜ r ≡ least (childBars (station (now (table .entry))) (entries (now (table .entry)) (now (devices .entry))) d x) (countD (now (table .entry))) ⌝ }
+    ensures { λ r. ⌜ r ≡ least (childBars (station (now (table .entry))) (entries (now (table .entry)) (now (devices .entry))) d x)
+        (countD (now (table .entry))) ⌝ }
 {
     let n = table::fields::devices(table);
     let mut i = 0;

@@ -9,7 +9,10 @@ use lib.Dec.{ltb}
 use Rattle.rules.specs.declared.Verdict.{Verdict}
 use Rattle.rules.specs.declared.Verdict.the-variants.{Done, Refused}
 use Rattle.rules.specs.declared.Reason.{Reason}
-use Rattle.rules.specs.declared.Reason.the-variants.{NotATable, TooMany, WrongLength, BadResource, BadDevice, BadObjects, BadState, Inconsistent, NoRoom, BadRequest, Unsupported, Shallower, ParentDeeper, ChildShallower, TooDeepToWake, NoWake, WakeUnpowered, BadWakeState, NotConforming}
+use Rattle.rules.specs.declared.Reason.the-variants.{NotATable, TooMany, WrongLength, BadResource, BadDevice, BadObjects}
+use Rattle.rules.specs.declared.Reason.the-variants.{BadState, Inconsistent, NoRoom, BadRequest, Unsupported, Shallower}
+use Rattle.rules.specs.declared.Reason.the-variants.{ParentDeeper, ChildShallower, TooDeepToWake, NoWake, WakeUnpowered}
+use Rattle.rules.specs.declared.Reason.the-variants.{BadWakeState, NotConforming}
 use Rattle.rules.specs.Index.{least}
 use Rattle.rules.specs.Answers.{reasonNumber, passes, firstOf, unless, lowest}
 use Rattle.rules.proofs.Index.{none-below, no-hit}
@@ -37,7 +40,8 @@ unfolding firstOf
 first-none last = refl
 
 -- a chain that passes: its first check passes, and so does the rest
-pub first-both : (v : Verdict) (vs : List Verdict) (last : Verdict) → passes (firstOf (v ∷ vs) last) ≡ true → (passes v ≡ true) × (passes (firstOf vs last) ≡ true)
+pub first-both : (v : Verdict) (vs : List Verdict) (last : Verdict) → passes (firstOf (v ∷ vs) last) ≡ true → (passes v ≡ true)
+    × (passes (firstOf vs last) ≡ true)
 first-both v vs last e = go (passes v) refl
   where
     go : (b : Bool) → passes v ≡ b → (passes v ≡ true) × (passes (firstOf vs last) ≡ true)
@@ -53,7 +57,8 @@ pub first-same : (vs : List Verdict) (last : Verdict) → passes (firstOf vs (Do
 first-same [] last e = absurd (true≢false (sym (ap passes (first-none (Done 0)) ∙ done-passes 0) ∙ e))
 first-same (v ∷ vs) last e = let rest = first-same vs last in go (passes v) refl rest
   where
-    go : (b : Bool) → passes v ≡ b → (passes (firstOf vs (Done 0)) ≡ false → firstOf vs last ≡ firstOf vs (Done 0)) → firstOf (v ∷ vs) last ≡ firstOf (v ∷ vs) (Done 0)
+    go : (b : Bool) → passes v ≡ b → (passes (firstOf vs (Done 0)) ≡ false → firstOf vs last ≡ firstOf vs (Done 0))
+        → firstOf (v ∷ vs) last ≡ firstOf (v ∷ vs) (Done 0)
     go true p f = first-pass v vs last p ∙ f (sym (ap passes (first-pass v vs (Done 0) p)) ∙ e) ∙ sym (first-pass v vs (Done 0) p)
     go false p f = first-stop v vs last p ∙ sym (first-stop v vs (Done 0) p)
 
@@ -97,7 +102,8 @@ pub lowest-at : (bad : ℕ → Bool) (n : ℕ) (refusal : ℕ → Verdict) → (
 lowest-at bad n refusal p e i h = go (ltb (least bad n) n) refl
   where
     go : (b : Bool) → ltb (least bad n) n ≡ b → bad i ≡ false
-    go true q = absurd (true≢false (sym e ∙ ap passes (lowest-stop bad n (least bad n) refusal refl (ltb-true (least bad n) n q)) ∙ p (least bad n)))
+    go true q = absurd (true≢false (sym e ∙ ap passes (lowest-stop bad n (least bad n) refusal refl
+        (ltb-true (least bad n) n q)) ∙ p (least bad n)))
     go false q = none-below bad 0 n i (omega arith) (omega (arith, ltb-false (least bad n) n q))
 
 -- ---- no refusal has number 0

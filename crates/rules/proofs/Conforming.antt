@@ -1,5 +1,5 @@
--- What a list that conforms has, part by part, and short lists that rise, fall, repeat or do not. That the planner's list conforms, and that the checker's test says
--- the same, is proved in crates/laws.
+-- What a list that conforms has, part by part, and short lists that rise, fall, repeat or do not. That the planner's list conforms, and
+-- that the checker's test says the same, is proved in crates/laws.
 use mathlib.Core.Path.{_≡_, refl}
 use mathlib.Core.Bool.{true, false}
 use mathlib.Core.List.{List, [], _∷_, _++_, map}
@@ -47,11 +47,13 @@ not-falling h = let l : 1 ≤ 0 = h .1 .0 in omega arith
 
 -- ---- the parts of a list that conforms
 module _ (s : Station) (st : Status) (q : Request) (words : List ℕ) (c : Conforms s st q words) where
-  pub own-last-words : ownLast q ≡ true → words ≡ map wordOf (map ResourceOn (c .ons) ++ map ResourceOff (c .offs) ++ listOf (ownCall s (st .entries (q .device)) q))
+  pub own-last-words : ownLast q ≡ true → words ≡ map wordOf (map ResourceOn (c .ons) ++ map ResourceOff (c .offs)
+      ++ listOf (ownCall s (st .entries (q .device)) q))
   unfolding arrange
   own-last-words e = rw e at (c .whole)
 
-  pub own-first-words : ownLast q ≡ false → words ≡ map wordOf (listOf (ownCall s (st .entries (q .device)) q) ++ map ResourceOn (c .ons) ++ map ResourceOff (c .offs))
+  pub own-first-words : ownLast q ≡ false → words ≡ map wordOf (listOf (ownCall s (st .entries (q .device)) q) ++ map ResourceOn (c .ons)
+      ++ map ResourceOff (c .offs))
   unfolding arrange
   own-first-words e = rw e at (c .whole)
 

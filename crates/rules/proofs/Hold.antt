@@ -7,21 +7,42 @@ use Rattle.words.specs.Words.{readLE, bytesLE, put, wordBytes, byteWords}
 use Rattle.rules.specs.Index.{leastFrom, every, below, eachFrom, each}
 use Rattle.rules.specs.Answers.{passes, firstOf, unless, lowest}
 use Rattle.rules.specs.Station.{width, deviceStart, resourceAt, deviceAt, stationOf}
-use Rattle.rules.specs.Table.{headerGood, countsGood, lengthGood, firstBad, resourceGood, parentGood, present, setGood, sxdGood, sxwGood, deepestGood, headFields, setFields, sxdFields, sxwFields, lastFields, deviceFields, badField, fieldsGood, objectsGood, deviceRefusal, deviceGood, tableVerdict}
-use Rattle.rules.specs.Power.{supported, ownSet, listedSet, stateNeeds, wakeNeeds, needs, neededBelow, needed, wakeRange, wakeFrom, wakePowered, wakeState, wakePair}
-use Rattle.rules.specs.Status.{entryAt, entryBytes, entriesOf, statusOf, entriesBytes, imageOf, freshStatus, entryGood, entryZero, entriesGood, onGood, parentAllows, wakeConsistent, consistentButPower, powered, consistent, valuesGood, consistencyVerdict, stateVerdict}
-use Rattle.rules.specs.Request.{numbersGood, formGood, notShallowerOrD0, childBars, wakeAllows, moveVerdict, armVerdict, kindVerdict, requestVerdict, newEntry, replaceEntry}
-use Rattle.rules.specs.Calls.{wakeOf, callOfBytes, callOf, listOf, only, methodFor, callsMethod, moveCall, wakeCall, ownCall, ownLast, endSet, toTurnOn, toTurnOff, membersFrom, earlier, insert, sort, rising, turnOn, turnOff, arrange, calls, statusAfter}
+use Rattle.rules.specs.Table.{headerGood, countsGood, lengthGood, firstBad, resourceGood, parentGood, present, setGood, sxdGood}
+use Rattle.rules.specs.Table.{sxwGood, deepestGood, headFields, setFields, sxdFields, sxwFields, lastFields, deviceFields}
+use Rattle.rules.specs.Table.{badField, fieldsGood, objectsGood, deviceRefusal, deviceGood, tableVerdict}
+use Rattle.rules.specs.Power.{supported, ownSet, listedSet, stateNeeds, wakeNeeds, needs, neededBelow, needed, wakeRange}
+use Rattle.rules.specs.Power.{wakeFrom, wakePowered, wakeState, wakePair}
+use Rattle.rules.specs.Status.{entryAt, entryBytes, entriesOf, statusOf, entriesBytes, imageOf, freshStatus, entryGood}
+use Rattle.rules.specs.Status.{entryZero, entriesGood, onGood, parentAllows, wakeConsistent, consistentButPower, powered}
+use Rattle.rules.specs.Status.{consistent, valuesGood, consistencyVerdict, stateVerdict}
+use Rattle.rules.specs.Request.{numbersGood, formGood, notShallowerOrD0, childBars, wakeAllows, moveVerdict, armVerdict}
+use Rattle.rules.specs.Request.{kindVerdict, requestVerdict, newEntry, replaceEntry}
+use Rattle.rules.specs.Calls.{wakeOf, callOfBytes, callOf, listOf, only, methodFor, callsMethod, moveCall, wakeCall, ownCall}
+use Rattle.rules.specs.Calls.{ownLast, endSet, toTurnOn, toTurnOff, membersFrom, earlier, insert, sort, rising, turnOn, turnOff}
+use Rattle.rules.specs.Calls.{arrange, calls, statusAfter}
 use Rattle.rules.specs.Check.{onWord, offWord, andThen, takeWords, mayCome, takeSet, ownFirstCalls, ownLastCalls, isEnd, conforming}
-use Rattle.rules.specs.Outcomes.{outcome, freshVerdict, fresh, requestStage, stagesVerdict, planned, planVerdict, stateAfter, planWords, planBytes, checkWords, checkBytes, recordPart}
+use Rattle.rules.specs.Outcomes.{outcome, freshVerdict, fresh, requestStage, stagesVerdict, planned, planVerdict, stateAfter}
+use Rattle.rules.specs.Outcomes.{planWords, planBytes, checkWords, checkBytes, recordPart}
 use Rattle.rules.specs.Execution.{carryOut, execution}
 use Rattle.rules.specs.Rows.{rows}
 use Rattle.rules.specs.OwnStation.{ownTable, ownState, wideTable}
 use Rattle.rules.specs.OwnRows.{ownRows, callWords, otherWords}
-use Rattle.rules.specs.Holds.{same, answers, freshAnswers, startOf, stateOf, endState, leaves, wordRead, wordsRead, agree, changes, carried, checks, checksAll, holdsFrom, holdsIn, wrong}
+use Rattle.rules.specs.Holds.{same, answers, freshAnswers, startOf, stateOf, endState, leaves, wordRead, wordsRead, agree}
+use Rattle.rules.specs.Holds.{changes, carried, checks, checksAll, holdsFrom, holdsIn, wrong}
 
 pub all-hold : (wrong 1 rows ≡ []) × (wrong 1 ownRows ≡ [])
-unfolding member union minus single firstN subset readLE bytesLE put wordBytes byteWords leastFrom every below eachFrom passes firstOf unless lowest width deviceStart resourceAt deviceAt stationOf headerGood countsGood lengthGood firstBad resourceGood parentGood present setGood sxdGood sxwGood deepestGood headFields setFields sxdFields sxwFields lastFields deviceFields badField fieldsGood objectsGood deviceRefusal deviceGood tableVerdict supported ownSet listedSet stateNeeds wakeNeeds needs neededBelow needed wakeRange wakeFrom wakePowered wakeState wakePair entryAt entryBytes entriesOf statusOf entriesBytes imageOf freshStatus entryGood entryZero entriesGood onGood parentAllows wakeConsistent consistentButPower powered consistent valuesGood consistencyVerdict stateVerdict numbersGood formGood notShallowerOrD0 childBars wakeAllows moveVerdict armVerdict kindVerdict requestVerdict newEntry replaceEntry listOf only methodFor callsMethod moveCall wakeCall ownCall ownLast endSet toTurnOn toTurnOff membersFrom earlier insert sort rising turnOn turnOff arrange calls statusAfter andThen takeWords mayCome takeSet ownFirstCalls ownLastCalls isEnd conforming outcome freshVerdict fresh requestStage stagesVerdict planned planVerdict stateAfter planBytes checkBytes carryOut execution wakeOf callOfBytes callOf planWords checkWords recordPart same answers freshAnswers startOf stateOf endState leaves wordRead wordsRead agree changes carried checks checksAll holdsFrom holdsIn wrong ownTable ownState wideTable
+unfolding member union minus single firstN subset readLE bytesLE put wordBytes byteWords leastFrom every below eachFrom passes firstOf
+    unless lowest width deviceStart resourceAt deviceAt stationOf headerGood countsGood lengthGood firstBad resourceGood parentGood
+    present setGood sxdGood sxwGood deepestGood headFields setFields sxdFields sxwFields lastFields deviceFields badField fieldsGood
+    objectsGood deviceRefusal deviceGood tableVerdict supported ownSet listedSet stateNeeds wakeNeeds needs neededBelow needed wakeRange
+    wakeFrom wakePowered wakeState wakePair entryAt entryBytes entriesOf statusOf entriesBytes imageOf freshStatus entryGood entryZero
+    entriesGood onGood parentAllows wakeConsistent consistentButPower powered consistent valuesGood consistencyVerdict stateVerdict
+    numbersGood formGood notShallowerOrD0 childBars wakeAllows moveVerdict armVerdict kindVerdict requestVerdict newEntry replaceEntry
+    listOf only methodFor callsMethod moveCall wakeCall ownCall ownLast endSet toTurnOn toTurnOff membersFrom earlier insert sort rising
+    turnOn turnOff arrange calls statusAfter andThen takeWords mayCome takeSet ownFirstCalls ownLastCalls isEnd conforming outcome
+    freshVerdict fresh requestStage stagesVerdict planned planVerdict stateAfter planBytes checkBytes carryOut execution wakeOf
+    callOfBytes callOf planWords checkWords recordPart same answers freshAnswers startOf stateOf endState leaves wordRead wordsRead
+    agree changes carried checks checksAll holdsFrom holdsIn wrong ownTable ownState wideTable
 all-hold = (refl, refl)
 
 -- a word is read as the call with this word, or as none; words that are none leave any set

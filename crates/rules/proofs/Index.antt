@@ -47,7 +47,8 @@ module _ (f : ℕ → Bool) where
   hit i zero h = absurd (omega arith)
   hit i (suc k) h = go (f i) refl (hit (suc i) k) h
     where
-      go : (b : Bool) → f i ≡ b → (leastFrom f (suc i) k < suc i + k → f (leastFrom f (suc i) k) ≡ true) → leastFrom f i (suc k) < i + suc k → f (leastFrom f i (suc k)) ≡ true
+      go : (b : Bool) → f i ≡ b → (leastFrom f (suc i) k < suc i + k → f (leastFrom f (suc i) k) ≡ true)
+          → leastFrom f i (suc k) < i + suc k → f (leastFrom f i (suc k)) ≡ true
       go true e l h = rw (stops i k e) e
       go false e l h = rw (passesBy i k e) (l (omega (arith, passesBy i k e)))
 
@@ -74,7 +75,8 @@ pub ruleset lowestOf = (starts, found, next, done)
 
 pub every-at : (f : ℕ → Bool) (n i : ℕ) → every f n ≡ true → i < n → f i ≡ true
 unfolding every
-every-at f n i e h = not-false (f i) (none-below (λ j. not (f j)) 0 n i (omega arith) (omega (arith, leb-true n (least (λ j. not (f j)) n) e)))
+every-at f n i e h = not-false (f i) (none-below (λ j. not (f j)) 0 n i (omega arith)
+    (omega (arith, leb-true n (least (λ j. not (f j)) n) e)))
 
 pub every-of : (f : ℕ → Bool) (n : ℕ) → ((i : ℕ) → i < n → f i ≡ true) → every f n ≡ true
 unfolding every

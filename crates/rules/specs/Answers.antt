@@ -7,7 +7,10 @@ use Rattle.rules.specs.Index.{least}
 use Rattle.rules.specs.declared.Verdict.{Verdict}
 use Rattle.rules.specs.declared.Verdict.the-variants.{Done, Refused}
 use Rattle.rules.specs.declared.Reason.{Reason}
-use Rattle.rules.specs.declared.Reason.the-variants.{NotATable, TooMany, WrongLength, BadResource, BadDevice, BadObjects, BadState, Inconsistent, NoRoom, BadRequest, Unsupported, Shallower, ParentDeeper, ChildShallower, TooDeepToWake, NoWake, WakeUnpowered, BadWakeState, NotConforming}
+use Rattle.rules.specs.declared.Reason.the-variants.{NotATable, TooMany, WrongLength, BadResource, BadDevice, BadObjects}
+use Rattle.rules.specs.declared.Reason.the-variants.{BadState, Inconsistent, NoRoom, BadRequest, Unsupported, Shallower}
+use Rattle.rules.specs.declared.Reason.the-variants.{ParentDeeper, ChildShallower, TooDeepToWake, NoWake, WakeUnpowered}
+use Rattle.rules.specs.declared.Reason.the-variants.{BadWakeState, NotConforming}
 
 -- the number of a refusal
 abbrev pub reasonNumber : Reason → ℕ

@@ -37,7 +37,8 @@ wordOf (SetWake d k) = wakeWord d k
 -- `_DSW`'s last two bytes: S and 128 + D, or two zeros
 unfoldable pub wakeOf : ℕ → ℕ → ℕ → OptionalCall
 wakeOf d x y =
-    cond (eqb x 0 && eqb y 0) (Is (SetWake d Disable)) (cond (leb x 4 && leb 128 y && leb y 132) (Is (SetWake d (Enable x (y - 128)))) NoCall)
+    cond (eqb x 0 && eqb y 0) (Is (SetWake d Disable))
+    (cond (leb x 4 && leb 128 y && leb y 132) (Is (SetWake d (Enable x (y - 128)))) NoCall)
 
 -- the call with these bytes, if there is one
 unfoldable pub callOfBytes : ℕ → ℕ → ℕ → ℕ → OptionalCall
@@ -128,7 +129,8 @@ turnOff s st q = reverse (rising s (toTurnOff s st q))
 
 -- the own call before or after the others
 unfoldable pub arrange : Bool → List Call → List ℕ → List ℕ → List Call
-arrange last own ons offs = cond last (map ResourceOn ons ++ map ResourceOff offs ++ own) (own ++ map ResourceOn ons ++ map ResourceOff offs)
+arrange last own ons offs =
+    cond last (map ResourceOn ons ++ map ResourceOff offs ++ own) (own ++ map ResourceOn ons ++ map ResourceOff offs)
 
 -- the planner's list
 unfoldable pub calls : Station → Status → Request → List Call
@@ -138,7 +140,8 @@ calls s st q = arrange (ownLast q) (listOf (ownCall s (st .entries (q .device)) 
 unfoldable pub statusAfter : Station → Status → Request → Status
 statusAfter s st q = record { entries = entriesAfter (st .entries) q; on = endSet s (st .entries) q }
 
--- all that a request does as one value: the new entry, the set needed afterwards, what to turn on and off, the own call and whether it comes last
+-- all that a request does as one value: the new entry, the set needed afterwards, what to turn on and off, the own call and whether it
+-- comes last
 abbrev pub changeOf : Station → Status → Request → Change
 changeOf s st q =
     record {

@@ -1,4 +1,5 @@
--- What a row of requests must meet: the planner, the checker, a fresh state and a device's record, on bytes and on words, and the list carried out.
+-- What a row of requests must meet: the planner, the checker, a fresh state and a device's record, on bytes and on words, and the list
+-- carried out.
 use Prim.Native.Nat.{ℕ, suc, _-_, _*_, _/_, _%_}
 use mathlib.Core.Bool.{Bool, true, false, _&&_, not, cond}
 use mathlib.Core.List.{List, [], _∷_, _++_, map, reverse}
@@ -55,10 +56,12 @@ stateOf t b (q ∷ qs) = let o = planBytes t b q (blank 132) in stateOf t (cond 
 unfoldable pub endState : List ℕ → Answer → List ℕ
 endState b a = cond (eqb (a .number) 0) (a .entries ++ replicate (128 - length (a .entries)) 0 ++ reverse (bytes 4 (a .on))) b
 
--- an outcome is what the row says: number, place, count, every byte of the state and, of the lent plan, the calls at its front and the rest as it was
+-- an outcome is what the row says: number, place, count, every byte of the state and, of the lent plan, the calls at its front and the rest
+-- as it was
 unfoldable pub leaves : Outcome → Answer → List ℕ → List ℕ → List ℕ → Bool
 leaves o a calls state plan =
-    answers (o .verdict) (a .number) (a .place) (length (a .calls) / 4) && same (o .state) state && same (o .plan) (calls ++ drop (length calls) plan)
+    answers (o .verdict) (a .number) (a .place) (length (a .calls) / 4) && same (o .state) state
+    && same (o .plan) (calls ++ drop (length calls) plan)
 
 -- a word is read as the call with this word; one that is no call, as nothing
 unfoldable pub wordRead : OptionalCall → List ℕ
@@ -89,14 +92,15 @@ carried t b a =
 -- the checker of bytes, and of words if they are whole: number, place and count of its answer to a list
 unfoldable pub checks : List ℕ → List ℕ → Request → List ℕ → ℕ → ℕ → Bool
 checks t b q list number place =
-    answers (checkBytes t b q list) number place 0 && cond (eqb (length list % 4) 0) (answers (checkWords t b q (wordsIn list)) number place 0) true
+    answers (checkBytes t b q list) number place 0
+    && cond (eqb (length list % 4) 0) (answers (checkWords t b q (wordsIn list)) number place 0) true
 
 unfoldable pub checksAll : List ℕ → List ℕ → Request → List Listed → Bool
 checksAll t b q [] = true
 checksAll t b q (l ∷ ls) = checks t b q (l .list) (l .number) 0 && checksAll t b q ls
 
--- the last request, from state b and with a plan of n bytes: the planner of bytes and of words, the checker of the row's calls and of the other lists,
--- the record that is handed out; where it is done, the list carried out, and the request as one value
+-- the last request, from state b and with a plan of n bytes: the planner of bytes and of words, the checker of the row's calls and of the
+-- other lists, the record that is handed out; where it is done, the list carried out, and the request as one value
 unfoldable pub holdsFrom : List ℕ → List ℕ → Request → ℕ → Answer → Row → Bool
 holdsFrom t b q n a r =
     leaves (planBytes t b q (blank n)) a (a .calls) (endState b a) (blank n)

@@ -17,8 +17,8 @@ least f n = leastFrom f 0 n
 unfoldable pub every : (ℕ → Bool) → ℕ → Bool
 every f n = leb n (least (λ i. not (f i)) n)
 
--- the value of a thing numbered below n; any other number has one fixed value, so that what numbers outside the range stand for never tells two
--- stations apart
+-- the value of a thing numbered below n; any other number has one fixed value, so that what numbers outside the range stand for never tells
+-- two stations apart
 unfoldable pub below : {A : Type 0} → ℕ → A → (ℕ → A) → ℕ → A
 below n other f i = cond (ltb i n) (f i) other
 

@@ -65,7 +65,8 @@ planWords t b q plan =
 
 unfoldable pub planBytes : List ℕ → List ℕ → Request → List ℕ → Outcome
 planBytes t b q plan =
-    outcome (planVerdict (leb (4 * planRoom (width t)) (length plan)) t b q) b plan (stateAfter t b q) (put plan 0 (wordBytes (planned t b q)))
+    outcome (planVerdict (leb (4 * planRoom (width t)) (length plan)) t b q) b plan (stateAfter t b q)
+    (put plan 0 (wordBytes (planned t b q)))
 
 -- passes exactly if the request is permitted: the checker owes it no answer but 0 or 19
 abbrev pub permittedVerdict : List ℕ → List ℕ → Request → Verdict

@@ -2,9 +2,11 @@
 use Prim.Native.Nat.{ℕ}
 use mathlib.Core.List.{List, [], _∷_, _++_}
 use lib.ListN.{replicate}
-use Rattle.rules.specs.Rows.{bytes, benchTable, lamp, request, move, arm, disarm, freshIn, given, lend, done, refused, noRoom, Listed, Row, row}
+use Rattle.rules.specs.Rows.{bytes, benchTable, lamp, request, move, arm, disarm, freshIn, given, lend, done, refused, noRoom}
+use Rattle.rules.specs.Rows.{Listed, Row, row}
 use Rattle.rules.specs.Holds.{wordsIn}
-use Rattle.rules.specs.OwnStation.{hub, disk, radio, fan, led, ownTable, ownState, wideDevice, wideTable, bareDevice, bare, new, lentState, from, to, asleep}
+use Rattle.rules.specs.OwnStation.{hub, disk, radio, fan, led, ownTable, ownState, wideDevice, wideTable, bareDevice, bare, new}
+use Rattle.rules.specs.OwnStation.{lentState, from, to, asleep}
 use Rattle.rules.specs.Damaged.{damagedRows}
 
 -- lists that the checker answers with 0; with 19
@@ -102,7 +104,8 @@ ownRows =
     row (lend benchTable (freshIn 132) [] 131) (move 2 5) lamp (noRoom 10) ∷
     -- 10: kind, numbers, unused ones; device
     row new (request 0 1 0 0) disk (refused 10 0) ∷ row new (request 4 1 0 0) disk (refused 10 0) ∷
-    row new (request 257 1 0 0) disk (refused 10 0) ∷ row new (move 1 5) disk (refused 10 0) ∷ row new (request 1 1 1 1) disk (refused 10 0) ∷
+    row new (request 257 1 0 0) disk (refused 10 0) ∷ row new (move 1 5) disk (refused 10 0) ∷
+    row new (request 1 1 1 1) disk (refused 10 0) ∷
     row new (arm 1 5 1) disk (refused 10 0) ∷ row new (arm 1 1 5) disk (refused 10 0) ∷
     row new (request 3 1 1 0) disk (refused 10 0) ∷ row new (request 3 1 0 1) disk (refused 10 0) ∷ row new (move 5 0) [] (refused 10 0) ∷
     row (lend (bytes 8 0x5057540001000000) (freshIn 132) [] 132) (move 0 0) [] (refused 10 0) ∷

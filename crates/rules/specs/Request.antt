@@ -1,4 +1,5 @@
--- Document 01, "Requests": which requests are refused, answers 10 to 18, and what an accepted one changes. No rule here looks at the on-set.
+-- Document 01, "Requests": which requests are refused, answers 10 to 18, and what an accepted one changes. No rule here looks at the
+-- on-set.
 use Prim.Native.Nat.{ℕ}
 use mathlib.Core.Bool.{Bool, _&&_, _||_, not, cond}
 use mathlib.Core.List.{[], _∷_}
@@ -6,7 +7,8 @@ use lib.Dec.{eqb, leb, ltb}
 use Rattle.rules.specs.declared.Request.{Request}
 use Rattle.rules.specs.declared.Verdict.{Verdict}
 use Rattle.rules.specs.declared.Verdict.the-variants.{Done, Refused}
-use Rattle.rules.specs.declared.Reason.the-variants.{BadRequest, Unsupported, Shallower, ParentDeeper, ChildShallower, TooDeepToWake, NoWake, WakeUnpowered, BadWakeState}
+use Rattle.rules.specs.declared.Reason.the-variants.{BadRequest, Unsupported, Shallower, ParentDeeper, ChildShallower}
+use Rattle.rules.specs.declared.Reason.the-variants.{TooDeepToWake, NoWake, WakeUnpowered, BadWakeState}
 use Rattle.rules.specs.Answers.{firstOf, unless, lowest}
 use Rattle.rules.specs.Station.{Station}
 use Rattle.rules.specs.declared.Entry.{Entry}
@@ -25,7 +27,8 @@ isDisarm q = eqb (q .kind) 3
 
 -- kind and numbers in range, unused ones zero
 unfoldable pub numbersGood : Request → Bool
-numbersGood q = isMove q && leb (q .a) 4 && eqb (q .b) 0 || isArm q && leb (q .a) 4 && leb (q .b) 4 || isDisarm q && eqb (q .a) 0 && eqb (q .b) 0
+numbersGood q =
+    isMove q && leb (q .a) 4 && eqb (q .b) 0 || isArm q && leb (q .a) 4 && leb (q .b) 4 || isDisarm q && eqb (q .a) 0 && eqb (q .b) 0
 
 -- 10: kind, device and numbers in range, unused ones zero
 unfoldable pub formGood : Station → Request → Bool

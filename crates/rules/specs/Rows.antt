@@ -1,5 +1,5 @@
--- Document 01, "Bench station": its table, byte for byte, and the worked rows W1 to W12. What a row must meet is in Holds; rows of our own are in
--- OwnRows.
+-- Document 01, "Bench station": its table, byte for byte, and the worked rows W1 to W12. What a row must meet is in Holds; rows of our own
+-- are in OwnRows.
 use Prim.Native.Nat.{ℕ, zero, suc, _/_, _%_}
 use mathlib.Core.List.{List, [], _∷_, _++_}
 use lib.ListN.{replicate}
@@ -52,8 +52,8 @@ pub record Lent : Type 0 where
   pub before : List Request
   pub room : ℕ
 
--- what must come: number and place; the number of the checker, given the row's calls; and, where it is done, the bytes of the calls, the entries of
--- the devices and the on-set afterwards
+-- what must come: number and place; the number of the checker, given the row's calls; and, where it is done, the bytes of the calls, the
+-- entries of the devices and the on-set afterwards
 pub record Answer : Type 0 where
   pub number : ℕ
   pub place : ℕ
@@ -102,7 +102,8 @@ rows =
     -- W2 W1, then lamp to D3cold
     row (bench (move 1 2 ∷ [])) (move 2 4) lamp (done (bytes 4 0x02010000) (bytes 12 0x00000000_02000000_04000000) 5) ∷
     -- W3 W2, then camera to D0
-    row (bench (move 1 2 ∷ move 2 4 ∷ [])) (move 1 0) camera (done (bytes 8 0x01010000_03010000) (bytes 12 0x00000000_00000000_04000000) 7) ∷
+    row (bench (move 1 2 ∷ move 2 4 ∷ [])) (move 1 0) camera
+    (done (bytes 8 0x01010000_03010000) (bytes 12 0x00000000_00000000_04000000) 7) ∷
     -- W4 lamp to D3cold, no calls; then camera to D3hot
     row (bench []) (move 2 4) lamp (done [] (bytes 12 0x00000000_00000000_04000000) 7) ∷
     row (bench (move 2 4 ∷ [])) (move 1 3) camera (done (bytes 12 0x03010300_02010000_02020000) (bytes 12 0x00000000_03000000_04000000) 1) ∷

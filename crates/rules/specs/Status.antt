@@ -90,7 +90,8 @@ wakeConsistent s d e = not (isArmed e) || wakePair s d (e .sleep) (e .wake) && l
 
 -- what document 01 calls sound, apart from power: a supported state, not shallower than its parent, the wake rules
 unfoldable pub consistentButPower : Station → (ℕ → Entry) → ℕ → Bool
-consistentButPower s entries d = supported s d (entries d .state) && parentAllows s entries d (entries d .state) && wakeConsistent s d (entries d)
+consistentButPower s entries d =
+    supported s d (entries d .state) && parentAllows s entries d (entries d .state) && wakeConsistent s d (entries d)
 
 -- everything it needs is on
 unfoldable pub powered : Station → Status → ℕ → Bool

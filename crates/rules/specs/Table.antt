@@ -11,12 +11,14 @@ use Rattle.rules.specs.declared.Reason.{Reason}
 use Rattle.rules.specs.declared.Reason.the-variants.{NotATable, TooMany, WrongLength, BadResource, BadDevice, BadObjects}
 use Rattle.rules.specs.Index.{each}
 use Rattle.rules.specs.Answers.{firstOf, unless, lowest}
-use Rattle.rules.specs.Station.{Device, absent, width, limit, recordSize, countR, countD, resourceStart, deviceStart, deviceAt, hasPS, hasPR, hasPRW, hasDSW}
+use Rattle.rules.specs.Station.{Device, absent, width, limit, recordSize, countR, countD, resourceStart, deviceStart, deviceAt}
+use Rattle.rules.specs.Station.{hasPS, hasPR, hasPRW, hasDSW}
 
 -- 1: the table has its 8 bytes, the mark PWT, version 1 and a zero at byte 7
 unfoldable pub headerGood : List ℕ → Bool
 headerGood t =
-    leb 8 (length t) && eqb (getD t 0 0) 0x50 && eqb (getD t 1 0) 0x57 && eqb (getD t 2 0) 0x54 && eqb (readLE 2 t 4) 1 && eqb (getD t 7 0) 0
+    leb 8 (length t) && eqb (getD t 0 0) 0x50 && eqb (getD t 1 0) 0x57 && eqb (getD t 2 0) 0x54 && eqb (readLE 2 t 4) 1
+    && eqb (getD t 7 0) 0
 
 -- 2: at most as many resources and devices as the width allows, 32
 unfoldable pub countsGood : List ℕ → Bool
@@ -88,7 +90,8 @@ sxwFields w v = each (λ x. field (8 + 5 * w + x) (sxwGood v x)) 5
 
 -- deepest, then zeros to the record's end
 unfoldable pub lastFields : ℕ → List ℕ → ℕ → Device → List Field
-lastFields w t at v = field (13 + 5 * w) (deepestGood v) ∷ each (λ k. field (14 + 5 * w + k) (eqb (getD t (at + 14 + 5 * w + k) 0) 0)) (2 + w)
+lastFields w t at v = field (13 + 5 * w) (deepestGood v) ∷
+    each (λ k. field (14 + 5 * w + k) (eqb (getD t (at + 14 + 5 * w + k) 0) 0)) (2 + w)
 
 -- all fields of device d in a table of R resources, its record starting at a byte
 unfoldable pub deviceFields : ℕ → ℕ → List ℕ → ℕ → ℕ → List Field

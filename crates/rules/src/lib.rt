@@ -43,8 +43,8 @@ pub struct Entry {
     pub wake: u8,
 }
 
-// What a permitted request does: the device's new entry, the set needed afterwards, what is to be turned on and off, the device's own call, and whether
-// that comes last.
+// What a permitted request does: the device's new entry, the set needed afterwards, what is to be turned on and off, the device's own call,
+// and whether that comes last.
 pub struct Change {
     pub entry: Entry,
     pub needed: u32,

@@ -7,7 +7,9 @@ use Rattle.rules.specs.declared.Request.{Request}
 use Rattle.rules.specs.declared.Verdict.{Verdict}
 use Rattle.rules.specs.declared.Verdict.the-variants.{Done, Refused}
 use Rattle.rules.specs.declared.Reason.{Reason}
-use Rattle.rules.specs.declared.Reason.the-variants.{NotATable, TooMany, WrongLength, BadResource, BadDevice, BadObjects, BadState, Inconsistent, NoRoom, BadRequest, Unsupported, Shallower, ParentDeeper, ChildShallower, TooDeepToWake, NoWake, WakeUnpowered, BadWakeState, NotConforming}
+use Rattle.rules.specs.declared.Reason.the-variants.{NotATable, TooMany, WrongLength, BadResource, BadDevice, BadObjects, BadState}
+use Rattle.rules.specs.declared.Reason.the-variants.{Inconsistent, NoRoom, BadRequest, Unsupported, Shallower, ParentDeeper}
+use Rattle.rules.specs.declared.Reason.the-variants.{ChildShallower, TooDeepToWake, NoWake, WakeUnpowered, BadWakeState, NotConforming}
 use Rattle.rules.specs.Answers.{reasonNumber, numberOf, placeOf, countOf}
 use Rattle.rules.specs.Station.{width}
 use Rattle.rules.specs.Outcomes.{outcome, fresh, planBytes, checkBytes}
@@ -41,7 +43,8 @@ number-small : (v : Verdict) → numberOf v < 0x100
 number-small (Done n) = omega arith
 number-small (Refused why at) = reason-small why
 
-reads : (n c p : ℕ) → n < 0x100 → c < 0x1_0000 → ((n + 0x100 * c + 0x100_0000 * p) % 0x100 ≡ n) × ((n + 0x100 * c + 0x100_0000 * p) / 0x100 % 0x1_0000 ≡ c) × ((n + 0x100 * c + 0x100_0000 * p) / 0x100_0000 ≡ p)
+reads : (n c p : ℕ) → n < 0x100 → c < 0x1_0000 → ((n + 0x100 * c + 0x100_0000 * p) % 0x100 ≡ n)
+    × ((n + 0x100 * c + 0x100_0000 * p) / 0x100 % 0x1_0000 ≡ c) × ((n + 0x100 * c + 0x100_0000 * p) / 0x100_0000 ≡ p)
 reads n c p h k = (omega arith, omega arith, omega arith)
 
 pub packed-reads : (v : Verdict) → countOf v < 0x1_0000 → Reads (packed v) v
@@ -50,7 +53,8 @@ packed-reads v h =
     let r = reads (numberOf v) (countOf v) (placeOf v) (number-small v) h in
     record { number = r .0; count = r .1; place = r .2 }
 
-pub pack-is : (v : Verdict) (n c p : ℕ) → n ≡ numberOf v → c ≡ countOf v → p ≡ placeOf v → countOf v < 0x1_0000 → (n + 0x100 * c + 0x100_0000 * p ≡ packed v) × Reads (n + 0x100 * c + 0x100_0000 * p) v
+pub pack-is : (v : Verdict) (n c p : ℕ) → n ≡ numberOf v → c ≡ countOf v → p ≡ placeOf v → countOf v < 0x1_0000
+    → (n + 0x100 * c + 0x100_0000 * p ≡ packed v) × Reads (n + 0x100 * c + 0x100_0000 * p) v
 pack-is v n c p e f g h =
     let is : n + 0x100 * c + 0x100_0000 * p ≡ packed v = unfold packed in rw (e, f, g) refl in
     (is, rw is (packed-reads v h))

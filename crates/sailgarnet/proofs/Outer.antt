@@ -39,7 +39,8 @@ module _ (t b : List ℕ) (q : Request) (g : Stages t b q) where
   pub list-short : (ws : List ℕ) → conforming (station t) (status t b) q ws ≡ true → length ws ≤ planRoom (width t)
   unfolding toTurnOn toTurnOff
   list-short ws e =
-      let l = conforms-long (station t) (status t b) q ws (minus-lt _ _ _ (end-lt t b q g)) (minus-lt _ _ _ (on-lt t b q g)) (conforming-at (station t) (status t b) q ws e) in
+      let l = conforms-long (station t) (status t b) q ws (minus-lt _ _ _ (end-lt t b q g)) (minus-lt _ _ _ (on-lt t b q g))
+      (conforming-at (station t) (status t b) q ws e) in
       omega (arith, few)
 
   pub planned-short : length (planned t b q) ≤ planRoom (width t)
@@ -53,34 +54,40 @@ module _ (t b : List ℕ) (q : Request) (g : Stages t b q) where
       omega (arith, long, few)
 
 -- ---- lists
-long-fails : (t b : List ℕ) (q : Request) → PermittedRequest t b q → (ws : List ℕ) → 33 < length ws → conforming (station t) (status t b) q ws ≡ false
+long-fails : (t b : List ℕ) (q : Request) → PermittedRequest t b q → (ws : List ℕ) → 33 < length ws → conforming (station t)
+    (status t b) q ws ≡ false
 long-fails t b q g ws h =
     decide (conforming (station t) (status t b) q ws)
     (λ e. absurd (omega (arith, room-33 t, list-short t b q (stages-of true t b q (g .passed)) ws e)))
     (λ e. e)
 
 module _ (t b : List ℕ) (q : Request) (g : PermittedRequest t b q) (list : List ℕ) where
-  pub odd-list : (length list % 4 ≡ 0 → ⊥) → false ≡ eqb (length list % 4) 0 && conforming (station t) (status t b) q (byteWords (length list / 4) list)
+  pub odd-list : (length list % 4 ≡ 0 → ⊥) → false ≡ eqb (length list % 4) 0 && conforming (station t) (status t b) q
+      (byteWords (length list / 4) list)
   odd-list n = rw (ne-eqb (length list % 4) 0 n) refl
 
-  pub long-list : 33 < length list / 4 → false ≡ eqb (length list % 4) 0 && conforming (station t) (status t b) q (byteWords (length list / 4) list)
+  pub long-list : 33 < length list / 4 → false ≡ eqb (length list % 4) 0 && conforming (station t) (status t b) q
+      (byteWords (length list / 4) list)
   long-list h =
       let l = byte-words-length (length list / 4) list in
       rw (long-fails t b q g (byteWords (length list / 4) list) (omega arith)) (sym (and-false (eqb (length list % 4) 0)))
 
-  pub list-is : length list % 4 ≡ 0 → (r : Bool) (ws : List ℕ) → ws ≡ byteWords (length list / 4) list → r ≡ conforming (station t) (status t b) q ws
+  pub list-is : length list % 4 ≡ 0 → (r : Bool) (ws : List ℕ) → ws ≡ byteWords (length list / 4) list
+      → r ≡ conforming (station t) (status t b) q ws
       → r ≡ eqb (length list % 4) 0 && conforming (station t) (status t b) q (byteWords (length list / 4) list)
   list-is e r ws w f = rw (eq-eqb (length list % 4) 0 e, ← w) f
 
 -- ---- the planner's words as bytes
-pub written-bytes : (t b : List ℕ) (q : Request) (plan : List ℕ) (n : ℕ) (b′ words words′ plan′ : List ℕ) → Written t b q words n b′ words′ → plan′ ≡ put plan 0 (wordBytes (take n words′))
+pub written-bytes : (t b : List ℕ) (q : Request) (plan : List ℕ) (n : ℕ) (b′ words words′ plan′ : List ℕ) → Written t b q words n b′ words′
+    → plan′ ≡ put plan 0 (wordBytes (take n words′))
     → plan′ ≡ put plan 0 (wordBytes (planned t b q))
 written-bytes t b q plan n b′ words words′ plan′ c w =
     let front : take n words′ ≡ planned t b q = rw (c .words) (take-put words (planned t b q) n (sym (c .count))) in
     w ∙ ap (λ (l : List ℕ). put plan 0 (wordBytes l)) front
 
 -- they fit the buffer that they were written into
-pub written-fits : (t b : List ℕ) (q : Request) → PermittedRequest t b q → (n : ℕ) (b′ words words′ : List ℕ) → Written t b q words n b′ words′ → length words ≡ 33 → (n ≤ 33) × (length words′ ≡ 33)
+pub written-fits : (t b : List ℕ) (q : Request) → PermittedRequest t b q → (n : ℕ) (b′ words words′ : List ℕ)
+    → Written t b q words n b′ words′ → length words ≡ 33 → (n ≤ 33) × (length words′ ≡ 33)
 written-fits t b q g n b′ words words′ c l =
     let short = planned-short t b q (stages-of true t b q (g .passed)) in
     let room = room-33 t in

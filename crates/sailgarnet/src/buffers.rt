@@ -46,7 +46,9 @@ pub fn read_words(from: &[u8], n: usize) -> Calls
 
 // Plans one request on a plan of bytes.
 pub fn plan_bytes(table: &[u8], state: &mut [u8], q: Request, plan: &mut [u8]) -> Verdict
-    ensures { λ r. ⌜ (r ≡ planBytes (now (table .entry)) (now (state .entry)) q (now (plan .entry)) .verdict) × (now (state .exit) ≡ planBytes (now (table .entry)) (now (state .entry)) q (now (plan .entry)) .state) × (now (plan .exit) ≡ planBytes (now (table .entry)) (now (state .entry)) q (now (plan .entry)) .plan) ⌝ }
+    ensures { λ r. ⌜ (r ≡ planBytes (now (table .entry)) (now (state .entry)) q (now (plan .entry)) .verdict)
+        × (now (state .exit) ≡ planBytes (now (table .entry)) (now (state .entry)) q (now (plan .entry)) .state)
+        × (now (plan .exit) ≡ planBytes (now (table .entry)) (now (state .entry)) q (now (plan .entry)) .plan) ⌝ }
 {
     if !table::header_good(table) {
         return Verdict::Refused(Reason::NotATable, 0);
@@ -65,7 +67,8 @@ pub fn plan_bytes(table: &[u8], state: &mut [u8], q: Request, plan: &mut [u8]) -
 // Whether a list of bytes is that of a request which has passed every check.
 fn conforming(table: &[u8], state: &[u8], q: Request, list: &[u8]) -> bool
     requires { ⌜ PermittedRequest (now table) (now state) q ⌝ }
-    ensures { λ r. ⌜ r ≡ eqb (length (now (list .entry)) % 4) 0 && conforming (station (now (table .entry))) (status (now (table .entry)) (now (state .entry))) q (byteWords (length (now (list .entry)) / 4) (now (list .entry))) ⌝ }
+    ensures { λ r. ⌜ r ≡ eqb (length (now (list .entry)) % 4) 0 && conforming (station (now (table .entry)))
+        (status (now (table .entry)) (now (state .entry))) q (byteWords (length (now (list .entry)) / 4) (now (list .entry))) ⌝ }
 {
     if list.len() % 4 != 0 {
         return false;

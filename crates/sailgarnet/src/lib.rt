@@ -23,7 +23,8 @@ pub fn pack(v: Verdict) -> u64
 
 #[no_mangle]
 pub extern "C" fn sailgarnet_fresh(table: &[u8], state: &mut [u8]) -> u64
-    ensures answer { λ r. ⌜ (r ≡ packed (fresh (now (table .entry)) (now (state .entry)) .verdict)) × Reads r (fresh (now (table .entry)) (now (state .entry)) .verdict) ⌝ }
+    ensures answer { λ r. ⌜ (r ≡ packed (fresh (now (table .entry)) (now (state .entry)) .verdict))
+        × Reads r (fresh (now (table .entry)) (now (state .entry)) .verdict) ⌝ }
     ensures state { λ _. ⌜ now (state .exit) ≡ fresh (now (table .entry)) (now (state .entry)) .state ⌝ }
 {
     pack(status::fresh(table, state))
@@ -39,9 +40,13 @@ pub extern "C" fn sailgarnet_plan(
     b: u32,
     plan: &mut [u8],
 ) -> u64
-    ensures answer { λ r. ⌜ (r ≡ packed (planBytes (now (table .entry)) (now (state .entry)) (asked kind device a b) (now (plan .entry)) .verdict)) × Reads r (planBytes (now (table .entry)) (now (state .entry)) (asked kind device a b) (now (plan .entry)) .verdict) ⌝ }
-    ensures state { λ _. ⌜ now (state .exit) ≡ planBytes (now (table .entry)) (now (state .entry)) (asked kind device a b) (now (plan .entry)) .state ⌝ }
-    ensures plan { λ _. ⌜ now (plan .exit) ≡ planBytes (now (table .entry)) (now (state .entry)) (asked kind device a b) (now (plan .entry)) .plan ⌝ }
+    ensures answer { λ r. ⌜ (r ≡ packed (planBytes (now (table .entry)) (now (state .entry)) (asked kind device a b)
+        (now (plan .entry)) .verdict))
+        × Reads r (planBytes (now (table .entry)) (now (state .entry)) (asked kind device a b) (now (plan .entry)) .verdict) ⌝ }
+    ensures state { λ _. ⌜ now (state .exit) ≡ planBytes (now (table .entry)) (now (state .entry)) (asked kind device a b)
+        (now (plan .entry)) .state ⌝ }
+    ensures plan { λ _. ⌜ now (plan .exit) ≡ planBytes (now (table .entry)) (now (state .entry)) (asked kind device a b)
+        (now (plan .entry)) .plan ⌝ }
 {
     pack(crate::buffers::plan_bytes(table, state, Request { kind, device, a, b }, plan))
 }
@@ -56,7 +61,8 @@ pub extern "C" fn sailgarnet_check(
     b: u32,
     list: &[u8],
 ) -> u64
-    ensures answer { λ r. ⌜ (r ≡ packed (checkBytes (now (table .entry)) (now (state .entry)) (asked kind device a b) (now (list .entry)))) × Reads r (checkBytes (now (table .entry)) (now (state .entry)) (asked kind device a b) (now (list .entry))) ⌝ }
+    ensures answer { λ r. ⌜ (r ≡ packed (checkBytes (now (table .entry)) (now (state .entry)) (asked kind device a b) (now (list .entry))))
+        × Reads r (checkBytes (now (table .entry)) (now (state .entry)) (asked kind device a b) (now (list .entry))) ⌝ }
     ensures demand { λ _. ⌜ Demand3Bytes (now (table .entry)) (now (state .entry)) (asked kind device a b) (now (list .entry)) ⌝ }
 {
     pack(crate::buffers::check_bytes(table, state, Request { kind, device, a, b }, list))

@@ -1,4 +1,5 @@
--- The laws of the sets, each once, for every width: which resources are in each set, how large the number is, and that a set is known by its members.
+-- The laws of the sets, each once, for every width: which resources are in each set, how large the number is, and that a set is known by
+-- its members.
 use mathlib.Core.Path.{_≡_, refl, sym, ap, _∙_}
 use mathlib.Core.Bool.{Bool, true, false, cond, not, _||_, _&&_, and-true, and-false, true≢false}
 use Prim.Native.Nat.{ℕ, zero, suc, _-_, _/_, _%_, _^_, _≤_, _<_, suc-le-suc}
@@ -53,7 +54,8 @@ pub member-firstN : (n r : ℕ) → member (firstN n) r ≡ ltb r n
 unfolding firstN
 member-firstN zero r = member-none r ∙ sym (le-ltb r 0 (omega arith))
 member-firstN (suc n) zero =
-    member-zero (2 ^ suc n - 1) ∙ eq-eqb ((2 ^ suc n - 1) % 2) 1 (omega (arith, pow-suc 2 n, pow-pos n)) ∙ sym (lt-ltb 0 (suc n) (omega arith))
+    member-zero (2 ^ suc n - 1) ∙ eq-eqb ((2 ^ suc n - 1) % 2) 1 (omega (arith, pow-suc 2 n, pow-pos n))
+    ∙ sym (lt-ltb 0 (suc n) (omega arith))
 member-firstN (suc n) (suc r) =
     let half : (2 ^ suc n - 1) / 2 ≡ 2 ^ n - 1 = omega (arith, pow-suc 2 n, pow-pos n) in
     member-suc (2 ^ suc n - 1) r ∙ rw half (member-firstN n r ∙ sym (leb·suc-suc (suc r) n))
@@ -87,8 +89,14 @@ pub minus-le : (a b : ℕ) → minus a b ≤ a
 minus-le =
     bin-ind (λ (n : ℕ). (b : ℕ) → minus n b ≤ n)
     (λ b. unfold minus in omega arith)
-    (λ n ih b. omega
-    (arith, ih (b / 2), minus-shr n b 1, bit-member n 0, rw (member-minus n b 0) at (bit-member (minus n b) 0), fewer (member n 0) (member b 0)))
+    (λ n ih b. omega (
+      arith,
+      ih (b / 2),
+      minus-shr n b 1,
+      bit-member n 0,
+      rw (member-minus n b 0) at (bit-member (minus n b) 0),
+      fewer (member n 0) (member b 0),
+    ))
 
 -- ---- a set is known by its members
 
@@ -139,7 +147,8 @@ minus-single-lt s r h =
 -- ---- a union is empty where both sets are
 
 or-least : (a b : ℕ) → a ≤ bitOr a b
-or-least = bin-ind (λ (n : ℕ). (b : ℕ) → n ≤ bitOr n b) (λ b. omega arith) (λ n ih b. omega (arith, ih (b / 2), or-step n b, le-max-left (n % 2) (b % 2)))
+or-least = bin-ind (λ (n : ℕ). (b : ℕ) → n ≤ bitOr n b) (λ b. omega arith)
+    (λ n ih b. omega (arith, ih (b / 2), or-step n b, le-max-left (n % 2) (b % 2)))
 
 pub or-none : (a b : ℕ) → eqb (bitOr a b) 0 ≡ eqb a 0 && eqb b 0
 or-none a b =

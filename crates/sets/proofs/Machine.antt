@@ -24,7 +24,11 @@ pub shr-fits : (s n : ℕ) → eqb (s / 2 ^ n) 0 ≡ ltb s (2 ^ n)
 shr-fits s n =
     decide (ltb s (2 ^ n))
     (λ e. rw e (eq-eqb (s / 2 ^ n) 0 (div-eq-of-lt (ltb-true s (2 ^ n) e))))
-    (λ e. rw e (ne-eqb (s / 2 ^ n) 0 (λ z. omega (arith, div-lt-iff-lt-mul {k = 2 ^ n} {x = s} {y = 1} (pow-pos n) .0 (omega arith), ltb-false s (2 ^ n) e))))
+    (λ e. rw e (ne-eqb (s / 2 ^ n) 0 (λ z. omega (
+      arith,
+      div-lt-iff-lt-mul {k = 2 ^ n} {x = s} {y = 1} (pow-pos n) .0 (omega arith),
+      ltb-false s (2 ^ n) e,
+    ))))
 
 -- past the width: a word has no bit there
 pub past-fits : (w s n : ℕ) → s < 2 ^ w → w ≤ n → true ≡ ltb s (2 ^ n)

@@ -26,7 +26,8 @@ use Rattle.status.specs.Ready.{Ready, statusWith}
 use Rattle.status.proofs.Held.{fresh-image}
 
 -- ---- what an accepted table and good entries give; g is what the test of the entries returned
-pub ready-by : (t b : List ℕ) (n : ℕ) (g : Bool) → tableVerdict t ≡ Done 0 → n ≡ imageSize (width t) → length b ≡ n → g ≡ entriesGood (limit (width t)) (station t) (entries t b) → not g ≡ false → Ready t b
+pub ready-by : (t b : List ℕ) (n : ℕ) (g : Bool) → tableVerdict t ≡ Done 0 → n ≡ imageSize (width t) → length b ≡ n
+    → g ≡ entriesGood (limit (width t)) (station t) (entries t b) → not g ≡ false → Ready t b
 ready-by t b n g e m l q u =
     let a = accepted t (rw e (done-passes 0)) in
     record { sized = sized-done t 0 e; parents = λ d h. a .device d h .parent; long = omega arith; good = sym q ∙ not-false g u }
@@ -41,7 +42,8 @@ lowest-last bad n refusal r =
 
 -- ---- 7 and 8; n is the size that an image has; good and fits are what the tests of the entries and of the on-set returned
 module _ (t b : List ℕ) (n : ℕ) (z : n ≡ imageSize (width t)) where
-  refused : eqb (length b) (imageSize (width t)) && valuesGood (limit (width t)) (station t) (status t b) ≡ false → Refused BadState 0 ≡ stateVerdict t b
+  refused : eqb (length b) (imageSize (width t)) && valuesGood (limit (width t)) (station t) (status t b) ≡ false
+      → Refused BadState 0 ≡ stateVerdict t b
   unfolding stateVerdict unless firstOf passes
   refused e = rw e refl
 
@@ -64,7 +66,17 @@ module _ (t b : List ℕ) (n : ℕ) (z : n ≡ imageSize (width t)) where
       pub state-is : (v : Verdict) → not fits ≡ false → v ≡ consistencyVerdict (station t) (statusWith t b on) → v ≡ stateVerdict t b
       unfolding stateVerdict valuesGood statusOf consistencyVerdict
       state-is v k c =
-          rw (long, ← q, not-false good m, ← r, ← o, not-false fits k, unless-of true BadState 0 refl, first-pass (Done 0) _ (Done 0) (done-passes 0))
+          rw (
+            long,
+            ← q,
+            not-false good m,
+            ← r,
+            ← o,
+            not-false fits k,
+            unless-of true BadState 0 refl,
+            first-pass (Done 0) _
+                (Done 0) (done-passes 0),
+          )
           (c ∙ sym (lowest-last _ (station t .devices) (Refused Inconsistent) (refused-stops Inconsistent)))
 
 pub ruleset state-laws = (sized-done, ready-by, state-length, state-entries, state-on, state-is)
@@ -83,7 +95,8 @@ module _ (t b : List ℕ) (v : Verdict) (p : Bool) (e : v ≡ tableVerdict t) (f
   unfolding fresh outcome
   fresh-refused-state n = rw (fresh-first n, ← f, not-true p n) refl
 
-  fresh-second : not p ≡ false → (good : Bool) → eqb (length b) (imageSize (width t)) ≡ good → freshVerdict t b ≡ cond good (Done 0) (Refused BadState 0)
+  fresh-second : not p ≡ false → (good : Bool) → eqb (length b) (imageSize (width t)) ≡ good → freshVerdict t b ≡ cond good (Done 0)
+      (Refused BadState 0)
   unfolding freshVerdict
   fresh-second n true q = rw (← e, first-pass v _ (Done 0) (sym f ∙ not-false p n), q) (unfold unless firstOf passes in refl)
   fresh-second n false q = rw (← e, first-pass v _ (Done 0) (sym f ∙ not-false p n), q) (unfold unless firstOf passes in refl)
@@ -101,15 +114,27 @@ module _ (t b : List ℕ) (v : Verdict) (p : Bool) (e : v ≡ tableVerdict t) (f
     unfolding fresh outcome
     fresh-done l = sym (fresh-second n true (eq-eqb (length b) (imageSize (width t)) (l ∙ z)))
 
-    pub fresh-done-state : (r : ℕ) (st : State) (m : List ℕ) → length b ≡ k → r ≡ countR t → st ≡ freshState r → m ≡ storeState st → m ≡ fresh t b .state
+    pub fresh-done-state : (r : ℕ) (st : State) (m : List ℕ) → length b ≡ k → r ≡ countR t → st ≡ freshState r → m ≡ storeState st
+        → m ≡ fresh t b .state
     unfolding fresh outcome passes
     fresh-done-state r st m l c g h =
         let all : r ≡ station t .resources = unfold stationOf in c in
-        rw (fresh-second n true (eq-eqb (length b) (imageSize (width t)) (l ∙ z))) (h ∙ ap storeState (g ∙ ap freshState all) ∙ fresh-image t)
+        rw (fresh-second n true (eq-eqb (length b) (imageSize (width t)) (l ∙ z)))
+        (h ∙ ap storeState (g ∙ ap freshState all) ∙ fresh-image t)
 
 -- the size of an image, which code may write as a number
 pub size-132 : (t : List ℕ) (n k : ℕ) → k ≡ imageSize (width t) → n ≡ k → n ≡ 132
 unfolding width
 size-132 t n k e f = f ∙ e
 
-pub ruleset fresh-laws = (sized-told, accepted-is, fresh-refused, fresh-refused-state, fresh-length, fresh-length-state, fresh-done, fresh-done-state, size-132)
+pub ruleset fresh-laws = (
+  sized-told,
+  accepted-is,
+  fresh-refused,
+  fresh-refused-state,
+  fresh-length,
+  fresh-length-state,
+  fresh-done,
+  fresh-done-state,
+  size-132,
+)

@@ -17,7 +17,8 @@ use Rattle.words.proofs.Put.{Emitted, emitted-run, put-all}
 use Rattle.rules.specs.declared.State.{State}
 use Rattle.rules.specs.declared.Entry.{Entry}
 use Rattle.rules.specs.Station.{Station, width, limit, countD, station}
-use Rattle.rules.specs.Status.{noEntry, entryAt, entryBytes, entriesSize, entriesOf, entries, statusOf, status, entriesBytes, imageOf, imageSize, freshStatus}
+use Rattle.rules.specs.Status.{noEntry, entryAt, entryBytes, entriesSize, entriesOf, entries, statusOf, status, entriesBytes, imageOf}
+use Rattle.rules.specs.Status.{imageSize, freshStatus}
 use Rattle.rules.proofs.Index.{below-in, below-out}
 use Rattle.table.specs.Layout.{WellSized}
 use Rattle.status.specs.State.{loadState, storeState, statusIn, freshState}
@@ -34,7 +35,8 @@ module _ (w : ℕ) (b : List ℕ) where
   entry-out k h = below-out (limit w) noEntry _ k h
 
   -- entries are known by those below the limit
-  pub entries-ext : (f : ℕ → Entry) → ((k : ℕ) → k < limit w → entryAt b (4 * k) ≡ f k) → ((k : ℕ) → limit w ≤ k → f k ≡ noEntry) → entriesOf w b ≡ f
+  pub entries-ext : (f : ℕ → Entry) → ((k : ℕ) → k < limit w → entryAt b (4 * k) ≡ f k)
+      → ((k : ℕ) → limit w ≤ k → f k ≡ noEntry) → entriesOf w b ≡ f
   entries-ext f h out =
       fun-ext
       (λ k. decide (ltb k (limit w)) (λ e. entry-in k (ltb-true k (limit w) e) ∙ h k (ltb-true k (limit w) e))
@@ -48,7 +50,13 @@ entry-same a b n h =
 
 -- the code reads an entry as `entryAt` does
 pub entry-read : (b : List ℕ) (d : ℕ)
-    → record { state = getD b (4 * d) 0; armed = getD b (4 * d + 1) 0; sleep = getD b (4 * d + 2) 0; wake = getD b (4 * d + 3) 0 } ≡ entryAt b (4 * d)
+    → record {
+      state = getD b (4 * d) 0;
+      armed = getD b (4 * d + 1) 0;
+      sleep = getD b (4 * d + 2) 0;
+      wake =
+          getD b (4 * d + 3) 0;
+    } ≡ entryAt b (4 * d)
 unfolding entryAt
 entry-read b d = refl
 
@@ -71,14 +79,16 @@ on-inside t b w e h = omega arith
 pub entries-front : (w : ℕ) (b : List ℕ) → entriesOf w (take (entriesSize w) b) ≡ entriesOf w b
 entries-front w b =
     entries-ext w (take (entriesSize w) b) (entriesOf w b)
-    (λ k h. entry-same (take (entriesSize w) b) b (4 * k) (λ i l. getD-take (entriesSize w) b (4 * k + i) 0 (omega arith)) ∙ sym (entry-in w b k h)) (entry-out w b)
+    (λ k h. entry-same (take (entriesSize w) b) b (4 * k) (λ i l. getD-take (entriesSize w) b (4 * k + i) 0 (omega arith))
+    ∙ sym (entry-in w b k h)) (entry-out w b)
 
 pub entries-of : (b : List ℕ) → entriesOf 4 (loadState b .devices) ≡ statusOf 4 b .entries
 unfolding loadState statusOf
 entries-of b = entries-front 4 b
 
 -- a loop that copied 128 bytes, and the number after them
-pub loaded : (b ds₀ ds : List ℕ) (i on : ℕ) → Emitted ds₀ 0 (take i b) ds i → length ds₀ ≡ 128 → length b ≡ 132 → 128 ≤ i → i ≤ 128 → on ≡ readLE 4 b 128
+pub loaded : (b ds₀ ds : List ℕ) (i on : ℕ) → Emitted ds₀ 0 (take i b) ds i → length ds₀ ≡ 128 → length b ≡ 132 → 128 ≤ i → i ≤ 128
+    → on ≡ readLE 4 b 128
     → record { devices = ds; on = on } ≡ loadState b
 unfolding loadState
 loaded b ds₀ ds i on e l m g h r =
@@ -90,7 +100,8 @@ loaded b ds₀ ds i on e l m g h r =
 -- ---- what is stored
 
 -- a loop that copied the 128 bytes, and the number written after them
-pub stored : (st : State) (b l m : List ℕ) (i : ℕ) → Emitted b 0 (take i (st .devices)) l i → m ≡ put l 128 (bytesLE 4 (st .on)) → length (st .devices) ≡ 128
+pub stored : (st : State) (b l m : List ℕ) (i : ℕ) → Emitted b 0 (take i (st .devices)) l i → m ≡ put l 128 (bytesLE 4 (st .on))
+    → length (st .devices) ≡ 128
     → length b ≡ 132 → 128 ≤ i → i ≤ 128 → m ≡ storeState st
 unfolding storeState
 stored st b l m i e w d n g h =
@@ -110,16 +121,19 @@ entry-cut ds n h =
     ∙ ap (λ (l : List ℕ). getD ds n 0 ∷ getD ds (suc n) 0 ∷ l) (drop-cons ds (suc (suc n)) 0 (omega arith))
     ∙ ap (λ (l : List ℕ). getD ds n 0 ∷ getD ds (suc n) 0 ∷ getD ds (suc (suc n)) 0 ∷ l) (drop-cons ds (suc (suc (suc n))) 0 (omega arith)))
 
-entries-drop : (f : ℕ → Entry) (ds : List ℕ) (i k : ℕ) → ((j : ℕ) → j < i + k → f j ≡ entryAt ds (4 * j)) → length ds ≡ 4 * (i + k) → entriesBytes f i k ≡ drop (4 * i) ds
+entries-drop : (f : ℕ → Entry) (ds : List ℕ) (i k : ℕ) → ((j : ℕ) → j < i + k → f j ≡ entryAt ds (4 * j)) → length ds ≡ 4 * (i + k)
+    → entriesBytes f i k ≡ drop (4 * i) ds
 unfolding entriesBytes
 entries-drop f ds i zero h l = sym (drop-of-length-le ds {i = 4 * i} (omega arith))
 entries-drop f ds i (suc k) h l =
     let n : 4 * suc i ≡ 4 * i + 4 = omega arith in
-    rw (h i (omega arith), entries-drop f ds (suc i) k (λ j g. h j (omega arith)) (omega arith), n) (sym (entry-cut ds (4 * i) (omega arith)))
+    rw (h i (omega arith), entries-drop f ds (suc i) k (λ j g. h j (omega arith)) (omega arith), n)
+    (sym (entry-cut ds (4 * i) (omega arith)))
 
 pub image-of : (st : State) → length (st .devices) ≡ 128 → imageOf 4 (statusIn st) ≡ storeState st
 unfolding imageOf statusIn storeState
-image-of st l = ap (λ (b : List ℕ). b ++ bytesLE 4 (st .on)) (entries-drop (entriesOf 4 (st .devices)) (st .devices) 0 32 (entry-in 4 (st .devices)) l)
+image-of st l = ap (λ (b : List ℕ). b ++ bytesLE 4 (st .on)) (entries-drop (entriesOf 4 (st .devices)) (st .devices) 0 32
+    (entry-in 4 (st .devices)) l)
 
 -- ---- what a fresh state says
 
@@ -130,11 +144,13 @@ fresh-is n on e = rw e refl
 pub fresh-status : (s : Station) → statusIn (freshState (s .resources)) ≡ freshStatus s
 unfolding statusIn freshState freshStatus entryAt
 fresh-status s =
-    let none : (k : ℕ) → k < 32 → entryAt (replicate 128 0) (4 * k) ≡ noEntry = λ k h. entry-same (replicate 128 0) [] (4 * k) (λ i l. getD-replicate {A = ℕ} 128 (4 * k + i) 0 0 (omega arith)) in
+    let none : (k : ℕ) → k < 32 → entryAt (replicate 128 0) (4 * k) ≡ noEntry = λ k h. entry-same (replicate 128 0) [] (4 * k)
+    (λ i l. getD-replicate {A = ℕ} 128 (4 * k + i) 0 0 (omega arith)) in
     rw (entries-ext 4 (replicate 128 0) (λ k. noEntry) none (λ k h. refl)) refl
 
 pub fresh-image : (t : List ℕ) → storeState (freshState (station t .resources)) ≡ imageOf (width t) (freshStatus (station t))
 unfolding width freshState
-fresh-image t = sym (image-of (freshState (station t .resources)) (length-replicate {A = ℕ} 128 0)) ∙ ap (imageOf 4) (fresh-status (station t))
+fresh-image t = sym (image-of (freshState (station t .resources)) (length-replicate {A = ℕ} 128 0))
+    ∙ ap (imageOf 4) (fresh-status (station t))
 
 pub ruleset held = (entry-read, entry-is, on-read, on-inside, loaded, stored, fresh-is)

@@ -17,7 +17,8 @@ use Rattle.rules.specs.Answers.{lowest}
 use Rattle.rules.specs.Station.{Station, width, limit, countD, stationOf, station}
 use Rattle.rules.specs.Table.{parentGood}
 use Rattle.rules.specs.Power.{supported, needs, neededBelow, needed, wakePair}
-use Rattle.rules.specs.Status.{Status, entryAt, entries, entryGood, entriesGood, parentAllows, wakeConsistent, consistentButPower, powered, consistent, consistencyVerdict}
+use Rattle.rules.specs.Status.{Status, entryAt, entries, entryGood, entriesGood, parentAllows, wakeConsistent, consistentButPower}
+use Rattle.rules.specs.Status.{powered, consistent, consistencyVerdict}
 use Rattle.rules.proofs.Index.{every-at}
 use Rattle.laws.proofs.Tests.{both-true, or-cases}
 use Rattle.status.specs.Ready.{Ready, statusWith}
@@ -49,7 +50,8 @@ module _ (t b : List ℕ) (d x p : ℕ) (q : p ≡ station t .device d .parent) 
   pub parent-read : Ready t b → d < countD t → (p ≡ 255 → ⊥) → 4 * p + 4 ≤ length b
   parent-read r h n = let l = parent-small r h n in omega (arith, r .sized .devices, r .long)
 
-  pub parent-state : (up : Entry) → Ready t b → d < countD t → (p ≡ 255 → ⊥) → up ≡ entryAt b (4 * p) → leb (up .state) x ≡ parentAllows (station t) (entries t b) d x
+  pub parent-state : (up : Entry) → Ready t b → d < countD t → (p ≡ 255 → ⊥) → up ≡ entryAt b (4 * p) → leb (up .state) x ≡ parentAllows
+      (station t) (entries t b) d x
   unfolding parentAllows
   parent-state up r h n f =
       rw (← q, ne-eqb p 255 n, ← entry-ready t b p up r (parent-small r h n) f) refl
@@ -64,7 +66,8 @@ module _ (t b : List ℕ) (d : ℕ) (r : Ready t b) (h : d < countD t) where
   unfolding wakeConsistent
   wake-unarmed n = rw (← armed-is, ne-eqb (getD b (4 * d + 1) 0) 1 n) refl
 
-  module _ (e : Entry) (legal : Bool) (a : getD b (4 * d + 1) 0 ≡ 1) (read : e ≡ entryAt b (4 * d)) (q : legal ≡ wakePair (station t) d (e .sleep) (e .wake)) where
+  module _ (e : Entry) (legal : Bool) (a : getD b (4 * d + 1) 0 ≡ 1) (read : e ≡ entryAt b (4 * d))
+      (q : legal ≡ wakePair (station t) d (e .sleep) (e .wake)) where
     pub wake-illegal : not legal ≡ true → false ≡ wakeConsistent (station t) d (entries t b d)
     unfolding wakeConsistent
     wake-illegal n = rw (← armed-is, eq-eqb (getD b (4 * d + 1) 0) 1 a, ← entry-ready t b d e r h read, ← q, not-true legal n) refl
@@ -74,7 +77,8 @@ module _ (t b : List ℕ) (d : ℕ) (r : Ready t b) (h : d < countD t) where
     wake-legal n = rw (← armed-is, eq-eqb (getD b (4 * d + 1) 0) 1 a, ← entry-ready t b d e r h read, ← q, not-false legal n) refl
 
 -- ---- the three rules apart from power
-module _ (t b : List ℕ) (d : ℕ) (r : Ready t b) (h : d < countD t) (e : Entry) (known : Bool) (read : e ≡ entryAt b (4 * d)) (a : known ≡ supported (station t) d (e .state)) where
+module _ (t b : List ℕ) (d : ℕ) (r : Ready t b) (h : d < countD t) (e : Entry) (known : Bool) (read : e ≡ entryAt b (4 * d))
+    (a : known ≡ supported (station t) d (e .state)) where
   pub apart-known : not known ≡ true → false ≡ consistentButPower (station t) (entries t b) d
   unfolding consistentButPower
   apart-known n = rw (← entry-ready t b d e r h read, ← a, not-true known n) refl
@@ -84,12 +88,15 @@ module _ (t b : List ℕ) (d : ℕ) (r : Ready t b) (h : d < countD t) (e : Entr
     unfolding consistentButPower
     apart-under n = rw (← entry-ready t b d e r h read, ← a, not-false known m, ← u, not-true under n) refl
 
-    pub apart-wake : (wake : Bool) → not under ≡ false → wake ≡ wakeConsistent (station t) d (entries t b d) → wake ≡ consistentButPower (station t) (entries t b) d
+    pub apart-wake : (wake : Bool) → not under ≡ false → wake ≡ wakeConsistent (station t) d (entries t b d) → wake ≡ consistentButPower
+        (station t) (entries t b) d
     unfolding consistentButPower
-    apart-wake wake n c = rw (← entry-ready t b d e r h read, ← a, not-false known m, ← u, not-false under n) (rw (← entry-ready t b d e r h read) at c)
+    apart-wake wake n c = rw (← entry-ready t b d e r h read, ← a, not-false known m, ← u, not-false under n)
+        (rw (← entry-ready t b d e r h read) at c)
 
 -- ---- power
-pub power-is : (t b : List ℕ) (on d : ℕ) (e : Entry) (n : ℕ) (v : Bool) → Ready t b → d < countD t → e ≡ entryAt b (4 * d) → n ≡ needs (station t) d e → v ≡ subset n on
+pub power-is : (t b : List ℕ) (on d : ℕ) (e : Entry) (n : ℕ) (v : Bool) → Ready t b → d < countD t → e ≡ entryAt b (4 * d)
+    → n ≡ needs (station t) d e → v ≡ subset n on
     → v ≡ powered (station t) (statusWith t b on) d
 unfolding powered
 power-is t b on d e n v r h p q f = rw (← entry-ready t b d e r h p, ← q) f
@@ -121,16 +128,32 @@ ready-sleep t b d e r h q =
     let l : d < limit (width t) = omega (arith, r .sized .devices) in
     rw (entry-ready t b d e r h q) (sleep-in (entries t b d) (both-true _ _ (every-at _ (limit (width t)) d (r .good) l) .0))
 
-pub ruleset keep-laws = (parent-none, parent-read, parent-state, wake-unarmed, wake-illegal, wake-legal, apart-known, apart-under, apart-wake, power-is, breaks, keeps, ready-sleep)
+pub ruleset keep-laws = (
+  parent-none,
+  parent-read,
+  parent-state,
+  wake-unarmed,
+  wake-illegal,
+  wake-legal,
+  apart-known,
+  apart-under,
+  apart-wake,
+  power-is,
+  breaks,
+  keeps,
+  ready-sleep,
+)
 
 -- ---- all devices
 module _ (s : Station) (st : Status) (n i : ℕ) (look : Looking (consistent s st) n i) (all : n ≡ s .devices) where
   pub inconsistent : (b : Bool) → i < n → b ≡ consistent s st i → not b ≡ true → Refused Inconsistent i ≡ consistencyVerdict s st
   unfolding consistencyVerdict
-  inconsistent b h e t = lowest-found (consistent s st) n i b (Refused Inconsistent) look h e t ∙ ap (λ (k : ℕ). lowest (λ j. not (consistent s st j)) k (Refused Inconsistent)) all
+  inconsistent b h e t = lowest-found (consistent s st) n i b (Refused Inconsistent) look h e t
+      ∙ ap (λ (k : ℕ). lowest (λ j. not (consistent s st j)) k (Refused Inconsistent)) all
 
   pub consistent-all : n ≤ i → Done 0 ≡ consistencyVerdict s st
   unfolding consistencyVerdict
-  consistent-all h = lowest-all (consistent s st) n i (Refused Inconsistent) look h ∙ ap (λ (k : ℕ). lowest (λ j. not (consistent s st j)) k (Refused Inconsistent)) all
+  consistent-all h = lowest-all (consistent s st) n i (Refused Inconsistent) look h
+      ∙ ap (λ (k : ℕ). lowest (λ j. not (consistent s st j)) k (Refused Inconsistent)) all
 
 pub ruleset turn-laws = (devices-are, inconsistent, consistent-all)

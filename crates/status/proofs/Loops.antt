@@ -24,8 +24,10 @@ module _ (good : ℕ → Bool) (n : ℕ) where
   look-next i b inv h e t = next (λ j. not (good j)) i n _ (not b) inv h (ap not e) t
 
   -- one breaks it
-  pub lowest-found : (i : ℕ) (b : Bool) (refusal : ℕ → Verdict) → Looking good n i → i < n → b ≡ good i → not b ≡ true → refusal i ≡ lowest (λ j. not (good j)) n refusal
-  lowest-found i b refusal inv h e t = sym (lowest-stop (λ j. not (good j)) n i refusal (found (λ j. not (good j)) i n _ (not b) inv h (ap not e) t) h)
+  pub lowest-found : (i : ℕ) (b : Bool) (refusal : ℕ → Verdict) → Looking good n i → i < n → b ≡ good i → not b ≡ true
+      → refusal i ≡ lowest (λ j. not (good j)) n refusal
+  lowest-found i b refusal inv h e t = sym (lowest-stop (λ j. not (good j)) n i refusal
+      (found (λ j. not (good j)) i n _ (not b) inv h (ap not e) t) h)
 
   -- none does
   pub lowest-all : (i : ℕ) (refusal : ℕ → Verdict) → Looking good n i → n ≤ i → Done 0 ≡ lowest (λ j. not (good j)) n refusal

@@ -17,7 +17,8 @@ use Rattle.status.specs.Needs.{neededFrom}
 use Rattle.status.proofs.Held.{entry-is}
 
 -- ---- the loop is at i, with n - i to go, and is to answer v
-pub turn-next : (t b : List ℕ) (i n a m r v : ℕ) (e : Entry) → neededFrom (station t) (entries t b) a i (n - i) ≡ v → WellSized t → i < n → n ≤ countD t
+pub turn-next : (t b : List ℕ) (i n a m r v : ℕ) (e : Entry) → neededFrom (station t) (entries t b) a i (n - i) ≡ v → WellSized t
+    → i < n → n ≤ countD t
     → e ≡ entryAt b (4 * i) → m ≡ needs (station t) i e → r ≡ union a m → neededFrom (station t) (entries t b) r (i + 1) (n - (i + 1)) ≡ v
 turn-next t b i n a m r v e inv z h l p q f =
     let k : n - i ≡ suc (n - (i + 1)) = omega arith in
@@ -34,7 +35,8 @@ from-below : (s : Station) (f : ℕ → Entry) (i k : ℕ) → neededFrom s f (n
 unfolding neededFrom
 from-below s f i zero = ap (neededBelow s f) (omega arith)
 from-below s f i (suc k) =
-    let one : union (neededBelow s f i) (needs s i (f i)) ≡ neededBelow s f (i + 1) = sym (ap (neededBelow s f) (add-one i) ∙ (unfold neededBelow in refl)) in
+    let one : union (neededBelow s f i) (needs s i (f i)) ≡ neededBelow s f (i + 1) = sym (ap (neededBelow s f) (add-one i)
+    ∙ (unfold neededBelow in refl)) in
     rw one (from-below s f (i + 1) k ∙ ap (neededBelow s f) (omega arith))
 
 from-none : (s : Station) (f : ℕ → Entry) (k : ℕ) → neededFrom s f 0 0 k ≡ neededBelow s f k
@@ -44,7 +46,8 @@ from-none s f k =
     (rw (z, n) at (from-below s f 0 k))
 
 -- only the entries of those devices matter
-from-same : (s : Station) (f g : ℕ → Entry) (a i k : ℕ) → ((j : ℕ) → i ≤ j → j < i + k → f j ≡ g j) → neededFrom s f a i k ≡ neededFrom s g a i k
+from-same : (s : Station) (f g : ℕ → Entry) (a i k : ℕ) → ((j : ℕ) → i ≤ j → j < i + k → f j ≡ g j)
+    → neededFrom s f a i k ≡ neededFrom s g a i k
 unfolding neededFrom
 from-same s f g a i zero h = refl
 from-same s f g a i (suc k) h =
@@ -60,15 +63,20 @@ unfolding replaceEntry
 replaced-same f d e = rw (eq-eqb d d refl) refl
 
 -- those before d, then d with e, then those after it
-pub with-entry : (t b : List ℕ) (d n x y z w : ℕ) (e : Entry) → d < countD t → n ≡ countD t → x ≡ neededFrom (station t) (entries t b) 0 0 (d - 0) → y ≡ needs (station t) d e
-    → z ≡ union x y → w ≡ neededFrom (station t) (entries t b) z (d + 1) (n - (d + 1)) → w ≡ needed (station t) (replaceEntry (entries t b) d e)
+pub with-entry : (t b : List ℕ) (d n x y z w : ℕ) (e : Entry) → d < countD t → n ≡ countD t → x ≡ neededFrom (station t) (entries t b) 0 0
+    (d - 0) → y ≡ needs (station t) d e
+    → z ≡ union x y → w ≡ neededFrom (station t) (entries t b) z (d + 1) (n - (d + 1)) → w ≡ needed (station t)
+    (replaceEntry (entries t b) d e)
 with-entry t b d n x y z w e h m p q r o =
     let s = station t in
     let f = entries t b in
     let g = replaceEntry f d e in
     let first : x ≡ neededBelow s g d =
-    p ∙ from-same s f g 0 0 (d - 0) (λ j _ l. replaced-other f d j e (λ c. omega arith)) ∙ from-none s g (d - 0) ∙ ap (neededBelow s g) (omega arith) in
-    let one : z ≡ neededBelow s g (d + 1) = r ∙ rw (first, q) (sym (ap (neededBelow s g) (add-one d) ∙ (unfold neededBelow in rw (replaced-same f d e) refl))) in
+    p ∙ from-same s f g 0 0 (d - 0) (λ j _ l. replaced-other f d j e (λ c. omega arith)) ∙ from-none s g (d - 0)
+    ∙ ap (neededBelow s g) (omega arith) in
+    let one : z ≡ neededBelow s g (d + 1) = r ∙ rw (first, q)
+    (sym (ap (neededBelow s g) (add-one d) ∙ (unfold neededBelow in rw (replaced-same f d e) refl))) in
     let all : (d + 1) + (n - (d + 1)) ≡ s .devices = unfold stationOf in omega arith in
-    o ∙ from-same s f g z (d + 1) (n - (d + 1)) (λ j l _. replaced-other f d j e (λ c. omega arith)) ∙ ap (λ (a : ℕ). neededFrom s g a (d + 1) (n - (d + 1))) one
+    o ∙ from-same s f g z (d + 1) (n - (d + 1)) (λ j l _. replaced-other f d j e (λ c. omega arith))
+    ∙ ap (λ (a : ℕ). neededFrom s g a (d + 1) (n - (d + 1))) one
     ∙ from-below s g (d + 1) (n - (d + 1)) ∙ ap (neededBelow s g) all ∙ (unfold needed in refl)

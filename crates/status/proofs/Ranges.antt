@@ -82,7 +82,8 @@ module _ (b : List ℕ) (n : ℕ) where
   zero-starts = sym (every-of zeroFrom n (λ j l. or-left (ltb j n) _ (lt-ltb j n l)))
 
   -- all is the union of those before i, and w the number at i
-  pub zero-next : (i all w r : ℕ) → eqb all 0 ≡ every zeroFrom i → n ≤ i → w ≡ readLE 4 b (4 * i) → r ≡ union all w → eqb r 0 ≡ every zeroFrom (i + 1)
+  pub zero-next : (i all w r : ℕ) → eqb all 0 ≡ every zeroFrom i → n ≤ i → w ≡ readLE 4 b (4 * i) → r ≡ union all w
+      → eqb r 0 ≡ every zeroFrom (i + 1)
   zero-next i all w r inv l q e =
       let here : eqb w 0 ≡ zeroFrom i = rw (le-ltb i n l) (word-zero b i w q) in
       rw (e, union-none all w, inv, here) (sym (every-suc zeroFrom i))
@@ -120,8 +121,10 @@ module _ (t b : List ℕ) (n : ℕ) (c : n ≡ countD t) (z : WellSized t) where
       (same-test (every good n && every (zeroFrom b n) end) (every either end)
       (λ e. let a = both-true (every good n) (every (zeroFrom b n) end) e in every-of either end (good-at (a .0) (a .1)))
       (λ e.
-      let at : (k : ℕ) → k < end → (good k ≡ true) × (zeroFrom b n k ≡ true) = λ k l. both-true (good k) (zeroFrom b n k) (sym (read k l) ∙ every-at either end k e l) in
-      and-true (every good n) (every (zeroFrom b n) end) (every-of good n (λ k l. at k (omega (arith, z .devices)) .0)) (every-of (zeroFrom b n) end (λ k l. at k l .1))))
+      let at : (k : ℕ) → k < end → (good k ≡ true) × (zeroFrom b n k ≡ true) = λ k l. both-true (good k) (zeroFrom b n k) (sym (read k l)
+      ∙ every-at either end k e l) in
+      and-true (every good n) (every (zeroFrom b n) end) (every-of good n (λ k l. at k (omega (arith, z .devices)) .0))
+      (every-of (zeroFrom b n) end (λ k l. at k l .1))))
 
   module _ (first : Bool) (q : first ≡ every good n) where
     pub entries-first : not first ≡ true → false ≡ entriesGood (limit (width t)) (station t) (entries t b)

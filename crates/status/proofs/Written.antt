@@ -58,21 +58,28 @@ entry-kept st d k e n =
     let apart : (k < d) ⊎ (d < k) = decide (ltb k d) (λ a. inl (ltb-true k d a)) (λ a. inr (omega (arith, ltb-false k d a))) in
     decide (ltb k 32)
     (λ a. entry-in 4 new k (ltb-true k 32 a)
-    ∙ entry-same new old (4 * k) (λ i g. sets-other vs old (4 * d) (4 * k + i) (⊎-elim (λ b. inl (omega arith)) (λ b. inr (omega arith)) apart))
+    ∙ entry-same new old (4 * k) (λ i g. sets-other vs old (4 * d) (4 * k + i)
+    (⊎-elim (λ b. inl (omega arith)) (λ b. inr (omega arith)) apart))
     ∙ sym (entry-in 4 old k (ltb-true k 32 a)))
     (λ a. entry-out 4 new k (ltb-false k 32 a) ∙ sym (entry-out 4 old k (ltb-false k 32 a)))
 
 -- the four stores, as the code makes them
 pub with-is : (st : State) (d : ℕ) (e : Entry)
-    → record { devices = set (set (set (set (st .devices) (4 * d) (e .state)) (4 * d + 1) (e .armed)) (4 * d + 2) (e .sleep)) (4 * d + 3) (e .wake); on = st .on } ≡ withEntry st d e
+    → record {
+      devices = set (set (set (set (st .devices) (4 * d) (e .state)) (4 * d + 1) (e .armed)) (4 * d + 2) (e .sleep)) (4 * d + 3)
+          (e .wake);
+      on = st .on;
+    } ≡ withEntry st d e
 unfolding withEntry entryBytes
 with-is st d e = simp towards-suc
 
 -- with it written, that entry is replaced and the others are as before
-pub with-replaced : (st : State) (d : ℕ) (e : Entry) → d < 32 → length (st .devices) ≡ 128 → entriesOf 4 (withEntry st d e .devices) ≡ replaceEntry (entriesOf 4 (st .devices)) d e
+pub with-replaced : (st : State) (d : ℕ) (e : Entry) → d < 32 → length (st .devices) ≡ 128
+    → entriesOf 4 (withEntry st d e .devices) ≡ replaceEntry (entriesOf 4 (st .devices)) d e
 unfolding replaceEntry
 with-replaced st d e h l =
-    fun-ext (λ k. decide (eqb k d) (λ z. rw (z, eqb-true k d z) (entry-written st d e h l)) (λ z. rw z (entry-kept st d k e (eqb-false k d z))))
+    fun-ext (λ k. decide (eqb k d) (λ z. rw (z, eqb-true k d z) (entry-written st d e h l))
+    (λ z. rw z (entry-kept st d k e (eqb-false k d z))))
 
 pub with-long : (st : State) (d : ℕ) (e : Entry) → length (withEntry st d e .devices) ≡ length (st .devices)
 unfolding withEntry

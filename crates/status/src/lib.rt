@@ -32,7 +32,8 @@ pub fn check_state(table: &[u8], image: &[u8]) -> Verdict
 
 // A fresh state for a table that is good, into bytes that are an image's; a refusal leaves every byte.
 pub fn fresh(table: &[u8], state: &mut [u8]) -> Verdict
-    ensures { λ r. ⌜ (r ≡ fresh (now (table .entry)) (now (state .entry)) .verdict) × (now (state .exit) ≡ fresh (now (table .entry)) (now (state .entry)) .state) ⌝ }
+    ensures { λ r. ⌜ (r ≡ fresh (now (table .entry)) (now (state .entry)) .verdict)
+        × (now (state .exit) ≡ fresh (now (table .entry)) (now (state .entry)) .state) ⌝ }
 {
     let verdict = table::check_table(table);
     if !rules::passes(verdict) {

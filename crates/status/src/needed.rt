@@ -13,7 +13,8 @@ ghost use Rattle.status.specs.Needs.{neededFrom};
 // A set with what the devices from one number up to another need.
 fn needed_from(table: &[u8], devices: &[u8], set: u32, from: usize, end: usize) -> u32
     requires { ⌜ WellSized (now table) × (entriesSize (width (now table)) ≤ length (now devices)) × (end ≤ countD (now table)) ⌝ }
-    ensures { λ r. ⌜ r ≡ neededFrom (station (now (table .entry))) (entries (now (table .entry)) (now (devices .entry))) set from (end - from) ⌝ }
+    ensures { λ r. ⌜ r ≡ neededFrom (station (now (table .entry)))
+        (entries (now (table .entry)) (now (devices .entry))) set from (end - from) ⌝ }
 {
     let mut all = set;
     let mut i = from;
@@ -25,8 +26,8 @@ fn needed_from(table: &[u8], devices: &[u8], set: u32, from: usize, end: usize) 
     all
 }
 
-// The union of what each device needs with its entry, device d's being e: so no caller writes an entry to learn what it would need. The devices
-// before d and after it go by turns of their own, so that no turn asks which device it is at.
+// The union of what each device needs with its entry, device d's being e: so no caller writes an entry to learn what it would need. The
+// devices before d and after it go by turns of their own, so that no turn asks which device it is at.
 pub fn needed_with(table: &[u8], devices: &[u8], d: usize, e: Entry) -> u32
     requires { ⌜ WellSized (now table) × (entriesSize (width (now table)) ≤ length (now devices)) × (d < countD (now table)) ⌝ }
     ensures { λ r. ⌜ r ≡ needed (station (now (table .entry))) (replaceEntry (entries (now (table .entry)) (now (devices .entry))) d e) ⌝ }

@@ -61,7 +61,8 @@ fn zero_from(devices: &[u8], n: usize, end: usize) -> bool
 // Each entry is good, and those from D on are zero; zero is good, so those need no other test.
 pub fn entries_good(table: &[u8], devices: &[u8]) -> bool
     requires { ⌜ WellSized (now table) × (entriesSize (width (now table)) ≤ length (now devices)) ⌝ }
-    ensures { λ r. ⌜ r ≡ entriesGood (limit (width (now (table .entry)))) (station (now (table .entry))) (entries (now (table .entry)) (now (devices .entry))) ⌝ }
+    ensures { λ r. ⌜ r ≡ entriesGood (limit (width (now (table .entry)))) (station (now (table .entry)))
+        (entries (now (table .entry)) (now (devices .entry))) ⌝ }
 {
     let n = table::fields::devices(table);
     if !first_good(devices, n) {

@@ -17,7 +17,8 @@ use Rattle.rules.specs.declared.Reason.the-variants.{NotATable, TooMany, WrongL
 use Rattle.rules.specs.Index.{leastFrom, least}
 use Rattle.rules.specs.Answers.{passes, firstOf, unless, lowest}
 use Rattle.rules.specs.Station.{width, limit, recordSize, countR, countD, deviceStart, deviceAt}
-use Rattle.rules.specs.Table.{firstBad, deviceFields, headerGood, countsGood, lengthGood, resourceGood, badField, fieldsGood, objectsGood, deviceRefusal, deviceGood, tableVerdict}
+use Rattle.rules.specs.Table.{firstBad, deviceFields, headerGood, countsGood, lengthGood, resourceGood, badField, fieldsGood}
+use Rattle.rules.specs.Table.{objectsGood, deviceRefusal, deviceGood, tableVerdict}
 use Rattle.rules.specs.Outcomes.{recordPart}
 use Rattle.rules.proofs.Index.{found, next, done}
 use Rattle.rules.proofs.Answers.{done-passes, refused-stops, first-pass, first-stop, first-none, unless-of, unless-stop, lowest-stop}
@@ -76,7 +77,18 @@ module _ (t : List ℕ) where
   unfolding deviceRefusal
   refused-5 d f e p = rw (← e, p)
 
-pub ruleset table-tests = (too-short, header-test, counts-test, length-test, fields-test, field-refused, objects-decide, resource-bad, refused-6, refused-5)
+pub ruleset table-tests = (
+  too-short,
+  header-test,
+  counts-test,
+  length-test,
+  fields-test,
+  field-refused,
+  objects-decide,
+  resource-bad,
+  refused-6,
+  refused-5,
+)
 
 -- the loops over resources and devices start with n to go
 pub from-none : (f : ℕ → Bool) (n m : ℕ) → n ≡ m → leastFrom f 0 (n - 0) ≡ least f m
@@ -153,7 +165,8 @@ module _ (t : List ℕ) where
   unfolding tableVerdict
   past-header h = sym (unless-passed _ _ (headerGood t) NotATable 0 h)
 
-  past-counts : headerGood t ≡ true → countsGood t ≡ true → firstOf (length-check ∷ resources-check ∷ devices-check ∷ []) (Done 0) ≡ tableVerdict t
+  past-counts : headerGood t ≡ true → countsGood t ≡ true → firstOf (length-check ∷ resources-check ∷ devices-check ∷ [])
+      (Done 0) ≡ tableVerdict t
   past-counts h c = sym (unless-passed _ _ (countsGood t) TooMany 0 c) ∙ past-header h
 
   -- b is the answer of the function that checks
@@ -164,15 +177,22 @@ module _ (t : List ℕ) where
   pub too-many : (b : Bool) → headerGood t ≡ true → b ≡ countsGood t → not b ≡ true → Refused TooMany 0 ≡ tableVerdict t
   too-many b h e p = unless-refused _ _ (countsGood t) TooMany 0 (sym e ∙ not-true b p) ∙ past-header h
 
-  pub wrong-length : (c b : Bool) → headerGood t ≡ true → c ≡ countsGood t → not c ≡ false → b ≡ lengthGood t → not b ≡ true → Refused WrongLength 0 ≡ tableVerdict t
-  wrong-length c b h f y e p = unless-refused _ _ (lengthGood t) WrongLength 0 (sym e ∙ not-true b p) ∙ past-counts h (sym f ∙ not-false c y)
+  pub wrong-length : (c b : Bool) → headerGood t ≡ true → c ≡ countsGood t → not c ≡ false → b ≡ lengthGood t → not b ≡ true
+      → Refused WrongLength 0 ≡ tableVerdict t
+  wrong-length c b h f y e p = unless-refused _ _ (lengthGood t) WrongLength 0 (sym e ∙ not-true b p)
+      ∙ past-counts h (sym f ∙ not-false c y)
 
   -- from here on the first three have passed
-  module _ (sized : WellSized t) (h : headerGood t ≡ true) (r m : ℕ) (e : r ≡ least (λ i. not (resourceGood t i)) (countR t)) (f : m ≡ countR t) where
+  module _ (sized : WellSized t) (h : headerGood t ≡ true) (r m : ℕ) (e : r ≡ least (λ i. not (resourceGood t i)) (countR t))
+      (f : m ≡ countR t) where
     past-length : firstOf (resources-check ∷ devices-check ∷ []) (Done 0) ≡ tableVerdict t
     unfolding countsGood lengthGood
     past-length =
-        let counts : countsGood t ≡ true = rw (le-leb (countR t) (limit (width t)) (sized .resources), le-leb (countD t) (limit (width t)) (sized .devices)) refl in
+        let counts : countsGood t ≡ true = rw (
+          le-leb (countR t) (limit (width t)) (sized .resources),
+          le-leb (countD t) (limit (width t))
+              (sized .devices),
+        ) refl in
         sym (unless-passed _ _ (lengthGood t) WrongLength 0 (eq-eqb _ _ (sized .long))) ∙ past-counts h counts
 
     pub bad-resource : r < m → Refused BadResource r ≡ tableVerdict t
@@ -190,7 +210,8 @@ module _ (t : List ℕ) where
 
 pub ruleset table-answers = (long-of, header-passed, no-table, too-many, wrong-length, bad-resource, bad-device, all-pass)
 
--- ---- what an accepted table is known to have: from the rules, and from what a caller knows of the answer v of the check, and b whether it passes
+-- ---- what an accepted table is known to have: from the rules, and from what a caller knows of the answer v of the check, and b whether it
+-- passes
 pub sized-of : (t : List ℕ) → passes (tableVerdict t) ≡ true → WellSized t
 sized-of t e =
     let a = accepted t e in

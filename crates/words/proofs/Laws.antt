@@ -96,7 +96,8 @@ pub word-bytes-one : (ws : List ℕ) (i : ℕ) → i < length ws → wordBytes (
 unfolding wordBytes
 word-bytes-one ws i h =
     rw (add-one i, take-suc ws i 0 h)
-    (word-bytes-append (take i ws) (getD ws i 0 ∷ []) ∙ ap (λ (l : List ℕ). wordBytes (take i ws) ++ l) (append-nil (bytesLE 4 (getD ws i 0))))
+    (word-bytes-append (take i ws) (getD ws i 0 ∷ []) ∙ ap (λ (l : List ℕ). wordBytes (take i ws) ++ l)
+    (append-nil (bytesLE 4 (getD ws i 0))))
 
 pub word-bytes-lt : (ws : List ℕ) (i : ℕ) → getD (wordBytes ws) i 0 < 256
 unfolding wordBytes
@@ -121,7 +122,8 @@ unfolding wordBytes byteWords
 words-of-bytes [] h = refl
 words-of-bytes (w ∷ ws) h =
     let b = bytesLE 4 w in
-    let r : readLE 4 (b ++ wordBytes ws) 0 ≡ w = read-append 4 b (wordBytes ws) 0 (omega (arith, bytes-length 4 w)) ∙ read-bytes 4 w ∙ mod-eq-of-lt (h 0) in
+    let r : readLE 4 (b ++ wordBytes ws) 0 ≡ w = read-append 4 b (wordBytes ws) 0 (omega (arith, bytes-length 4 w)) ∙ read-bytes 4 w
+    ∙ mod-eq-of-lt (h 0) in
     rw (r, drop-at b (wordBytes ws) 4 (bytes-length 4 w), words-of-bytes ws (λ i. h (suc i)))
 
 pub bytes-of-words : (n : ℕ) (s : List ℕ) → length s ≡ 4 * n → ((i : ℕ) → getD s i 0 < 256) → wordBytes (byteWords n s) ≡ s
@@ -131,6 +133,7 @@ bytes-of-words zero (a ∷ s) e h = absurd (omega arith)
 bytes-of-words (suc n) s e h =
     let t = take 4 s in
     let lt : length t ≡ 4 = length-take-le 4 s (omega arith) in
-    let r : readLE 4 s 0 ≡ readLE 4 t 0 = ap (λ (l : List ℕ). readLE 4 l 0) (sym (take-append-drop 4 s)) ∙ read-append 4 t (drop 4 s) 0 (omega arith) in
+    let r : readLE 4 s 0 ≡ readLE 4 t 0 = ap (λ (l : List ℕ). readLE 4 l 0) (sym (take-append-drop 4 s))
+    ∙ read-append 4 t (drop 4 s) 0 (omega arith) in
     rw (bytes-of-words n (drop 4 s) (simp length-drop (omega arith)) (below-drop 256 4 s h), r, bytes-read 4 t lt (below-take 256 4 s h))
     (take-append-drop 4 s)

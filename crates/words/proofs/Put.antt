@@ -21,7 +21,8 @@ unfolding put
 length-put d at ws h = simp (length-append, length-take, length-drop) (omega arith)
 
 -- a second run, from where the first ends
-pub put-put : (d : List ℕ) (at : ℕ) (xs ys : List ℕ) → at + length xs ≤ length d → put (put d at xs) (at + length xs) ys ≡ put d at (xs ++ ys)
+pub put-put : (d : List ℕ) (at : ℕ) (xs ys : List ℕ) → at + length xs ≤ length d
+    → put (put d at xs) (at + length xs) ys ≡ put d at (xs ++ ys)
 unfolding put
 put-put d at xs ys h =
     let n = at + length xs in
@@ -63,7 +64,8 @@ pub emitted-none : (d : List ℕ) (at : ℕ) → Emitted d at [] d at
 emitted-none d at = record { list = sym (put-none d at); place = sym (add-zero at); long = refl }
 
 -- a run more, as a call's `ensures` gives it
-pub emitted-run : {d ws l l′ : List ℕ} {at p r : ℕ} (vs : List ℕ) → Emitted d at ws l p → (r ≡ p + length vs) × (l′ ≡ put l p vs) → r ≤ length d
+pub emitted-run : {d ws l l′ : List ℕ} {at p r : ℕ} (vs : List ℕ) → Emitted d at ws l p → (r ≡ p + length vs)
+    × (l′ ≡ put l p vs) → r ≤ length d
     → Emitted d at (ws ++ vs) l′ r
 emitted-run {d} {ws} {l} {l′} {at} {p} {r} vs e q h =
     record {
@@ -73,7 +75,8 @@ emitted-run {d} {ws} {l} {l′} {at} {p} {r} vs e q h =
     }
 
 -- one store more
-pub emitted-one : {d ws l : List ℕ} {at p : ℕ} (w : ℕ) → Emitted d at ws l p → p < length d → Emitted d at (ws ++ w ∷ []) (set l p w) (p + 1)
+pub emitted-one : {d ws l : List ℕ} {at p : ℕ} (w : ℕ) → Emitted d at ws l p → p < length d
+    → Emitted d at (ws ++ w ∷ []) (set l p w) (p + 1)
 emitted-one {d} {ws} {l} {at} {p} w e h = emitted-run (w ∷ []) e (refl, sets-put l p (w ∷ []) (omega arith)) (omega arith)
 
 -- a turn of a loop that copies src
@@ -103,7 +106,8 @@ going-run {all} {d} {l} {l′} {rest} {at} {p} {r} vs next g e q h =
     }
 
 -- one store more
-pub going-one : {all d l rest : List ℕ} {at p : ℕ} (w : ℕ) (next : List ℕ) → Going all d at l rest p → rest ≡ w ∷ next → at + length all ≤ length d
+pub going-one : {all d l rest : List ℕ} {at p : ℕ} (w : ℕ) (next : List ℕ) → Going all d at l rest p → rest ≡ w ∷ next
+    → at + length all ≤ length d
     → Going all d at (set l p w) next (p + 1)
 going-one {l = l} {p = p} w next g e h =
     going-run (w ∷ []) next g e (refl, sets-put l p (w ∷ []) (omega (arith, ap length e))) h

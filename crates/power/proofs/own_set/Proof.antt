@@ -5,4 +5,5 @@ use Rattle.power.proofs.own_set.Statement.{statement}
 use Rattle.power.proofs.own_set.Tie as tie
 
 pub own-set-spec : {M : Type 1} → statement M
-own-set-spec = tie.close (tie.spec (λ c κs. search needs) (λ c κs. search needs) (λ c. search (needs, set-laws)) (λ c. search (needs, set-laws)))
+own-set-spec = tie.close (tie.spec (λ c κs. search needs) (λ c κs. search needs) (λ c. search (needs, set-laws))
+    (λ c. search (needs, set-laws)))

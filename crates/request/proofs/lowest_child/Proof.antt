@@ -12,7 +12,8 @@ use Rattle.request.proofs.lowest_child.Tie as tie
 abbrev Inv-loop : tie.InvT-loop
 Inv-loop table devices d x n i₀ i =
     (i ≤ n)
-    × (leastFrom (childBars (station table) (entries table devices) d x) i (n - i) ≡ least (childBars (station table) (entries table devices) d x) (countD table))
+    × (leastFrom (childBars (station table) (entries table devices) d x) i (n - i) ≡ least
+    (childBars (station table) (entries table devices) d x) (countD table))
 
 abbrev μ-loop : tie.MeasureT-loop
 μ-loop table devices d x n i₀ i = n - i

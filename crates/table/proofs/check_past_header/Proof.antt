@@ -7,7 +7,8 @@ use Rattle.table.proofs.check_past_header.Tie as tie
 check-records-requires : tie.Need-check-records-requires
 check-records-requires c κs =
     let counts = c .before .before .before in
-    sized-by _ _ _ (counts .before .before .pre) (counts .counts-good .ensures) (c .before .before .if1 .left) (c .before .length-good .ensures) (c .if2 .left)
+    sized-by _ _ _ (counts .before .before .pre) (counts .counts-good .ensures) (c .before .before .if1 .left)
+    (c .before .length-good .ensures) (c .if2 .left)
 
 pub check-past-header-spec : {M : Type 1} → statement M
 check-past-header-spec =

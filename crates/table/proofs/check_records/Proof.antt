@@ -7,5 +7,6 @@ use Rattle.table.proofs.check_records.Tie as tie
 pub check-records-spec : {M : Type 1} → statement M
 check-records-spec =
     tie.close
-    (tie.spec (λ c κs. search needs) (λ c κs. search needs) (λ c. search (needs, table-answers)) (λ c κs. search needs) (λ c κs. search needs)
+    (tie.spec (λ c κs. search needs) (λ c κs. search needs) (λ c. search (needs, table-answers)) (λ c κs. search needs)
+    (λ c κs. search needs)
     (λ c κs. search needs) (λ c. search (needs, table-answers)) (λ c. search (needs, table-answers)))

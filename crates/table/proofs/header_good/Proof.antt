@@ -7,5 +7,6 @@ use Rattle.table.proofs.header_good.Tie as tie
 pub header-good-spec : {M : Type 1} → statement M
 header-good-spec =
     tie.close
-    (tie.spec (λ c. search (needs, table-tests)) (λ c κs. search needs) (λ c. search needs) (λ c. search needs) (λ c. search needs) (λ c. search needs)
+    (tie.spec (λ c. search (needs, table-tests)) (λ c κs. search needs) (λ c. search needs) (λ c. search needs)
+    (λ c. search needs) (λ c. search needs)
     (λ c. search needs) (λ c. search needs) (λ c. search needs) (λ c. search (needs, table-tests)))

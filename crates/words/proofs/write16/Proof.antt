@@ -17,4 +17,5 @@ returns c = simp towards-suc (sets-put (c .args .s .now) (c .args .at) (bytesLE 
 
 pub write16-spec : {M : Type 1} → statement M
 write16-spec =
-    tie.close (tie.spec (λ c. search needs) (λ c. search needs) (λ c. search needs) (λ c. search needs) slice-write-s-2 (λ c. search needs) returns)
+    tie.close (tie.spec (λ c. search needs) (λ c. search needs) (λ c. search needs) (λ c. search needs) slice-write-s-2
+    (λ c. search needs) returns)

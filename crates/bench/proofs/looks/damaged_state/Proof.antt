@@ -12,4 +12,6 @@ returns : tie.Need-returns
 returns c = cc
 
 pub damaged-state-spec : {M : Type 1} → statement M
-damaged-state-spec = tie.close (tie.spec (λ c κs. search needs) (λ c κs. search needs) (λ c κs. search needs) (λ c κs. search needs) (λ c κs. search needs) (λ c. search needs) (λ c. simp length-set (search needs)) slice-aggregate-check (λ c κs. search needs) (λ c. search needs) (λ c κs. search needs) returns)
+damaged-state-spec = tie.close (tie.spec (λ c κs. search needs) (λ c κs. search needs) (λ c κs. search needs) (λ c κs. search needs)
+    (λ c κs. search needs) (λ c. search needs) (λ c. simp length-set (search needs)) slice-aggregate-check (λ c κs. search needs)
+    (λ c. search needs) (λ c κs. search needs) returns)

@@ -15,4 +15,6 @@ returns : tie.Need-returns
 returns c = cc
 
 pub damaged-table-spec : {M : Type 1} → statement M
-damaged-table-spec = tie.close (tie.spec (λ c κs. search needs) (λ c κs. search needs) (λ c κs. search needs) (λ c κs. search needs) (λ c. search needs) (λ c. simp length-set (search needs)) slice-aggregate-fresh (λ c. search needs) slice-aggregate-fresh-2 (λ c κs. search needs) returns)
+damaged-table-spec = tie.close (tie.spec (λ c κs. search needs) (λ c κs. search needs) (λ c κs. search needs) (λ c κs. search needs)
+    (λ c. search needs) (λ c. simp length-set (search needs)) slice-aggregate-fresh (λ c. search needs) slice-aggregate-fresh-2
+    (λ c κs. search needs) returns)

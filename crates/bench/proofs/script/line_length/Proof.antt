@@ -16,7 +16,13 @@ abbrev μ-loop : tie.MeasureT-loop
 μ-loop text n i₀ i = n - i
 
 loop-again : tie.Need-loop-again Inv-loop μ-loop
-loop-again c = (search needs, search needs, line-next _ _ _ _ (c .before .before .before .loop .inv .2) (c .before .before .loop-test .taken) (c .if1 .left))
+loop-again c = (
+  search needs,
+  search needs,
+  line-next _ _ _ _ (c .before .before .before .loop .inv .2)
+      (c .before .before .loop-test .taken) (c .if1 .left),
+)
 
 pub line-length-spec : {M : Type 1} → statement M
-line-length-spec = tie.close (tie.spec Inv-loop μ-loop (λ c. search (needs, lines)) (λ c. search needs) (λ c. search (needs, lines)) (λ c. search needs) (λ c. search needs) loop-again (λ c. search (needs, lines)))
+line-length-spec = tie.close (tie.spec Inv-loop μ-loop (λ c. search (needs, lines)) (λ c. search needs) (λ c. search (needs, lines))
+    (λ c. search needs) (λ c. search needs) loop-again (λ c. search (needs, lines)))

@@ -5,4 +5,5 @@ use Rattle.checker.proofs.take.in_order.Statement.{statement}
 use Rattle.checker.proofs.take.in_order.Tie as tie
 
 pub in-order-spec : {M : Type 1} → statement M
-in-order-spec = tie.close (tie.spec (λ c κs. search needs) (λ c κs. search needs) (λ c. search (needs, orders)) (λ c. search (needs, orders)))
+in-order-spec = tie.close (tie.spec (λ c κs. search needs) (λ c κs. search needs) (λ c. search (needs, orders))
+    (λ c. search (needs, orders)))

@@ -7,4 +7,5 @@ use Rattle.checker.proofs.walk.take_own.Tie as tie
 
 pub take-own-spec : {M : Type 1} → statement M
 take-own-spec =
-    tie.close (tie.spec (λ c. search (needs, own-call)) (λ c. search needs) (λ c κs. search (needs, call-in-range)) (λ c. search needs) (λ c. search (needs, own-call)) (λ c. search (needs, own-call)))
+    tie.close (tie.spec (λ c. search (needs, own-call)) (λ c. search needs) (λ c κs. search (needs, call-in-range)) (λ c. search needs)
+    (λ c. search (needs, own-call)) (λ c. search (needs, own-call)))

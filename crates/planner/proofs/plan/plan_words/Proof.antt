@@ -32,14 +32,18 @@ same-length c = search needs
 returns : tie.Need-returns
 unfolding planWords
 returns c =
-    plan-refused _ _ _ _ _ _ (rw (c .before .before .before .before .room .ensures .0) at (c .before .before .verdict .ensures)) (c .before .passes .ensures) _ _ (c .if1 .taken)
+    plan-refused _ _ _ _ _ _ (rw (c .before .before .before .before .room .ensures .0) at (c .before .before .verdict .ensures))
+    (c .before .passes .ensures) _ _ (c .if1 .taken)
 
 -- src/plan.rt:57:19
 write-plan-requires : tie.Need-write-plan-requires
 write-plan-requires c κs =
     let e = c .before .before .before .before .verdict .ensures in
-    let f = c .before .before .before .passes .ensures in
-    (permitted-by _ _ _ _ _ _ e f (c .before .before .if1 .left), room-there _ _ _ _ _ _ _ (c .before .before .before .before .before .before .room .ensures .0) e f (c .before .before .if1 .left))
+    let f = c .before .before .before .passes .ensures in (
+      permitted-by _ _ _ _ _ _ e f (c .before .before .if1 .left),
+      room-there _ _ _ _ _ _ _
+          (c .before .before .before .before .before .before .room .ensures .0) e f (c .before .before .if1 .left),
+    )
 
 -- src/plan.rt:49:1
 same-length-2 : tie.Need-same-length-2

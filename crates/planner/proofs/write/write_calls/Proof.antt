@@ -20,8 +20,10 @@ write-switches-requires c κs =
 -- src/write.rt:51:9
 write-own-requires : tie.Need-write-own-requires
 write-own-requires c κs =
-    let n = runs-fit _ _ (c .before .before .before .before .before .before .before .before .pre .1) in
-    (c .before .before .before .before .before .before .before .before .pre .1 .own, omega (arith, c .before .before .before .write-switches .ensures .0))
+    let n = runs-fit _ _ (c .before .before .before .before .before .before .before .before .pre .1) in (
+      c .before .before .before .before .before .before .before .before .pre .1 .own,
+      omega (arith, c .before .before .before .write-switches .ensures .0),
+    )
 
 -- src/write.rt:51:9
 same-length : tie.Need-same-length
@@ -31,7 +33,8 @@ same-length c = search needs
 returns : tie.Need-returns
 returns c =
     let p = c .before .before .before .before .before .before .before .before .before .before .before .pre in
-    runs-written _ _ (p .1) _ _ _ (own-comes-last _ _ (c .before .before .before .before .before .before .before .before .if1 .taken)) (p .0) (p .2) (c .before .before .before .before .before .before .write-switches .ensures) (c .before .before .write-own .ensures)
+    runs-written _ _ (p .1) _ _ _ (own-comes-last _ _ (c .before .before .before .before .before .before .before .before .if1 .taken))
+    (p .0) (p .2) (c .before .before .before .before .before .before .write-switches .ensures) (c .before .before .write-own .ensures)
 
 -- src/write.rt:53:9
 write-own-requires-2 : tie.Need-write-own-requires-2
@@ -43,8 +46,10 @@ write-own-requires-2 c κs =
 write-switches-requires-2 : tie.Need-write-switches-requires-2
 write-switches-requires-2 c κs =
     let n = runs-fit _ _ (c .before .before .before .before .before .before .before .before .pre .1) in
-    let m = length-map (listOf (c .before .before .before .before .before .before .before .before .args .c .own)) wordOf in
-    (c .before .before .before .before .before .before .before .before .pre .0, omega (arith, c .before .before .before .write-own2 .ensures .0))
+    let m = length-map (listOf (c .before .before .before .before .before .before .before .before .args .c .own)) wordOf in (
+      c .before .before .before .before .before .before .before .before .pre .0,
+      omega (arith, c .before .before .before .write-own2 .ensures .0),
+    )
 
 -- src/write.rt:44:1
 same-length-2 : tie.Need-same-length-2
@@ -54,7 +59,8 @@ same-length-2 c = search needs
 returns-2 : tie.Need-returns-2
 returns-2 c =
     let p = c .before .before .before .before .before .before .before .before .before .before .before .pre in
-    runs-written _ _ (p .1) _ _ _ (own-comes-first _ _ (c .before .before .before .before .before .before .before .before .if1 .left)) (p .0) (p .2) (c .before .before .before .before .before .before .write-own2 .ensures) (c .before .before .write-switches2 .ensures)
+    runs-written _ _ (p .1) _ _ _ (own-comes-first _ _ (c .before .before .before .before .before .before .before .before .if1 .left))
+    (p .0) (p .2) (c .before .before .before .before .before .before .write-own2 .ensures) (c .before .before .write-switches2 .ensures)
 
 pub write-calls-spec : {M : Type 1} → statement M
 write-calls-spec =

@@ -28,7 +28,8 @@ same-length c = search needs
 
 -- src/write.rt:35:1
 returns : tie.Need-returns
-returns c = let b = c .before .before .before .before .before .before in two-runs _ _ _ _ _ (phase-is _ _ _) (b .before .before .before .before .pre .1) (b .emit .ensures) (c .before .before .emit2 .ensures)
+returns c = let b = c .before .before .before .before .before .before in two-runs _ _ _ _ _ (phase-is _ _ _)
+    (b .before .before .before .before .pre .1) (b .emit .ensures) (c .before .before .emit2 .ensures)
 
 pub write-switches-spec : {M : Type 1} → statement M
 write-switches-spec = tie.close (tie.spec emit-requires emit-requires-2 same-length returns)

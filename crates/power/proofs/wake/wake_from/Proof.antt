@@ -5,4 +5,5 @@ use Rattle.power.proofs.wake.wake_from.Statement.{statement}
 use Rattle.power.proofs.wake.wake_from.Tie as tie
 
 pub wake-from-spec : {M : Type 1} → statement M
-wake-from-spec = tie.close (tie.spec (λ c κs. search needs) (λ c κs. search needs) (λ c. search (needs, wake-laws)) (λ c. search (needs, wake-laws)))
+wake-from-spec = tie.close (tie.spec (λ c κs. search needs) (λ c κs. search needs) (λ c. search (needs, wake-laws))
+    (λ c. search (needs, wake-laws)))

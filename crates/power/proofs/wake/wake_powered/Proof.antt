@@ -10,7 +10,8 @@ use Rattle.power.proofs.wake.wake_powered.Statement.{statement}
 use Rattle.power.proofs.wake.wake_powered.Tie as tie
 
 abbrev Inv-loop : tie.InvT-loop
-Inv-loop table d x rest₀ rest = everyIn (λ r. leb x (station table .resource r .level)) rest (countR table) ≡ wakePowered (station table) d x
+Inv-loop table d x rest₀ rest = everyIn (λ r. leb x (station table .resource r .level)) rest
+    (countR table) ≡ wakePowered (station table) d x
 
 abbrev μ-loop : tie.MeasureT-loop
 μ-loop table d x rest₀ rest = rest

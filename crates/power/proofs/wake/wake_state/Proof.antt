@@ -7,4 +7,5 @@ use Rattle.power.proofs.wake.wake_state.Tie as tie
 pub wake-state-spec : {M : Type 1} → statement M
 wake-state-spec =
     tie.close
-    (tie.spec (λ c κs. search needs) (λ c κs. search needs) (λ c κs. search needs) (λ c κs. search needs) (λ c. search (needs, wake-laws)) (λ c. search (needs, wake-laws)))
+    (tie.spec (λ c κs. search needs) (λ c κs. search needs) (λ c κs. search needs) (λ c κs. search needs) (λ c. search (needs, wake-laws))
+    (λ c. search (needs, wake-laws)))

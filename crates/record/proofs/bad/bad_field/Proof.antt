@@ -8,5 +8,6 @@ pub bad-field-spec : {M : Type 1} → statement M
 bad-field-spec =
     tie.close
     (tie.spec (λ c κs. search needs) (λ c κs. search needs) (λ c. search (needs, bad-parts)) (λ c κs. search needs)
-    (λ c. search (needs, bad-parts)) (λ c κs. search needs) (λ c. search (needs, bad-parts)) (λ c κs. search needs) (λ c. search (needs, bad-parts))
+    (λ c. search (needs, bad-parts)) (λ c κs. search needs) (λ c. search (needs, bad-parts)) (λ c κs. search needs)
+    (λ c. search (needs, bad-parts))
     (λ c κs. search needs) (λ c. search (needs, bad-parts)))

@@ -1,5 +1,5 @@
--- Past the deepest sleep state the loop keeps: the first bad field is the first byte from i on that is not zero. The measure is how many are
--- left.
+-- Past the deepest sleep state the loop keeps: the first bad field is the first byte from i on that is not zero. The measure is how many
+-- are left.
 use mathlib.Core.Path.{_≡_}
 use Prim.Native.Nat.{_+_, _-_, _≤_}
 use Rattle.rules.specs.Index.{eachFrom}

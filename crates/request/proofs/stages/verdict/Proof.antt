@@ -6,4 +6,5 @@ use Rattle.request.proofs.stages.verdict.Statement.{statement}
 use Rattle.request.proofs.stages.verdict.Tie as tie
 
 pub verdict-spec : {M : Type 1} → statement M
-verdict-spec = tie.close (tie.spec (λ c κs. search needs) (λ c. search (needs, stop-header)) (λ c κs. search (needs, header-passed)) (λ c. search needs))
+verdict-spec = tie.close (tie.spec (λ c κs. search needs) (λ c. search (needs, stop-header)) (λ c κs. search (needs, header-passed))
+    (λ c. search needs))

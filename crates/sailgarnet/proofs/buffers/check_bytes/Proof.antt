@@ -14,8 +14,11 @@ use Rattle.sailgarnet.proofs.buffers.check_bytes.Statement.{statement}
 use Rattle.sailgarnet.proofs.buffers.check_bytes.Tie as tie
 
 returns : tie.Need-returns
-returns c =
-    (bytes-refused _ _ _ _ (Refused NotATable 0) false (stop-header _ _ _ _ _ (c .before .header-good .ensures) (c .if1 .taken)) (sym (refused-stops NotATable 0)) refl, demand3-bytes _ _ _ _)
+returns c = (
+  bytes-refused _ _ _ _ (Refused NotATable 0) false (stop-header _ _ _ _ _ (c .before .header-good .ensures) (c .if1 .taken))
+      (sym (refused-stops NotATable 0)) refl,
+  demand3-bytes _ _ _ _,
+)
 
 conforming-requires : tie.Need-conforming-requires
 conforming-requires c κs = permitted-by _ _ _ _ _ _ (c .before .before .past-header .ensures) (c .before .passes .ensures) (c .if2 .left)

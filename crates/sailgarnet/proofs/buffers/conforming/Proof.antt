@@ -13,7 +13,8 @@ returns c =
 
 returns-2 : tie.Need-returns-2
 returns-2 c =
-    long-list _ _ _ (c .before .before .before .before .before .pre) (c .before .before .before .before .before .args .list .now) (c .if2 .taken)
+    long-list _ _ _ (c .before .before .before .before .before .pre)
+    (c .before .before .before .before .before .args .list .now) (c .if2 .taken)
 
 slice-aggregate-conforming : tie.Need-slice-aggregate-conforming
 slice-aggregate-conforming c =
@@ -22,7 +23,9 @@ slice-aggregate-conforming c =
 
 returns-3 : tie.Need-returns-3
 returns-3 c =
-    list-is _ _ _ (c .before .before .before .before .before .before .before .before .pre) (c .before .before .before .before .before .before .before .before .args .list .now) (c .before .before .before .before .if1 .left) _ _ (c .before .before .read-words .ensures) (c .conforming .ensures)
+    list-is _ _ _ (c .before .before .before .before .before .before .before .before .pre)
+    (c .before .before .before .before .before .before .before .before .args .list .now)
+    (c .before .before .before .before .if1 .left) _ _ (c .before .before .read-words .ensures) (c .conforming .ensures)
 
 pub conforming-spec : {M : Type 1} → statement M
 conforming-spec =

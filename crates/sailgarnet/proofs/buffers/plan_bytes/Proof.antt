@@ -33,7 +33,8 @@ header-good-requires c κs = search needs
 returns : tie.Need-returns
 unfolding planBytes
 returns c =
-    plan-refused _ _ _ _ (Refused NotATable 0) false (stop-header _ _ _ _ _ (c .before .header-good .ensures) (c .if1 .taken)) (sym (refused-stops NotATable 0)) _ _ refl
+    plan-refused _ _ _ _ (Refused NotATable 0) false (stop-header _ _ _ _ _ (c .before .header-good .ensures) (c .if1 .taken))
+    (sym (refused-stops NotATable 0)) _ _ refl
 
 -- src/buffers.rt:54:34
 room-requires : tie.Need-room-requires
@@ -67,8 +68,11 @@ slice-aggregate-write-plan c = search needs
 -- src/buffers.rt:60:9
 write-plan-requires : tie.Need-write-plan-requires
 write-plan-requires c κs =
-    let room = room-33 (c .before .before .before .before .before .before .before .before .before .before .before .before .args .table .now) in
-    (permitted-by _ _ _ _ _ _ (c .before .before .before .before .past-header .ensures) (c .before .before .before .passes .ensures) (c .before .before .if2 .left), search needs)
+    let room = room-33 (c .before .before .before .before .before .before .before .before .before .before .before .before .args .table .now) in (
+      permitted-by _ _ _ _ _ _ (c .before .before .before .before .past-header .ensures) (c .before .before .before .passes .ensures)
+          (c .before .before .if2 .left),
+      search needs,
+    )
 
 -- src/buffers.rt:61:17
 slice-aggregate-write-words : tie.Need-slice-aggregate-write-words

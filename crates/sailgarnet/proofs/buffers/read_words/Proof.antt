@@ -18,7 +18,12 @@ loop-holds : tie.Need-loop-holds Inv-loop μ-loop
 loop-holds c = (search needs, search needs, read-starts (c .before .args .from .now) [])
 
 loop-again : tie.Need-loop-again Inv-loop μ-loop
-loop-again c = (search needs, simp length-set (search needs), read-next _ _ _ _ (c .before .before .loop .inv .2) (search needs) (c .read32 .ensures))
+loop-again c = (
+  search needs,
+  simp length-set (search needs),
+  read-next _ _ _ _ (c .before .before .loop .inv .2) (search needs)
+      (c .read32 .ensures),
+)
 
 returns : tie.Need-returns Inv-loop μ-loop
 returns c = read-done _ _ (c .before .loop .i) _ (c .before .loop .inv .2) (search needs) (search needs)

@@ -22,11 +22,15 @@ write32-requires c κs = omega (arith, c .before .before .before .loop .inv .1 .
 
 loop-again : tie.Need-loop-again Inv-loop μ-loop
 loop-again c =
-    let l = c .before .before .before .before .before .before .loop in
-    (search needs, write-next _ _ _ (c .before .before .before .before .before .before .before .before .before .args .from .now) (l .i) (l .inv .1) (search needs) (omega (arith, l .inv .1 .long)) (c .before .before .write32 .ensures))
+    let l = c .before .before .before .before .before .before .loop in (
+      search needs,
+      write-next _ _ _ (c .before .before .before .before .before .before .before .before .before .args .from .now) (l .i)
+          (l .inv .1) (search needs) (omega (arith, l .inv .1 .long)) (c .before .before .write32 .ensures),
+    )
 
 returns : tie.Need-returns Inv-loop μ-loop
-returns c = write-done _ _ (c .before .before .before .before .args .from .now) (c .before .loop .i) (c .before .before .before .before .args .n) (c .before .loop .inv .1) (search needs) (search needs)
+returns c = write-done _ _ (c .before .before .before .before .args .from .now) (c .before .loop .i)
+    (c .before .before .before .before .args .n) (c .before .loop .inv .1) (search needs) (search needs)
 
 pub write-words-spec : {M : Type 1} → statement M
 write-words-spec =

@@ -11,7 +11,8 @@ use Rattle.status.proofs.consistency.consistency.Statement.{statement}
 use Rattle.status.proofs.consistency.consistency.Tie as tie
 
 abbrev Inv-loop : tie.InvT-loop
-Inv-loop table devices on n i₀ i = (i ≤ n) × (n ≡ station table .devices) × Looking (consistent (station table) (statusWith table devices on)) n i
+Inv-loop table devices on n i₀ i = (i ≤ n) × (n ≡ station table .devices)
+    × Looking (consistent (station table) (statusWith table devices on)) n i
 
 abbrev μ-loop : tie.MeasureT-loop
 μ-loop table devices on n i₀ i = n - i

@@ -6,4 +6,5 @@ use Rattle.status.proofs.consistency.parent_allows.Tie as tie
 
 pub parent-allows-spec : {M : Type 1} → statement M
 parent-allows-spec =
-    tie.close (tie.spec (λ c κs. search needs) (λ c. search (needs, keep-laws)) (λ c. search needs) (λ c κs. search (needs, keep-laws)) (λ c. search (needs, keep-laws)))
+    tie.close (tie.spec (λ c κs. search needs) (λ c. search (needs, keep-laws)) (λ c. search needs) (λ c κs. search (needs, keep-laws))
+    (λ c. search (needs, keep-laws)))

@@ -11,10 +11,12 @@ wake-pair-requires : tie.Need-wake-pair-requires
 wake-pair-requires c κs = search (needs, keep-laws)
 
 returns-2 : tie.Need-returns-2
-returns-2 c = wake-illegal _ _ _ (search needs) (search needs) (c .before .before .entry .result) (c .before .wake-pair .result) (search needs) (search needs) (search needs) (search needs)
+returns-2 c = wake-illegal _ _ _ (search needs) (search needs) (c .before .before .entry .result) (c .before .wake-pair .result)
+    (search needs) (search needs) (search needs) (search needs)
 
 returns-3 : tie.Need-returns-3
-returns-3 c = wake-legal _ _ _ (search needs) (search needs) (c .before .before .before .entry .result) (c .before .before .wake-pair .result) (search needs) (search needs) (search needs) (search needs)
+returns-3 c = wake-legal _ _ _ (search needs) (search needs) (c .before .before .before .entry .result)
+    (c .before .before .wake-pair .result) (search needs) (search needs) (search needs) (search needs)
 
 pub wake-consistent-spec : {M : Type 1} → statement M
 wake-consistent-spec =

@@ -15,7 +15,12 @@ abbrev μ-loop : tie.MeasureT-loop
 μ-loop image devices₀ i₀ devices i = 128 - i
 
 loop-again : tie.Need-loop-again Inv-loop μ-loop
-loop-again c = (search needs, search needs, emitted-copy (c .before .before .before .before .before .before .args .image .now) _ (c .before .before .loop .inv .2) (search needs) (search needs))
+loop-again c = (
+  search needs,
+  search needs,
+  emitted-copy (c .before .before .before .before .before .before .args .image .now) _
+      (c .before .before .loop .inv .2) (search needs) (search needs),
+)
 
 pub load-spec : {M : Type 1} → statement M
 load-spec =

@@ -15,7 +15,12 @@ abbrev μ-loop : tie.MeasureT-loop
 μ-loop state image₀ devices i₀ image i = 128 - i
 
 loop-again : tie.Need-loop-again Inv-loop μ-loop
-loop-again c = (search needs, search needs, emitted-copy (c .before .before .before .before .args .state .devices) _ (c .before .loop .inv .2) (search needs) (search needs))
+loop-again c = (
+  search needs,
+  search needs,
+  emitted-copy (c .before .before .before .before .args .state .devices) _
+      (c .before .loop .inv .2) (search needs) (search needs),
+)
 
 pub store-spec : {M : Type 1} → statement M
 store-spec =

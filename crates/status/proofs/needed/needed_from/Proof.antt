@@ -11,7 +11,8 @@ use Rattle.status.proofs.needed.needed_from.Tie as tie
 
 abbrev Inv-loop : tie.InvT-loop
 Inv-loop table devices set from end all₀ i₀ all i =
-    neededFrom (station table) (entries table devices) all i (end - i) ≡ neededFrom (station table) (entries table devices) set from (end - from)
+    neededFrom (station table) (entries table devices) all i (end - i) ≡ neededFrom (station table)
+    (entries table devices) set from (end - from)
 
 abbrev μ-loop : tie.MeasureT-loop
 μ-loop table devices set from end all₀ i₀ all i = end - i

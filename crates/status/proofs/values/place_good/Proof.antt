@@ -11,4 +11,5 @@ returns-2 : tie.Need-returns-2
 returns-2 c = search (needs, range-laws)
 
 pub place-good-spec : {M : Type 1} → statement M
-place-good-spec = tie.close (tie.spec (λ c. search needs) (λ c κs. search needs) returns (λ c κs. search needs) (λ c κs. search needs) returns-2)
+place-good-spec = tie.close (tie.spec (λ c. search needs) (λ c κs. search needs) returns (λ c κs. search needs)
+    (λ c κs. search needs) returns-2)
