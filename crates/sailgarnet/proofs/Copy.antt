@@ -5,10 +5,9 @@ use Prim.Native.Nat.{ℕ, zero, suc, _+_, _*_, _≤_, _<_}
 use native.Mathlib.Numerals.{add-one}
 use native.Mathlib.Omega.{arith}
 use lib.ListN.{length, getD, take, drop, set}
-use lib.Seq.{take-suc-set}
 use Rattle.words.specs.Words.{readLE, bytesLE, put, wordBytes, byteWords}
 use Rattle.words.proofs.Laws.{bytes-length, word-bytes-one, read-drop}
-use Rattle.words.proofs.Put.{Emitted, emitted-none, emitted-run}
+use Rattle.words.proofs.Put.{Emitted, emitted-none, emitted-run, emitted-one}
 
 -- ---- words into bytes
 pub write-starts : (d from : List ℕ) → Emitted d 0 (wordBytes (take 0 from)) d (4 * 0)
@@ -37,13 +36,16 @@ words-snoc (suc n) s =
     ap (λ (l : List ℕ). readLE 4 s 0 ∷ l) (rest ∙ ap (λ (x : ℕ). byteWords n (drop 4 s) ++ x ∷ []) (read-drop 4 s 4 (4 * n)
     ∙ ap (readLE 4 s) i))
 
-pub read-next : (from out : List ℕ) (i w : ℕ) → take i out ≡ byteWords i from → i < length out → w ≡ readLE 4 from (4 * i)
-    → take (i + 1) (set out i w) ≡ byteWords (i + 1) from
-read-next from out i w e h f = rw (add-one i, take-suc-set out i w h, e, f) (sym (words-snoc i from))
-
-pub read-done : (from out : List ℕ) (i n : ℕ) → take i out ≡ byteWords i from → i ≤ n → n ≤ i → take n out ≡ byteWords n from
-read-done from out i n e h k = let q : i ≡ n = omega arith in rw q at e
-
-pub read-starts : (from out : List ℕ) → take 0 out ≡ byteWords 0 from
+pub read-starts : (d from : List ℕ) → Emitted d 0 (byteWords 0 from) d 0
 unfolding byteWords
-read-starts from out = refl
+read-starts d from = emitted-none d 0
+
+pub read-next : {d l : List ℕ} (from : List ℕ) (i n w : ℕ) → Emitted d 0 (byteWords i from) l i → w ≡ readLE 4 from (4 * i) → i < n
+    → n ≤ length d
+    → Emitted d 0 (byteWords (i + 1) from) (set l i w) (i + 1)
+read-next from i n w e f h k = rw (add-one i, words-snoc i from, ← f, ← add-one i) (emitted-one w e (omega arith))
+
+pub read-done : {d l : List ℕ} (from : List ℕ) (i n : ℕ) → Emitted d 0 (byteWords i from) l i → i ≤ n → n ≤ i
+    → l ≡ put d 0 (byteWords n from)
+read-done from i n e h k = let q : i ≡ n = omega arith in rw q at (e .list)
+pub ruleset reading = (read-starts, read-next, read-done)

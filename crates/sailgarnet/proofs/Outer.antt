@@ -72,10 +72,20 @@ module _ (t b : List ℕ) (q : Request) (g : PermittedRequest t b q) (list : Lis
       let l = byte-words-length (length list / 4) list in
       rw (long-fails t b q g (byteWords (length list / 4) list) (omega arith)) (sym (and-false (eqb (length list % 4) 0)))
 
-  pub list-is : length list % 4 ≡ 0 → (r : Bool) (ws : List ℕ) → ws ≡ byteWords (length list / 4) list
-      → r ≡ conforming (station t) (status t b) q ws
+  pub list-is : length list % 4 ≡ 0 → (r : Bool) (d ws : List ℕ) → ws ≡ put d 0 (byteWords (length list / 4) list)
+      → r ≡ conforming (station t) (status t b) q (take (length list / 4) ws)
       → r ≡ eqb (length list % 4) 0 && conforming (station t) (status t b) q (byteWords (length list / 4) list)
-  list-is e r ws w f = rw (eq-eqb (length list % 4) 0 e, ← w) f
+  list-is e r d ws w f =
+      let n = length list / 4 in
+      rw (eq-eqb (length list % 4) 0 e, ← take-put d (byteWords n list) n (byte-words-length n list), ← w) f
+
+-- the words that were read are as many as were asked for
+pub words-read : (d list ws : List ℕ) (n : ℕ) → ws ≡ put d 0 (byteWords n list) → n ≡ length (take n ws)
+words-read d list ws n e =
+    let l = byte-words-length n list in
+    sym (ap length (ap (take n) e ∙ take-put d (byteWords n list) n l) ∙ l)
+
+pub ruleset lists = (odd-list, long-list, list-is, words-read)
 
 -- ---- the planner's words as bytes
 pub written-bytes : (t b : List ℕ) (q : Request) (plan : List ℕ) (n : ℕ) (b′ words words′ plan′ : List ℕ) → Written t b q words n b′ words′

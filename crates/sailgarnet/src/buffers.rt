@@ -16,7 +16,7 @@ ghost use Rattle.laws.specs.Demand3.{Demand3Bytes};
 ghost use Rattle.words.specs.Words.{put, wordBytes, byteWords};
 
 // The first n words, written from the start of the bytes.
-pub fn write_words(from: &[u32], n: usize, out: &mut [u8])
+fn write_words(from: &[u32], n: usize, out: &mut [u8])
     requires { ⌜ (n ≤ 33) × (n ≤ length (now from)) × (4 * n ≤ length (now out)) ⌝ }
     ensures { λ _. ⌜ now (out .exit) ≡ put (now (out .entry)) 0 (wordBytes (take n (now (from .entry)))) ⌝ }
 {
@@ -27,21 +27,16 @@ pub fn write_words(from: &[u32], n: usize, out: &mut [u8])
     }
 }
 
-// Room for the longest lawful call list.
-pub type Calls = [u32; 33];
-
-// The first n words of the bytes; what follows them is not looked at.
-pub fn read_words(from: &[u8], n: usize) -> Calls
-    requires { ⌜ (n ≤ 33) × (4 * n ≤ length (now from)) ⌝ }
-    ensures { λ r. ⌜ take n r ≡ byteWords n (now (from .entry)) ⌝ }
+// The first n words of the bytes, stored from the start of the words.
+fn read_words(from: &[u8], n: usize, out: &mut [u32])
+    requires { ⌜ (n ≤ 33) × (4 * n ≤ length (now from)) × (n ≤ length (now out)) ⌝ }
+    ensures { λ _. ⌜ now (out .exit) ≡ put (now (out .entry)) 0 (byteWords n (now (from .entry))) ⌝ }
 {
-    let mut out = [0u32; 33];
     let mut i = 0;
     while i < n {
         out[i] = words::read32(from, 4 * i);
         i += 1;
     }
-    out
 }
 
 // Plans one request on a plan of bytes.
@@ -77,7 +72,8 @@ fn conforming(table: &[u8], state: &[u8], q: Request, list: &[u8]) -> bool
     if n > 33 {
         return false;
     }
-    let calls = read_words(list, n);
+    let mut calls = [0u32; 33];
+    read_words(list, n, &mut calls);
     checker::check::conforming(table, state, q, &calls[..n])
 }
 
