@@ -2,7 +2,7 @@
 use mathlib.Core.Path.{_≡_, refl, sym, ap, _∙_}
 use mathlib.Core.Bool.{Bool, true, false, not, _&&_, _||_, or-false}
 use mathlib.Core.Logic.{⊎-elim}
-use mathlib.Core.List.{List}
+use mathlib.Core.List.{List, [], _∷_}
 use Prim.Native.Nat.{ℕ, _*_, _-_, _<_, _≤_}
 use native.Mathlib.Omega.{arith}
 use borrow.Author.Tests.{eqb-true, leb-true, eq-eqb, ne-eqb, le-leb, lt-leb, lt-ltb, le-ltb, not-true, not-false}
@@ -14,7 +14,7 @@ use Rattle.rules.specs.declared.Verdict.the-variants.{Done, Refused}
 use Rattle.rules.specs.declared.Reason.the-variants.{BadRequest, Unsupported, Shallower, ParentDeeper, ChildShallower, TooDeepToWake}
 use Rattle.rules.specs.declared.Reason.the-variants.{NoWake, WakeUnpowered, BadWakeState}
 use Rattle.rules.specs.Index.{leastFrom, least}
-use Rattle.rules.specs.Answers.{passes, firstOf, unless}
+use Rattle.rules.specs.Answers.{passes, firstOf, unless, lowest}
 use Rattle.rules.specs.Station.{Station, countD, stationOf, station}
 use Rattle.rules.specs.Power.{supported, wakeFrom, wakePowered, wakeState}
 use Rattle.rules.specs.Request.{isMove, isArm, isDisarm, formGood, notShallowerOrD0, childBars, wakeAllows, moveVerdict, armVerdict}
@@ -128,7 +128,8 @@ from-none f n m e = starts f n ∙ ap (least f) e
 
 pub ruleset lowest-bad = (from-none, found, next, done)
 
--- ---- 11 to 15. Each test's result stands apart from what it tests
+-- ---- 11 to 15. The premises are as the contracts and the tests on the way give them, so that the search finds them: each test's result
+-- stands apart from what it tests, and n is the number of devices as it was read
 module _ (t b : List ℕ) (r : Ready t b) (d x : ℕ) (h : d < countD t) (u : Entry) (read : u ≡ entryAt b (4 * d)) (y : Bool)
     (known : y ≡ supported (station t) d x) where
   own : u ≡ entries t b d
@@ -149,12 +150,15 @@ module _ (t b : List ℕ) (r : Ready t b) (d x : ℕ) (h : d < countD t) (u : En
       unfolding moveVerdict firstOf unless passes
       move-13 p f n = rw (← own, sym known ∙ not-false y yes, sym deep ∙ not-false e yes2, sym up ∙ not-true c n, f) refl
 
-      module _ (yes3 : not c ≡ false) (k m : ℕ) (low : k ≡ least (childBars (station t) (entries t b) d x) m)
-          (all : m ≡ station t .devices) where
-        low-all : k ≡ least (childBars (station t) (entries t b) d x) (station t .devices)
-        low-all = low ∙ ap (least (childBars (station t) (entries t b) d x)) all
+      module _ (yes3 : not c ≡ false) (k n : ℕ) (low : k ≡ least (childBars (station t) (entries t b) d x) (countD t))
+          (all : n ≡ countD t) where
+        same : countD t ≡ station t .devices
+        same = devices-are t (countD t) refl
 
-        pub move-14 : k < m → Refused ChildShallower k ≡ moveVerdict (station t) (entries t b) d x
+        lowest-is : k ≡ least (childBars (station t) (entries t b) d x) (station t .devices)
+        lowest-is = low ∙ ap (least (childBars (station t) (entries t b) d x)) same
+
+        pub move-14 : k < n → Refused ChildShallower k ≡ moveVerdict (station t) (entries t b) d x
         unfolding moveVerdict firstOf unless passes
         move-14 l =
             rw (
@@ -163,37 +167,34 @@ module _ (t b : List ℕ) (r : Ready t b) (d x : ℕ) (h : d < countD t) (u : En
               sym deep ∙ not-false e yes2,
               sym up ∙ not-false c yes3,
               lowest-stop (childBars (station t) (entries t b) d x) (station t .devices) k
-                  (Refused ChildShallower) low-all (omega arith),
+                  (Refused ChildShallower) lowest-is (omega (arith, same)),
             ) refl
 
-        pub move-15 : m ≤ k → (g : Bool) → g ≡ wakeAllows u x → not g ≡ true → Refused TooDeepToWake 0 ≡ moveVerdict
-            (station t) (entries t b) d x
-        unfolding moveVerdict firstOf unless passes
-        move-15 l g w n =
-            rw (
-              ← own,
-              sym known ∙ not-false y yes,
-              sym deep ∙ not-false e yes2,
-              sym up ∙ not-false c yes3,
-              lowest-none (childBars (station t) (entries t b) d x) (station t .devices) k (Refused ChildShallower) low-all
-                  (omega arith),
-              sym w ∙ not-true g n,
-            ) refl
+        module _ (l : n ≤ k) (g : Bool) (w : g ≡ wakeAllows u x) where
+          no-child-bars : lowest (childBars (station t) (entries t b) d x) (station t .devices) (Refused ChildShallower) ≡ Done 0
+          no-child-bars = lowest-none _ _ k _ lowest-is (omega (arith, same))
 
-        pub move-done : m ≤ k → (g : Bool) → g ≡ wakeAllows u x → not g ≡ false → Done 0 ≡ moveVerdict (station t) (entries t b) d x
-        unfolding moveVerdict firstOf unless passes
-        move-done l g w n =
-            rw (
-              ← own,
-              sym known ∙ not-false y yes,
-              sym deep ∙ not-false e yes2,
-              sym up ∙ not-false c yes3,
-              lowest-none (childBars (station t) (entries t b) d x) (station t .devices) k (Refused ChildShallower) low-all
-                  (omega arith),
-              sym w ∙ not-false g n,
-            ) refl
+          only-15 : moveVerdict (station t) (entries t b) d x ≡ firstOf (unless g TooDeepToWake 0 ∷ []) (Done 0)
+          unfolding moveVerdict firstOf unless passes
+          only-15 =
+              rw (
+                ← own,
+                sym known ∙ not-false y yes,
+                sym deep ∙ not-false e yes2,
+                sym up ∙ not-false c yes3,
+                no-child-bars,
+                ← w,
+              ) refl
 
-pub ruleset moving = (devices-are, move-11, move-12, move-13, move-14, move-15, move-done)
+          pub move-15 : not g ≡ true → Refused TooDeepToWake 0 ≡ moveVerdict (station t) (entries t b) d x
+          unfolding firstOf unless passes
+          move-15 z = rw (only-15, not-true g z) refl
+
+          pub move-done : not g ≡ false → Done 0 ≡ moveVerdict (station t) (entries t b) d x
+          unfolding firstOf unless passes
+          move-done z = rw (only-15, not-false g z) refl
+
+pub ruleset moving = (move-11, move-12, move-13, move-14, move-15, move-done)
 
 -- ---- 16 to 18
 module _ (s : Station) (entries : ℕ → Entry) (d x y : ℕ) (a : Bool) (from : a ≡ wakeFrom s d x) where
