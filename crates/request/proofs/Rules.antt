@@ -7,6 +7,8 @@ use Prim.Native.Nat.{ℕ, _*_, _-_, _<_, _≤_}
 use native.Mathlib.Omega.{arith}
 use borrow.Author.Tests.{eqb-true, leb-true, eq-eqb, ne-eqb, le-leb, lt-leb, lt-ltb, le-ltb, not-true, not-false}
 use lib.Dec.{eqb, leb, ltb}
+use mir.Syntax.{w8}
+use mir.Val.{Fits}
 use Rattle.rules.specs.declared.Entry.{Entry}
 use Rattle.rules.specs.declared.Request.{Request}
 use Rattle.rules.specs.declared.Verdict.{Verdict}
@@ -65,6 +67,8 @@ pub form-in : (t : List ℕ) (q : Request) (n : ℕ) (b : Bool) → n ≡ countD
 unfolding formGood stationOf
 form-in t q n b e h f = rw (lt-ltb (q .device) (countD t) (omega arith)) f
 
+pub ruleset forms = (move-far, move-form, arm-far, arm-form, disarm-far, disarm-form, no-kind, form-out, form-in)
+
 -- what numbers that are good say of each
 pub small : (s : Station) (q : Request) → formGood s q ≡ true → (q .a ≤ 4) × (q .b ≤ 4)
 unfolding formGood numbersGood
@@ -83,13 +87,25 @@ small s q e =
     (omega (arith, eqb-true (q .a) 0 (both-true (isDisarm q) (eqb (q .a) 0) (b .0) .1)), omega (arith, eqb-true (q .b) 0 (b .1))))
     (or-cases (move || arm) disarm (both-true (ltb (q .device) (s .devices)) (move || arm || disarm) e .1))
 
-pub form-small : (s : Station) (q : Request) (f : Bool) → f ≡ formGood s q → not f ≡ false → (q .a ≤ 4) × (q .b ≤ 4)
-form-small s q f form good = small s q (sym form ∙ not-false f good)
+-- what the checks of each kind ask, a law for each number, so that the search finds it; f is the answer of the form's test
+module _ (t : List ℕ) (q : Request) (f : Bool) (form : f ≡ formGood (station t) q) (good : not f ≡ false) where
+  in-form : formGood (station t) q ≡ true
+  in-form = sym form ∙ not-false f good
 
-pub form-device-below : (t : List ℕ) (q : Request) (f : Bool) → f ≡ formGood (station t) q → not f ≡ false → q .device < countD t
-form-device-below t q f form good = unfold stationOf in form-device (station t) q (sym form ∙ not-false f good)
+  pub device-below : q .device < countD t
+  device-below = unfold stationOf in form-device (station t) q in-form
 
-pub ruleset forms = (move-far, move-form, arm-far, arm-form, disarm-far, disarm-form, no-kind, form-out, form-in)
+  pub first-below : q .a < 5
+  first-below = omega (arith, small (station t) q in-form)
+
+  pub second-below : q .b < 5
+  second-below = omega (arith, small (station t) q in-form)
+
+-- a cast asks that the number fits a byte
+pub byte-below : (n : ℕ) → n < 5 → Fits w8 n
+byte-below n h = record { fits = omega arith }
+
+pub ruleset in-range = (device-below, first-below, second-below, byte-below)
 
 -- ---- 12, 15 and the new entry
 pub to-d0 : (e : Entry) (x : ℕ) → x ≡ 0 → true ≡ notShallowerOrD0 e x
