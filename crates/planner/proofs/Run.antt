@@ -9,7 +9,7 @@ use lib.ListN.{length, length-append, length-map, set}
 use Rattle.sets.specs.Sets.{member}
 use Rattle.sets.proofs.Laws.{decide}
 use Rattle.words.specs.Words.{put}
-use Rattle.words.proofs.Put.{put-none, put-put, sets-put}
+use Rattle.words.proofs.Put.{put-none, put-put, length-put, sets-put}
 use Rattle.rules.specs.Station.{Station, width, limit, countR, stationOf, station}
 use Rattle.rules.specs.declared.Call.{Call}
 use Rattle.rules.specs.declared.OptionalCall.{OptionalCall}
@@ -19,6 +19,7 @@ use Rattle.rules.specs.Calls.{wordOf, listOf, membersFrom, earlier, orderIn, ri
 use Rattle.rules.specs.Outcomes.{planRoom}
 use Rattle.laws.proofs.Sort.{length-sort}
 use Rattle.table.specs.Layout.{WellSized}
+use Rattle.calls.specs.Ranges.{OptionalInRange}
 use Rattle.calls.specs.Switch.{switchWord}
 use Rattle.calls.specs.Phases.{inOrder, switchWords, phaseWords}
 use Rattle.calls.proofs.Keys.{switch-long}
@@ -41,13 +42,17 @@ pub own-none : (o : OptionalCall) (at : ℕ) (d : List ℕ) → o ≡ NoCall →
 unfolding listOf
 own-none o at d e = rw e (omega arith, sym (put-none d at))
 
--- ---- one run after another, as two calls' `ensures` give them
+-- ---- one run after another, as two calls' `ensures` give them: the place after both, and what both have put
 
-pub two-runs : {l m : List ℕ} {p r : ℕ} (d : List ℕ) (at : ℕ) (xs ys ws : List ℕ) → ws ≡ xs ++ ys → at + length ws ≤ length d
-    → (p ≡ at + length xs) × (l ≡ put d at xs) → (r ≡ p + length ys) × (m ≡ put l p ys) → (r ≡ at + length ws) × (m ≡ put d at ws)
-two-runs d at xs ys ws e h a b =
-    let n : length ws ≡ length xs + length ys = ap length e ∙ length-append xs ys in
-    (omega arith, rw (b .1, a .1, a .0, e) (put-put d at xs ys (omega arith)))
+module _ (d : List ℕ) (at p : ℕ) (xs ys ws : List ℕ) (w : ws ≡ xs ++ ys) (e : p ≡ at + length xs) where
+  both-long : length ws ≡ length xs + length ys
+  both-long = ap length w ∙ length-append xs ys
+
+  pub run-place : (r : ℕ) → r ≡ p + length ys → r ≡ at + length ws
+  run-place r f = omega (arith, both-long)
+
+  pub run-put : (l m : List ℕ) → at + length ws ≤ length d → l ≡ put d at xs → m ≡ put l p ys → m ≡ put d at ws
+  run-put l m h f g = rw (g, f, e, w) (put-put d at xs ys (omega (arith, both-long)))
 
 -- ---- the ONs and the OFFs
 
@@ -55,10 +60,20 @@ pub phase-is : (s : Station) (on off : ℕ) → phaseWords s on off ≡ switchWo
 unfolding phaseWords
 phase-is s on off = refl
 
-pub phase-long : (s : Station) (on off : ℕ) → length (phaseWords s on off) ≡ length (switchWords false s on) + length
+phase-long : (s : Station) (on off : ℕ) → length (phaseWords s on off) ≡ length (switchWords false s on) + length
     (switchWords true s off)
 unfolding phaseWords
 phase-long s on off = length-append (switchWords false s on) (switchWords true s off)
+
+module _ (s : Station) (on off at : ℕ) (d : List ℕ) (h : at + length (phaseWords s on off) ≤ length d) where
+  pub turn-on-room : at + length (switchWords false s on) ≤ length d
+  turn-on-room = omega (arith, phase-long s on off)
+
+  pub turn-off-room : (p : ℕ) (l : List ℕ) → p ≡ at + length (switchWords false s on) → l ≡ put d at (switchWords false s on)
+      → p + length (switchWords true s off) ≤ length l
+  turn-off-room p l e f = rw f (omega (arith, phase-long s on off, length-put d at (switchWords false s on) turn-on-room))
+
+pub ruleset phase-runs = (run-place, run-put, phase-is, turn-on-room, turn-off-room)
 
 -- ---- their lengths
 
@@ -111,10 +126,10 @@ module _ (t : List ℕ) (c : Change) where
 
   -- a plan has at most R + 1 words, so each run has room
   module _ (g : GoodChange t c) where
-    pub runs-fit : length (phaseWords (station t) (c .on) (c .off)) + length (listOf (c .own)) ≤ countR t + 1
+    runs-fit : length (phaseWords (station t) (c .on) (c .off)) + length (listOf (c .own)) ≤ countR t + 1
     runs-fit = omega (arith, phase-fits t (c .on) (c .off) (g .disjoint), own-long (c .own))
 
-    pub change-fits : length (changeWords (station t) c) ≤ countR t + 1
+    change-fits : length (changeWords (station t) c) ≤ countR t + 1
     change-fits =
         let n = runs-fit in
         let m = length-map (listOf (c .own)) wordOf in
@@ -122,12 +137,35 @@ module _ (t : List ℕ) (c : Change) where
         (λ p. rw (own-comes-last p) (omega (arith, length-append phases own)))
         (λ p. rw (own-comes-first p) (omega (arith, length-append own phases)))
 
-    -- two runs are the whole plan
-    pub runs-written : {l m : List ℕ} {p r : ℕ} (d xs ys : List ℕ) → changeWords (station t) c ≡ xs ++ ys → WellSized t
-        → planRoom (width t) ≤ length d
-        → (p ≡ 0 + length xs) × (l ≡ put d 0 xs) → (r ≡ p + length ys) × (m ≡ put l p ys)
-        → (r ≡ length (changeWords (station t) c)) × (m ≡ put d 0 (changeWords (station t) c))
-    runs-written d xs ys w z n a b =
-        let f = change-fits in
-        let u = two-runs d 0 xs ys (changeWords (station t) c) w (omega (arith, z .resources)) a b in
-        (omega (arith, u .0), u .1)
+    pub own-good : OptionalInRange (c .own)
+    own-good = g .own
+
+    module _ (d : List ℕ) (z : WellSized t) (h : planRoom (width t) ≤ length d) where
+      pub own-first-room : 0 + length (listOf (c .own)) ≤ length d
+      own-first-room = omega (arith, runs-fit, z .resources)
+
+      pub phases-first-room : 0 + length (phaseWords (station t) (c .on) (c .off)) ≤ length d
+      phases-first-room = omega (arith, runs-fit, z .resources)
+
+      -- l: the plan after the first run, p: the place after it
+      module _ (p : ℕ) (l : List ℕ) where
+        pub own-last-room : p ≡ 0 + length (phaseWords (station t) (c .on) (c .off))
+            → l ≡ put d 0 (phaseWords (station t) (c .on) (c .off)) → p + length (listOf (c .own)) ≤ length l
+        own-last-room e f = rw f (omega (arith, runs-fit, z .resources, length-put d 0 phases phases-first-room))
+
+        pub phases-last-room : p ≡ 0 + length (map wordOf (listOf (c .own))) → l ≡ put d 0 (map wordOf (listOf (c .own)))
+            → p + length (phaseWords (station t) (c .on) (c .off)) ≤ length l
+        phases-last-room e f =
+            let m = length-map (listOf (c .own)) wordOf in
+            rw f (omega (arith, runs-fit, z .resources, m, length-put d 0 own (omega (arith, own-first-room, m))))
+
+      -- two runs are the whole plan
+      module _ (p r : ℕ) (xs ys : List ℕ) (w : changeWords (station t) c ≡ xs ++ ys) (e : p ≡ 0 + length xs) where
+        pub whole-count : r ≡ p + length ys → r ≡ length (changeWords (station t) c)
+        whole-count f = omega (arith, run-place d 0 p xs ys _ w e r f)
+
+        pub whole-put : (l m : List ℕ) → l ≡ put d 0 xs → m ≡ put l p ys → m ≡ put d 0 (changeWords (station t) c)
+        whole-put l m f k = run-put d 0 p xs ys _ w e l m (omega (arith, change-fits, z .resources)) f k
+
+pub ruleset plan-runs =
+    (own-comes-last, own-comes-first, own-good, own-first-room, phases-first-room, own-last-room, phases-last-room, whole-count, whole-put)

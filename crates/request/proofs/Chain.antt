@@ -9,17 +9,17 @@ use Rattle.rules.specs.declared.Entry.{Entry}
 use Rattle.rules.specs.declared.Request.{Request}
 use Rattle.rules.specs.declared.Verdict.{Verdict}
 use Rattle.rules.specs.declared.Verdict.the-variants.{Done, Refused}
-use Rattle.rules.specs.declared.Reason.the-variants.{NotATable, NoRoom}
+use Rattle.rules.specs.declared.Reason.the-variants.{NoRoom}
 use Rattle.rules.specs.Answers.{passes, firstOf}
 use Rattle.rules.specs.Station.{Station, station}
-use Rattle.rules.specs.Table.{headerGood, tableVerdict}
+use Rattle.rules.specs.Table.{tableVerdict}
 use Rattle.rules.specs.Status.{statusOf, entries, stateVerdict}
 use Rattle.rules.specs.Request.{requestVerdict}
 use Rattle.rules.specs.Outcomes.{requestStage, stagesVerdict}
 use Rattle.rules.proofs.Answers.{done-passes, refused-stops, first-pass, first-stop, first-through, first-alone, unless-of, unless-stop}
 use Rattle.laws.proofs.Accepted.{accepted}
 use Rattle.laws.proofs.States.{consistent-of}
-use Rattle.table.proofs.Verdicts.{sized-of, no-table}
+use Rattle.table.proofs.Verdicts.{sized-of}
 use Rattle.status.specs.Ready.{Ready}
 
 -- a table that passes is done
@@ -40,49 +40,53 @@ request-alone : (s : Station) (entries : ℕ → Entry) (q : Request) → firstO
 unfolding requestVerdict
 request-alone s entries q = first-alone _
 
--- v and u are the answers of the first two stages, p and r whether they pass
-module _ (t b : List ℕ) (q : Request) (room : Bool) (v : Verdict) (p : Bool) (e : v ≡ tableVerdict t) (f : p ≡ passes v) where
-  pub stop-table : not p ≡ true → v ≡ stagesVerdict room t b q
+-- v is a stage's answer, w what it is by the rules, p whether it passes
+module _ (v w : Verdict) (p : Bool) (e : v ≡ w) (f : p ≡ passes v) where
+  passed : not p ≡ false → passes w ≡ true
+  passed n = sym (ap passes e) ∙ sym f ∙ not-false p n
+
+  stopped : not p ≡ true → passes w ≡ false
+  stopped n = sym (ap passes e) ∙ sym f ∙ not-true p n
+
+-- ---- the table's answer
+module _ (t : List ℕ) (v : Verdict) (p : Bool) (e : v ≡ tableVerdict t) (f : p ≡ passes v) where
+  pub stop-table : (b : List ℕ) (q : Request) (room : Bool) → not p ≡ true → v ≡ stagesVerdict room t b q
   unfolding stagesVerdict
-  stop-table n = rw e (sym (first-stop (tableVerdict t) _ (Done 0) (sym (ap passes e) ∙ sym f ∙ not-true p n)))
+  stop-table b q room n = rw e (sym (first-stop (tableVerdict t) _ (Done 0) (stopped v _ p e f n)))
 
-  module _ (yes : not p ≡ false) where
-    on-table : passes (tableVerdict t) ≡ true
-    on-table = sym (ap passes e) ∙ sym f ∙ not-false p yes
+  pub table-passed : not p ≡ false → tableVerdict t ≡ Done 0
+  table-passed n = table-done t (passed v _ p e f n)
 
-    pub state-asks : tableVerdict t ≡ Done 0
-    state-asks = table-done t on-table
+-- ---- after it, the state's. What a stage asks names neither request nor room, so its law has neither
+module _ (t b : List ℕ) (done : tableVerdict t ≡ Done 0) (u : Verdict) (r : Bool) (g : u ≡ stateVerdict t b) (h : r ≡ passes u) where
+  on-table : passes (tableVerdict t) ≡ true
+  on-table = ap passes done ∙ done-passes 0
 
-    module _ (u : Verdict) (r : Bool) (g : u ≡ stateVerdict t b) (h : r ≡ passes u) where
-      pub stop-state : not r ≡ true → u ≡ stagesVerdict room t b q
+  pub stop-state : (q : Request) (room : Bool) → not r ≡ true → u ≡ stagesVerdict room t b q
+  unfolding stagesVerdict
+  stop-state q room n =
+      rw g (sym (first-pass (tableVerdict t) _ (Done 0) on-table ∙ first-stop (stateVerdict t b) _ (Done 0) (stopped u _ r g h n)))
+
+  module _ (yes : not r ≡ false) where
+    on-state : passes (stateVerdict t b) ≡ true
+    on-state = passed u _ r g h yes
+
+    -- the lists that the request's stage is handed stand apart, so that the search compares them with t and b once
+    pub request-asks : (table image : List ℕ) → t ≡ table → b ≡ image → Ready table image
+    request-asks table image x y = rw (← x, ← y) (ready-of t b on-table on-state)
+
+    module _ (q : Request) (room : Bool) where
+      pub stop-room : not room ≡ true → Refused NoRoom 0 ≡ stagesVerdict room t b q
       unfolding stagesVerdict
-      stop-state n =
-          rw g (sym (first-pass (tableVerdict t) _ (Done 0) on-table ∙ first-stop (stateVerdict t b) _ (Done 0) (sym (ap passes g)
-          ∙ sym h ∙ not-true r n)))
+      stop-room n =
+          sym (first-pass (tableVerdict t) _ (Done 0) on-table ∙ first-pass (stateVerdict t b) _ (Done 0) on-state
+          ∙ rw (unless-stop room NoRoom 0 (not-true room n)) (first-stop (Refused NoRoom 0) _ (Done 0) (refused-stops NoRoom 0)))
 
-      module _ (yes2 : not r ≡ false) where
-        on-state : passes (stateVerdict t b) ≡ true
-        on-state = sym (ap passes g) ∙ sym h ∙ not-false r yes2
+      pub last-request : not room ≡ false → (x : Verdict) → x ≡ requestVerdict (station t) (entries t b) q → x ≡ stagesVerdict room t b q
+      unfolding stagesVerdict requestStage statusOf
+      last-request n x k =
+          k ∙ sym (first-pass (tableVerdict t) _ (Done 0) on-table ∙ first-pass (stateVerdict t b) _ (Done 0) on-state
+          ∙ rw (unless-of room NoRoom 0 (not-false room n)) (first-pass (Done 0) _ (Done 0) (done-passes 0))
+          ∙ request-alone (station t) (entries t b) q)
 
-        pub request-asks : Ready t b
-        request-asks = ready-of t b on-table on-state
-
-        pub stop-room : not room ≡ true → Refused NoRoom 0 ≡ stagesVerdict room t b q
-        unfolding stagesVerdict
-        stop-room n =
-            sym (first-pass (tableVerdict t) _ (Done 0) on-table ∙ first-pass (stateVerdict t b) _ (Done 0) on-state
-            ∙ rw (unless-stop room NoRoom 0 (not-true room n)) (first-stop (Refused NoRoom 0) _ (Done 0) (refused-stops NoRoom 0)))
-
-        pub last-request : not room ≡ false → (x : Verdict) → x ≡ requestVerdict (station t) (entries t b) q → x ≡ stagesVerdict room t b q
-        unfolding stagesVerdict requestStage statusOf
-        last-request n x k =
-            k ∙ sym (first-pass (tableVerdict t) _ (Done 0) on-table ∙ first-pass (stateVerdict t b) _ (Done 0) on-state
-            ∙ rw (unless-of room NoRoom 0 (not-false room n)) (first-pass (Done 0) _ (Done 0) (done-passes 0))
-            ∙ request-alone (station t) (entries t b) q)
-
--- h: whether the header is good
-pub stop-header : (t b : List ℕ) (q : Request) (room h : Bool) → h ≡ headerGood t → not h ≡ true
-    → Refused NotATable 0 ≡ stagesVerdict room t b q
-stop-header t b q room h e n = stop-table t b q room (Refused NotATable 0) false (no-table t h e n) (sym (refused-stops NotATable 0)) refl
-
-pub ruleset in-turn = (stop-table, state-asks, stop-state, request-asks, stop-room, last-request)
+pub ruleset in-turn = (stop-table, table-passed, stop-state, request-asks, stop-room, last-request)

@@ -1,10 +1,15 @@
 -- What is no table is told so; the rest answers for the others.
-use Rattle.table.proofs.Verdicts.{header-passed}
-use Rattle.request.proofs.Chain.{stop-header}
+use Rattle.request.proofs.Chain.{in-turn}
 use borrow.Author.Needs.{needs}
 use Rattle.request.proofs.stages.verdict.Statement.{statement}
 use Rattle.request.proofs.stages.verdict.Tie as tie
 
 pub verdict-spec : {M : Type 1} → statement M
-verdict-spec = tie.close (tie.spec (λ c κs. search needs) (λ c. search (needs, stop-header)) (λ c κs. search (needs, header-passed))
+verdict-spec =
+    tie.close
+    (tie.spec
+    (λ c κs. search needs)
+    (λ c κs. search needs)
+    (λ c. search (needs, in-turn))
+    (λ c κs. search (needs, in-turn))
     (λ c. search needs))
