@@ -6,8 +6,9 @@ use Prim.Native.Nat.{ℕ, _*_, _≤_, _<_}
 use native.Mathlib.Omega.{arith}
 use borrow.Author.Tests.{leb-true, not-true, not-false}
 use lib.Dec.{leb}
-use lib.ListN.{length}
-use Rattle.words.specs.Words.{put}
+use lib.ListN.{length, take}
+use Rattle.words.specs.Words.{put, wordBytes}
+use Rattle.words.proofs.Put.{take-put}
 use Rattle.rules.specs.declared.Change.{Change}
 use Rattle.rules.specs.declared.Request.{Request}
 use Rattle.rules.specs.declared.State.{State}
@@ -17,13 +18,14 @@ use Rattle.rules.specs.Answers.{passes}
 use Rattle.rules.specs.Station.{width, limit, station}
 use Rattle.rules.specs.Status.{Status, status}
 use Rattle.rules.specs.Calls.{turnOn, turnOff, calls, changeOf}
-use Rattle.rules.specs.Outcomes.{Outcome, outcome, planRoom, planned, stagesVerdict, planVerdict, stateAfter}
+use Rattle.rules.specs.Outcomes.{Outcome, outcome, planRoom, planned, stagesVerdict, planVerdict, stateAfter, planWords, planBytes}
 use Rattle.rules.proofs.Answers.{done-passes, first-pass, first-stop, first-none}
+use Rattle.table.specs.Layout.{WellSized}
 use Rattle.status.specs.State.{loadState, storeState, withEntry}
 use Rattle.status.specs.Ready.{statusWith}
 use Rattle.status.proofs.Written.{after-image}
 use Rattle.request.specs.Permitted.{PermittedRequest}
-use Rattle.request.proofs.Changes.{status-with}
+use Rattle.request.proofs.Changes.{status-with, on-small}
 use Rattle.laws.proofs.Stages.{room-passed}
 use Rattle.planner.specs.Plan.{changeWords, changedState, Written}
 
@@ -34,7 +36,7 @@ unfolding changedState
 changed-is st entered d c e = rw e refl
 
 -- ---- the words and the state of a permitted request, from the values as the code has them
-module _ (t b : List ℕ) (q : Request) (g : PermittedRequest t b q) (on : ℕ) (c : Change) (h : on ≡ status t b .on)
+module _ (t b : List ℕ) (q : Request) (on : ℕ) (c : Change) (h : on ≡ status t b .on)
     (i : c ≡ changeOf (station t) (statusWith t b on) q) where
   change-is : c ≡ changeOf (station t) (status t b) q
   change-is = i ∙ ap (λ (st : Status). changeOf (station t) st q) (status-with t b on h)
@@ -43,17 +45,21 @@ module _ (t b : List ℕ) (q : Request) (g : PermittedRequest t b q) (on : ℕ) 
   unfolding changeWords planned calls turnOn turnOff
   words-are = rw change-is refl
 
-  pub plan-written : (before after : State) (n : ℕ) (b′ plan plan′ : List ℕ) → before ≡ loadState b
-      → after ≡ changedState before (q .device) c
-      → (n ≡ length (changeWords (station t) c)) × (plan′ ≡ put plan 0 (changeWords (station t) c)) → b′ ≡ storeState after
-      → Written t b q plan n b′ plan′
-  unfolding changedState
-  plan-written before after n b′ plan plan′ l m w s =
-      let image : storeState after ≡ stateAfter t b q =
-      ap storeState (m ∙ rw l refl)
-      ∙ after-image t b q (c .entry) (c .needed) (g .long) (omega (arith, g .device, g .ready .sized .devices))
-      (ap (λ (x : Change). x .entry) change-is) (ap (λ (x : Change). x .needed) change-is) in
-      record { count = w .0 ∙ ap length words-are; state = s ∙ image; words = w .1 ∙ ap (put plan 0) words-are }
+-- what is known of each value comes before what it is made of, so that the search finds the values in turn
+pub plan-written : (t b : List ℕ) (q : Request) (n : ℕ) (b′ plan plan′ : List ℕ) (after : State) → b′ ≡ storeState after
+    → (before : State) (c : Change) → after ≡ changedState before (q .device) c → before ≡ loadState b
+    → (on : ℕ) → c ≡ changeOf (station t) (statusWith t b on) q → on ≡ status t b .on
+    → n ≡ length (changeWords (station t) c) → plan′ ≡ put plan 0 (changeWords (station t) c) → PermittedRequest t b q
+    → Written t b q plan n b′ plan′
+unfolding changedState
+plan-written t b q n b′ plan plan′ after s before c m l on i h k w g =
+    let same = change-is t b q on c h i in
+    let image : storeState after ≡ stateAfter t b q =
+    ap storeState (m ∙ rw l refl)
+    ∙ after-image t b q (c .entry) (c .needed) (g .long) (omega (arith, g .device, g .ready .sized .devices))
+    (ap (λ (x : Change). x .entry) same) (ap (λ (x : Change). x .needed) same) in
+    let are = words-are t b q on c h i in
+    record { count = k ∙ ap length are; state = s ∙ image; words = w ∙ ap (put plan 0) are }
 
 -- ---- what the code asks of its parts
 pub image-132 : (t b : List ℕ) (q : Request) → PermittedRequest t b q → length b ≡ 132
@@ -64,35 +70,71 @@ pub device-32 : (t b : List ℕ) (q : Request) → PermittedRequest t b q → q 
 unfolding width
 device-32 t b q g = omega (arith, g .device, g .ready .sized .devices)
 
--- the request is refused, or there is room: for the words of a plan, or for four bytes each
-module _ (t b : List ℕ) (q : Request) (n m : ℕ) (v : Verdict) (p : Bool) (e : n ≡ planRoom (width t)) where
-  pub room-there : v ≡ stagesVerdict (leb n m) t b q → p ≡ passes v → not p ≡ false → planRoom (width t) ≤ m
-  room-there f h k = rw e at (leb-true n m (room-passed (leb n m) t b q (sym (ap passes f) ∙ sym h ∙ not-false p k)))
+pub sized-table : (t b : List ℕ) (q : Request) → PermittedRequest t b q → WellSized t
+sized-table t b q g = g .ready .sized
 
-  pub room-bytes : v ≡ stagesVerdict (leb (4 * n) m) t b q → p ≡ passes v → not p ≡ false → 4 * planRoom (width t) ≤ m
-  room-bytes f h k = rw e at (leb-true (4 * n) m (room-passed (leb (4 * n) m) t b q (sym (ap passes f) ∙ sym h ∙ not-false p k)))
+pub ruleset writing = (image-132, device-32, sized-table, on-small)
 
--- ---- the outcome, whatever an accepted request writes into the plan: words, or their bytes
-module _ (t b : List ℕ) (q : Request) (room : Bool) (v : Verdict) (p : Bool) (e : v ≡ stagesVerdict room t b q) (f : p ≡ passes v) where
-  refused-verdict : not p ≡ true → planVerdict room t b q ≡ v
-  unfolding planVerdict
-  refused-verdict n = first-stop (stagesVerdict room t b q) [] _ (sym (ap passes e) ∙ sym f ∙ not-true p n) ∙ sym e
+-- ---- the outcome: what v, b′ and plan′ are as parts of it
+pub record Answered (v : Verdict) (b′ plan′ : List ℕ) (o : Outcome) : Type 0 where
+  pub verdict : v ≡ o .verdict
+  pub state : b′ ≡ o .state
+  pub plan : plan′ ≡ o .plan
 
-  done-verdict : not p ≡ false → planVerdict room t b q ≡ Done (length (planned t b q))
-  unfolding planVerdict
-  done-verdict n = first-pass (stagesVerdict room t b q) [] _ (sym (ap passes e) ∙ sym f ∙ not-false p n) ∙ first-none _
+pub parts : {v : Verdict} {b plan : List ℕ} {o : Outcome} → Answered v b plan o → (v ≡ o .verdict) × (b ≡ o .state) × (plan ≡ o .plan)
+parts a = (a .verdict, a .state, a .plan)
 
-  module _ (plan written : List ℕ) where
-    abbrev out : Outcome
-    out = outcome (planVerdict room t b q) b plan (stateAfter t b q) written
+-- whatever an accepted request writes into the plan: words, or their bytes. v is the answer of the stages, p whether it passes
+module _ (t b : List ℕ) (q : Request) (room : Bool) (v : Verdict) (p : Bool) (e : v ≡ stagesVerdict room t b q) (f : p ≡ passes v)
+    (plan written : List ℕ) where
+  refused-outcome : not p ≡ true → Answered v b plan (outcome (planVerdict room t b q) b plan (stateAfter t b q) written)
+  unfolding planVerdict outcome
+  refused-outcome n =
+      let stop : passes v ≡ false = sym f ∙ not-true p n in
+      let same : planVerdict room t b q ≡ v = first-stop (stagesVerdict room t b q) [] _ (sym (ap passes e) ∙ stop) ∙ sym e in
+      let no : passes (planVerdict room t b q) ≡ false = ap passes same ∙ stop in
+      record { verdict = sym same; state = rw no refl; plan = rw no refl }
 
-    pub plan-refused : not p ≡ true → (v ≡ out .verdict) × (b ≡ out .state) × (plan ≡ out .plan)
-    unfolding outcome
-    plan-refused n =
-        let no : passes (planVerdict room t b q) ≡ false = ap passes (refused-verdict n) ∙ sym f ∙ not-true p n in
-        (sym (refused-verdict n), rw no refl, rw no refl)
+  done-outcome : not p ≡ false → (n : ℕ) (b′ : List ℕ) → n ≡ length (planned t b q) → b′ ≡ stateAfter t b q
+      → Answered (Done n) b′ written (outcome (planVerdict room t b q) b plan (stateAfter t b q) written)
+  unfolding planVerdict outcome passes
+  done-outcome n k b′ c s =
+      let done : planVerdict room t b q ≡ Done (length (planned t b q)) =
+      first-pass (stagesVerdict room t b q) [] _ (sym (ap passes e) ∙ sym f ∙ not-false p n) ∙ first-none _ in
+      record { verdict = rw (done, c) refl; state = rw done s; plan = rw done refl }
 
-    pub plan-accepted : not p ≡ false → (n : ℕ) (b′ plan′ : List ℕ) → n ≡ length (planned t b q) → b′ ≡ stateAfter t b q → plan′ ≡ written
-        → (Done n ≡ out .verdict) × (b′ ≡ out .state) × (plan′ ≡ out .plan)
-    unfolding outcome passes
-    plan-accepted n k b′ plan′ c s w = (rw (done-verdict n, c) refl, rw (done-verdict n) s, rw (done-verdict n) w)
+-- n: the room that a plan must have, in words
+module _ (t b : List ℕ) (q : Request) (plan : List ℕ) (n : ℕ) (i : n ≡ planRoom (width t)) (v : Verdict) (p : Bool) (f : p ≡ passes v) where
+  -- a plan of words
+  module _ (e : v ≡ stagesVerdict (leb n (length plan)) t b q) where
+    pub room-there : not p ≡ false → planRoom (width t) ≤ length plan
+    room-there k = rw i at (leb-true n _ (room-passed (leb n (length plan)) t b q (sym (ap passes e) ∙ sym f ∙ not-false p k)))
+
+    pub words-refused : not p ≡ true → Answered v b plan (planWords t b q plan)
+    unfolding planWords
+    words-refused k = refused-outcome t b q _ v p (rw i at e) f plan _ k
+
+    pub words-planned : not p ≡ false → (k : ℕ) (b′ plan′ : List ℕ) → Written t b q plan k b′ plan′
+        → Answered (Done k) b′ plan′ (planWords t b q plan)
+    unfolding planWords
+    words-planned h k b′ plan′ w = rw (w .words) (done-outcome t b q _ v p (rw i at e) f plan _ h k b′ (w .count) (w .state))
+
+  -- a plan of bytes
+  module _ (e : v ≡ stagesVerdict (leb (4 * n) (length plan)) t b q) where
+    pub room-bytes : not p ≡ false → 4 * planRoom (width t) ≤ length plan
+    room-bytes k = rw i at (leb-true (4 * n) _ (room-passed (leb (4 * n) (length plan)) t b q (sym (ap passes e) ∙ sym f ∙ not-false p k)))
+
+    pub bytes-refused : not p ≡ true → Answered v b plan (planBytes t b q plan)
+    unfolding planBytes
+    bytes-refused k = refused-outcome t b q _ v p (rw i at e) f plan _ k
+
+    pub bytes-planned : not p ≡ false → (k : ℕ) (b′ plan′ words words′ : List ℕ) → Written t b q words k b′ words′
+        → plan′ ≡ put plan 0 (wordBytes (take k words′)) → Answered (Done k) b′ plan′ (planBytes t b q plan)
+    unfolding planBytes
+    bytes-planned h k b′ plan′ words words′ w r =
+        let front : take k words′ ≡ planned t b q = rw (w .words) (take-put words (planned t b q) k (sym (w .count))) in
+        rw (r, front) (done-outcome t b q _ v p (rw i at e) f plan _ h k b′ (w .count) (w .state))
+
+pub ruleset of-words = (room-there, words-refused, words-planned)
+
+pub ruleset of-bytes = (room-bytes, bytes-refused, bytes-planned)

@@ -48,4 +48,5 @@ read-next from i n w e f h k = rw (add-one i, words-snoc i from, ← f, ← add-
 pub read-done : {d l : List ℕ} (from : List ℕ) (i n : ℕ) → Emitted d 0 (byteWords i from) l i → i ≤ n → n ≤ i
     → l ≡ put d 0 (byteWords n from)
 read-done from i n e h k = let q : i ≡ n = omega arith in rw q at (e .list)
+
 pub ruleset reading = (read-starts, read-next, read-done)
