@@ -103,13 +103,17 @@ module _ (t b : List ℕ) (q : Request) (room : Bool) (v : Verdict) (p : Bool) (
       first-pass (stagesVerdict room t b q) [] _ (sym (ap passes e) ∙ sym f ∙ not-false p n) ∙ first-none _ in
       record { verdict = rw (done, c) refl; state = rw done s; plan = rw done refl }
 
--- n: the room that a plan must have, in words
+-- n: the room that a plan must have, in words; m: the words or bytes that it has
+module _ (t b : List ℕ) (q : Request) (n m : ℕ) (i : n ≡ planRoom (width t)) (v : Verdict) (p : Bool) (f : p ≡ passes v) where
+  pub room-there : v ≡ stagesVerdict (leb n m) t b q → not p ≡ false → planRoom (width t) ≤ m
+  room-there e k = rw i at (leb-true n m (room-passed (leb n m) t b q (sym (ap passes e) ∙ sym f ∙ not-false p k)))
+
+  pub room-bytes : v ≡ stagesVerdict (leb (4 * n) m) t b q → not p ≡ false → 4 * planRoom (width t) ≤ m
+  room-bytes e k = rw i at (leb-true (4 * n) m (room-passed (leb (4 * n) m) t b q (sym (ap passes e) ∙ sym f ∙ not-false p k)))
+
 module _ (t b : List ℕ) (q : Request) (plan : List ℕ) (n : ℕ) (i : n ≡ planRoom (width t)) (v : Verdict) (p : Bool) (f : p ≡ passes v) where
   -- a plan of words
   module _ (e : v ≡ stagesVerdict (leb n (length plan)) t b q) where
-    pub room-there : not p ≡ false → planRoom (width t) ≤ length plan
-    room-there k = rw i at (leb-true n _ (room-passed (leb n (length plan)) t b q (sym (ap passes e) ∙ sym f ∙ not-false p k)))
-
     pub words-refused : not p ≡ true → Answered v b plan (planWords t b q plan)
     unfolding planWords
     words-refused k = refused-outcome t b q _ v p (rw i at e) f plan _ k
@@ -121,9 +125,6 @@ module _ (t b : List ℕ) (q : Request) (plan : List ℕ) (n : ℕ) (i : n ≡ p
 
   -- a plan of bytes
   module _ (e : v ≡ stagesVerdict (leb (4 * n) (length plan)) t b q) where
-    pub room-bytes : not p ≡ false → 4 * planRoom (width t) ≤ length plan
-    room-bytes k = rw i at (leb-true (4 * n) _ (room-passed (leb (4 * n) (length plan)) t b q (sym (ap passes e) ∙ sym f ∙ not-false p k)))
-
     pub bytes-refused : not p ≡ true → Answered v b plan (planBytes t b q plan)
     unfolding planBytes
     bytes-refused k = refused-outcome t b q _ v p (rw i at e) f plan _ k
@@ -134,7 +135,3 @@ module _ (t b : List ℕ) (q : Request) (plan : List ℕ) (n : ℕ) (i : n ≡ p
     bytes-planned h k b′ plan′ words words′ w r =
         let front : take k words′ ≡ planned t b q = rw (w .words) (take-put words (planned t b q) k (sym (w .count))) in
         rw (r, front) (done-outcome t b q _ v p (rw i at e) f plan _ h k b′ (w .count) (w .state))
-
-pub ruleset of-words = (room-there, words-refused, words-planned)
-
-pub ruleset of-bytes = (room-bytes, bytes-refused, bytes-planned)

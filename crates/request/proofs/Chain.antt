@@ -9,17 +9,17 @@ use Rattle.rules.specs.declared.Entry.{Entry}
 use Rattle.rules.specs.declared.Request.{Request}
 use Rattle.rules.specs.declared.Verdict.{Verdict}
 use Rattle.rules.specs.declared.Verdict.the-variants.{Done, Refused}
-use Rattle.rules.specs.declared.Reason.the-variants.{NoRoom}
+use Rattle.rules.specs.declared.Reason.the-variants.{NotATable, NoRoom}
 use Rattle.rules.specs.Answers.{passes, firstOf}
 use Rattle.rules.specs.Station.{Station, station}
-use Rattle.rules.specs.Table.{tableVerdict}
+use Rattle.rules.specs.Table.{headerGood, tableVerdict}
 use Rattle.rules.specs.Status.{statusOf, entries, stateVerdict}
 use Rattle.rules.specs.Request.{requestVerdict}
 use Rattle.rules.specs.Outcomes.{requestStage, stagesVerdict}
 use Rattle.rules.proofs.Answers.{done-passes, refused-stops, first-pass, first-stop, first-through, first-alone, unless-of, unless-stop}
 use Rattle.laws.proofs.Accepted.{accepted}
 use Rattle.laws.proofs.States.{consistent-of}
-use Rattle.table.proofs.Verdicts.{sized-of}
+use Rattle.table.proofs.Verdicts.{sized-of, no-table}
 use Rattle.status.specs.Ready.{Ready}
 
 -- a table that passes is done
@@ -56,6 +56,11 @@ module _ (t : List ℕ) (v : Verdict) (p : Bool) (e : v ≡ tableVerdict t) (f :
 
   pub table-passed : not p ≡ false → tableVerdict t ≡ Done 0
   table-passed n = table-done t (passed v _ p e f n)
+
+-- h: whether the header is good
+pub stop-header : (t b : List ℕ) (q : Request) (room h : Bool) → h ≡ headerGood t → not h ≡ true
+    → Refused NotATable 0 ≡ stagesVerdict room t b q
+stop-header t b q room h e n = stop-table t (Refused NotATable 0) false (no-table t h e n) (sym (refused-stops NotATable 0)) b q room refl
 
 -- ---- after it, the state's. What a stage asks names neither request nor room, so its law has neither
 module _ (t b : List ℕ) (done : tableVerdict t ≡ Done 0) (u : Verdict) (r : Bool) (g : u ≡ stateVerdict t b) (h : r ≡ passes u) where

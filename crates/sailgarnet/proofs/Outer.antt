@@ -8,7 +8,7 @@ use borrow.Author.Tests.{eq-eqb, ne-eqb}
 use lib.Dec.{eqb}
 use lib.ListN.{length, take}
 use Rattle.sets.proofs.Laws.{decide, minus-lt}
-use Rattle.words.specs.Words.{put, wordBytes, byteWords}
+use Rattle.words.specs.Words.{put, byteWords}
 use Rattle.words.proofs.Laws.{byte-words-length}
 use Rattle.words.proofs.Put.{length-put, take-put}
 use Rattle.rules.specs.declared.Request.{Request}
@@ -87,18 +87,20 @@ words-read d list ws n e =
 
 pub ruleset lists = (odd-list, long-list, list-is, words-read)
 
--- ---- the planner's words as bytes
-pub written-bytes : (t b : List ℕ) (q : Request) (plan : List ℕ) (n : ℕ) (b′ words words′ plan′ : List ℕ) → Written t b q words n b′ words′
-    → plan′ ≡ put plan 0 (wordBytes (take n words′))
-    → plan′ ≡ put plan 0 (wordBytes (planned t b q))
-written-bytes t b q plan n b′ words words′ plan′ c w =
-    let front : take n words′ ≡ planned t b q = rw (c .words) (take-put words (planned t b q) n (sym (c .count))) in
-    w ∙ ap (λ (l : List ℕ). put plan 0 (wordBytes l)) front
+-- ---- the planner's words as bytes: they fit the buffer of words that they are written into, and the lent bytes
+pub room-words : (t words : List ℕ) → length words ≡ 33 → planRoom (width t) ≤ length words
+room-words t words h = omega (arith, room-33 t)
 
--- they fit the buffer that they were written into
-pub written-fits : (t b : List ℕ) (q : Request) → PermittedRequest t b q → (n : ℕ) (b′ words words′ : List ℕ)
-    → Written t b q words n b′ words′ → length words ≡ 33 → (n ≤ 33) × (length words′ ≡ 33)
-written-fits t b q g n b′ words words′ c l =
-    let short = planned-short t b q (stages-of true t b q (g .passed)) in
-    let room = room-33 t in
-    (omega (arith, c .count), ap length (c .words) ∙ length-put words 0 (planned t b q) (omega arith) ∙ l)
+module _ (t b : List ℕ) (q : Request) (g : PermittedRequest t b q) (n : ℕ) (b′ words words′ : List ℕ) (w : Written t b q words n b′ words′)
+  where
+    pub count-33 : n ≤ 33
+    count-33 = omega (arith, w .count, room-33 t, planned-short t b q (stages-of true t b q (g .passed)))
+
+    pub words-33 : length words ≡ 33 → n ≤ length words′
+    words-33 l =
+        let short = planned-short t b q (stages-of true t b q (g .passed)) in
+        let same = ap length (w .words) ∙ length-put words 0 (planned t b q) (omega (arith, room-33 t)) in
+        omega (arith, same, count-33)
+
+    pub bytes-132 : (m : ℕ) → 4 * planRoom (width t) ≤ m → 4 * n ≤ m
+    bytes-132 m h = omega (arith, count-33, room-33 t)

@@ -1,4 +1,5 @@
-// Plans and lists as bytes, four a word, lowest first.
+// Plans and lists as bytes, four a word, lowest first. The stages are asked one after the other, so that what is no table is refused before
+// anything else is called.
 use rules::Reason;
 use rules::Request;
 use rules::Verdict;
@@ -45,11 +46,15 @@ pub fn plan_bytes(table: &[u8], state: &mut [u8], q: Request, plan: &mut [u8]) -
         × (now (state .exit) ≡ planBytes (now (table .entry)) (now (state .entry)) q (now (plan .entry)) .state)
         × (now (plan .exit) ≡ planBytes (now (table .entry)) (now (state .entry)) q (now (plan .entry)) .plan) ⌝ }
 {
+    let room = plan.len() >= 4 * planner::plan::room(table);
     if !table::header_good(table) {
         return Verdict::Refused(Reason::NotATable, 0);
     }
-    let room = plan.len() >= 4 * planner::plan::room(table);
-    let v = request::stages::past_header(table, state, room, q);
+    let of_table = table::check_past_header(table);
+    if !rules::passes(of_table) {
+        return of_table;
+    }
+    let v = request::stages::past_table(table, state, room, q);
     if !rules::passes(v) {
         return v;
     }
@@ -85,7 +90,11 @@ pub fn check_bytes(table: &[u8], state: &[u8], q: Request, list: &[u8]) -> Verdi
     if !table::header_good(table) {
         return Verdict::Refused(Reason::NotATable, 0);
     }
-    let v = request::stages::past_header(table, state, true, q);
+    let of_table = table::check_past_header(table);
+    if !rules::passes(of_table) {
+        return of_table;
+    }
+    let v = request::stages::past_table(table, state, true, q);
     if !rules::passes(v) {
         return v;
     }

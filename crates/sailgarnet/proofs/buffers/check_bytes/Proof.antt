@@ -7,7 +7,7 @@ use Rattle.rules.specs.declared.Reason.the-variants.{NotATable}
 use Rattle.rules.proofs.Answers.{refused-stops}
 use Rattle.laws.proofs.Bytes.{demand3-bytes}
 use Rattle.table.proofs.Verdicts.{header-passed}
-use Rattle.request.proofs.Chain.{stop-header}
+use Rattle.request.proofs.Chain.{stop-header, stop-table, table-passed}
 use Rattle.request.proofs.Changes.{permitted-by}
 use Rattle.checker.proofs.Answer.{of-bytes, bytes-refused}
 use Rattle.sailgarnet.proofs.buffers.check_bytes.Statement.{statement}
@@ -20,9 +20,6 @@ returns c = (
   demand3-bytes _ _ _ _,
 )
 
-conforming-requires : tie.Need-conforming-requires
-conforming-requires c κs = permitted-by _ _ _ _ _ _ (c .before .before .past-header .ensures) (c .before .passes .ensures) (c .if2 .left)
-
 pub check-bytes-spec : {M : Type 1} → statement M
 check-bytes-spec =
     tie.close
@@ -31,7 +28,10 @@ check-bytes-spec =
     returns
     (λ c κs. search (needs, header-passed))
     (λ c κs. search needs)
+    (λ c. search (needs, of-bytes, stop-table, demand3-bytes))
+    (λ c κs. search (needs, table-passed))
+    (λ c κs. search needs)
     (λ c. search (needs, of-bytes, demand3-bytes))
-    conforming-requires
+    (λ c κs. permitted-by _ _ _ _ _ _ (c .before .before .past-table .ensures) (c .before .passes2 .ensures) (c .if3 .left))
     (λ c. search (needs, of-bytes, demand3-bytes))
     (λ c. search (needs, of-bytes, demand3-bytes)))
