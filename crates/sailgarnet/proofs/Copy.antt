@@ -14,17 +14,23 @@ pub write-starts : (d from : List ℕ) → Emitted d 0 (wordBytes (take 0 from))
 unfolding wordBytes
 write-starts d from = emitted-none d 0
 
-pub write-next : (d l l′ from : List ℕ) (i : ℕ) → Emitted d 0 (wordBytes (take i from)) l (4 * i) → i < length from → 4 * i + 4 ≤ length d
-    → l′ ≡ put l (4 * i) (bytesLE 4 (getD from i 0))
-    → Emitted d 0 (wordBytes (take (i + 1) from)) l′ (4 * (i + 1))
-write-next d l l′ from i e h k p =
-    let w = bytesLE 4 (getD from i 0) in
-    let n = bytes-length 4 (getD from i 0) in
-    rw (word-bytes-one from i h) (emitted-run w e (omega arith, p) (omega arith))
+-- a turn: the next word has room, and is put after those that stand there
+module _ (d l from : List ℕ) (i n : ℕ) (e : Emitted d 0 (wordBytes (take i from)) l (4 * i)) (h : i < n) (k : 4 * n ≤ length d) where
+  pub write-room : 4 * i + 4 ≤ length l
+  write-room = omega (arith, e .long)
+
+  pub write-next : (l′ : List ℕ) → n ≤ length from → l′ ≡ put l (4 * i) (bytesLE 4 (getD from i 0))
+      → Emitted d 0 (wordBytes (take (i + 1) from)) l′ (4 * (i + 1))
+  write-next l′ m p =
+      let w = bytesLE 4 (getD from i 0) in
+      let size = bytes-length 4 (getD from i 0) in
+      rw (word-bytes-one from i (omega arith)) (emitted-run w e (omega arith, p) (omega arith))
 
 pub write-done : (d l from : List ℕ) (i n : ℕ) → Emitted d 0 (wordBytes (take i from)) l (4 * i) → i ≤ n → n ≤ i
     → l ≡ put d 0 (wordBytes (take n from))
 write-done d l from i n e h k = let q : i ≡ n = omega arith in rw q at (e .list)
+
+pub ruleset writing = (write-starts, write-room, write-next, write-done)
 
 -- ---- bytes into words
 words-snoc : (n : ℕ) (s : List ℕ) → byteWords (suc n) s ≡ byteWords n s ++ readLE 4 s (4 * n) ∷ []
