@@ -3,10 +3,9 @@
 use mathlib.Core.Path.{_≡_, refl, ap, _∙_}
 use mathlib.Core.Bool.{Bool, true, false}
 use mathlib.Core.List.{List, _++_, map}
-use mathlib.Core.Logic.{⊎-elim}
 use Prim.Native.Nat.{ℕ, _+_, _*_, _/_, _%_, _^_, _≤_, _<_}
 use native.Mathlib.Omega.{arith}
-use borrow.Author.Tests.{eqb-true, eq-eqb, leb-true, ltb-true, ltb-false}
+use borrow.Author.Tests.{eqb-true, eq-eqb, ltb-true, ltb-false}
 use lib.Dec.{eqb, leb, ltb}
 use lib.ListN.{length, getD, take, List·getD-eq-default}
 use Rattle.sets.proofs.Laws.{decide, minus-lt}
@@ -21,7 +20,7 @@ use Rattle.rules.specs.Answers.{numberOf, countOf, passes}
 use Rattle.rules.specs.Station.{Station, width, limit, stationOf, station}
 use Rattle.rules.specs.declared.Entry.{Entry}
 use Rattle.rules.specs.Status.{status}
-use Rattle.rules.specs.Request.{formGood}
+use Rattle.rules.specs.Request.{isMove, isArm, formGood}
 use Rattle.rules.specs.Calls.{wordOf, listOf, only, methodFor, moveCall, wakeCall, ownCall, ownLast, toTurnOn, toTurnOff, calls}
 use Rattle.rules.specs.Check.{onWord, offWord, ownFirstCalls, ownLastCalls}
 use Rattle.rules.specs.Outcomes.{outcome, planRoom, planned, planBytes, checkWords, checkBytes}
@@ -32,7 +31,7 @@ use Rattle.laws.specs.Demand3.{Demand3Bytes}
 use Rattle.laws.proofs.Tests.{both-true}
 use Rattle.laws.proofs.All.{all-append, all-at, all-map, all-imp}
 use Rattle.laws.proofs.Accepted.{accepted}
-use Rattle.laws.proofs.States.{Kinds, kinds, form-passed, form-device}
+use Rattle.laws.proofs.States.{small, form-passed, form-device}
 use Rattle.laws.proofs.Stages.{Stages, plan-stages, plan-done}
 use Rattle.laws.proofs.Conform.{planner-conforms}
 use Rattle.laws.proofs.Arrange.{arranged-words, conforms-arranged}
@@ -51,15 +50,14 @@ method-small : (x : ℕ) → x ≤ 4 → methodFor x ≤ 4
 unfolding methodFor
 method-small x h = decide (eqb x 4) (λ e. rw e (omega arith)) (λ e. rw e h)
 
-own-fits : (s : Station) (e : Entry) (q : Request) → q .device < 256 → Kinds q → All Fits (map wordOf (listOf (ownCall s e q)))
-unfolding ownCall moveCall wakeCall Kinds
-own-fits s e q d k =
-    ⊎-elim (λ m. rw (m .0) (only-fits _ (SetState (q .device) (methodFor (q .a)))
-    (omega (arith, method-small (q .a) (leb-true _ _ (m .1))))))
-    (λ n. ⊎-elim
-    (λ m. rw (m .0, m .1) (only-fits _ (SetWake (q .device) (Enable (q .a) (q .b)))
-    (omega (arith, leb-true (q .a) 4 (m .2), leb-true (q .b) 4 (m .3)))))
-    (λ m. rw (m .0, m .1) (only-fits _ (SetWake (q .device) Disable) (omega arith))) n) k
+own-fits : (s : Station) (e : Entry) (q : Request) → q .device < 256 → q .a ≤ 4 → q .b ≤ 4 → All Fits (map wordOf (listOf (ownCall s e q)))
+unfolding ownCall moveCall wakeCall
+own-fits s e q d a b =
+    decide (isMove q)
+    (λ m. rw m (only-fits _ (SetState (q .device) (methodFor (q .a))) (omega (arith, method-small (q .a) a))))
+    (λ m. decide (isArm q)
+    (λ n. rw (m, n) (only-fits _ (SetWake (q .device) (Enable (q .a) (q .b))) (omega arith)))
+    (λ n. rw (m, n) (only-fits _ (SetWake (q .device) Disable) (omega arith))))
 
 module _ (t b : List ℕ) (q : Request) (g : Stages t b q) where
   form : formGood (station t) q ≡ true
@@ -68,8 +66,8 @@ module _ (t b : List ℕ) (q : Request) (g : Stages t b q) where
   own : All Fits (map wordOf (listOf (ownCall (station t) (status t b .entries (q .device)) q)))
   own =
       let most : station t .devices ≤ limit (width t) = unfold stationOf in accepted t (g .table) .devices in
-      own-fits (station t) (status t b .entries (q .device)) q (omega (arith, form-device (station t) q form, width-wide t .high))
-      (kinds (station t) q form)
+      let n = small (station t) q form in
+      own-fits (station t) (status t b .entries (q .device)) q (omega (arith, form-device (station t) q form, width-wide t .high)) (n .0) (n .1)
 
   own-first : All Fits (map wordOf (ownFirstCalls (station t) (status t b) q))
   unfolding ownFirstCalls All

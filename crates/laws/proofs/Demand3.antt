@@ -1,8 +1,8 @@
 -- Demand 3 holds of every list: from the equivalence of test and definition, the execution theorem, and what accepted tables and states
 -- give.
 use mathlib.Core.Path.{_≡_, refl, sym, ap, _∙_}
-use mathlib.Core.Bool.{Bool, true, false, _&&_, true≢false}
-use mathlib.Core.List.{List, [], _∷_, _++_, map, append-nil}
+use mathlib.Core.Bool.{true, false, _&&_, true≢false}
+use mathlib.Core.List.{List, _++_, map, append-nil}
 use mathlib.Core.Logic.{_↔_, ⊎-elim}
 use Prim.Native.Nat.{ℕ, _+_, _^_, _≤_, _<_}
 use native.Mathlib.Omega.{arith}
@@ -23,12 +23,12 @@ use Rattle.rules.specs.Station.{Station, width, stationOf, station}
 use Rattle.rules.specs.declared.Entry.{Entry}
 use Rattle.rules.specs.Power.{needs, needed}
 use Rattle.rules.specs.Status.{status}
-use Rattle.rules.specs.Request.{requestVerdict, entriesAfter}
+use Rattle.rules.specs.Request.{entriesAfter}
 use Rattle.rules.specs.Calls.{wordOf, listOf, ownCall, ownLast, endSet, toTurnOn, toTurnOff}
 use Rattle.rules.specs.Conforms.{Conforms}
 use Rattle.rules.specs.Check.{conforming, ownFirstCalls, ownLastCalls, onWord, offWord}
 use Rattle.rules.specs.Execution.{execution}
-use Rattle.rules.specs.Outcomes.{outcome, planRoom, planned, planVerdict, planWords, checkWords}
+use Rattle.rules.specs.Outcomes.{outcome, planRoom, planned, planWords, checkWords}
 use Rattle.rules.proofs.Answers.{first-both, done-passes, no-reason-0, unless-at, unless-of}
 use Rattle.rules.proofs.Width.{width-wide}
 use Rattle.laws.specs.Carried.{All, Other, listed, Carried}

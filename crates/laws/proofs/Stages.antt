@@ -1,5 +1,5 @@
 -- The chain of checks that planner and checker share: it passes exactly if each stage does, and an accepted plan is done with its count.
-use mathlib.Core.Path.{_≡_, refl, _∙_}
+use mathlib.Core.Path.{_≡_, _∙_}
 use mathlib.Core.Bool.{Bool, true}
 use mathlib.Core.List.{List}
 use Prim.Native.Nat.{ℕ}

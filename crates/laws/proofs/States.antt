@@ -3,11 +3,11 @@
 use mathlib.Core.Path.{_≡_, refl, sym, _∙_}
 use mathlib.Core.Bool.{Bool, true, false, _&&_, _||_, true≢false}
 use mathlib.Core.List.{List}
-use mathlib.Core.Logic.{_⊎_, inl, inr, ⊎-elim}
+use mathlib.Core.Logic.{_⊎_, ⊎-elim}
 use Prim.Native.Nat.{ℕ, _*_, _^_, _≤_, _<_}
 use native.Mathlib.Omega.{arith}
 use native.Mathlib.Nat.{lt-of-lt-of-le}
-use borrow.Author.Tests.{eqb-true, eqb-false, eq-eqb, ltb-true, lt-ltb, not-false}
+use borrow.Author.Tests.{eqb-true, eqb-false, eq-eqb, leb-true, le-leb, ltb-true, lt-ltb, not-false}
 use lib.Dec.{eqb, ltb, leb}
 use lib.ListN.{length}
 use lib.Pow.{pow-mono}
@@ -124,26 +124,23 @@ pub form-device : (s : Station) (q : Request) → formGood s q ≡ true → q .d
 unfolding formGood
 form-device s q e = ltb-true _ _ (both-true _ _ e .0)
 
--- the three kinds of request
-unfoldable pub Kinds : Request → Type 0
-Kinds q =
-    ((isMove q ≡ true) × (leb (q .a) 4 ≡ true))
-    ⊎ (((isMove q ≡ false) × (isArm q ≡ true) × (leb (q .a) 4 ≡ true) × (leb (q .b) 4 ≡ true)) ⊎ ((isMove q ≡ false) × (isArm q ≡ false)))
-
-pub kinds : (s : Station) (q : Request) → formGood s q ≡ true → Kinds q
-unfolding formGood numbersGood Kinds
-kinds s q e =
+-- what a good form says of the two numbers
+pub small : (s : Station) (q : Request) → formGood s q ≡ true → (q .a ≤ 4) × (q .b ≤ 4)
+unfolding formGood numbersGood
+small s q e =
+    let move = isMove q && leb (q .a) 4 && eqb (q .b) 0 in
+    let arm = isArm q && leb (q .a) 4 && leb (q .b) 4 in
+    let disarm = isDisarm q && eqb (q .a) 0 && eqb (q .b) 0 in
     ⊎-elim
-    (λ x. ⊎-elim (λ m. let a = both-true (isMove q) (leb (q .a) 4) (both-true (isMove q && leb (q .a) 4)
-    (eqb (q .b) 0) m .0) in inl (a .0, a .1))
-    (λ m. let a = both-true (isArm q && leb (q .a) 4) (leb (q .b) 4) m in
-    let b = both-true (isArm q) (leb (q .a) 4) (a .0) in inr (inl (rw (eqb-true (q .kind) 2 (b .0)) refl, b .0, b .1, a .1)))
-    (or-cases (isMove q && leb (q .a) 4 && eqb (q .b) 0) (isArm q && leb (q .a) 4 && leb (q .b) 4) x))
-    (λ m. let b = both-true (isDisarm q) (eqb (q .a) 0) (both-true (isDisarm q && eqb (q .a) 0) (eqb (q .b) 0) m .0) in
-    inr (inr (rw (eqb-true (q .kind) 3 (b .0)) refl, rw (eqb-true (q .kind) 3 (b .0)) refl)))
-    (or-cases (isMove q && leb (q .a) 4 && eqb (q .b) 0 || isArm q && leb (q .a) 4 && leb (q .b) 4)
-    (isDisarm q && eqb (q .a) 0 && eqb (q .b) 0)
-    (both-true (ltb (q .device) (s .devices)) _ e .1))
+    (λ x. ⊎-elim
+    (λ m. let b = both-true (isMove q && leb (q .a) 4) (eqb (q .b) 0) m in
+    (leb-true _ _ (both-true (isMove q) (leb (q .a) 4) (b .0) .1), omega (arith, eqb-true (q .b) 0 (b .1))))
+    (λ m. let b = both-true (isArm q && leb (q .a) 4) (leb (q .b) 4) m in
+    (leb-true _ _ (both-true (isArm q) (leb (q .a) 4) (b .0) .1), leb-true _ _ (b .1)))
+    (or-cases move arm x))
+    (λ m. let b = both-true (isDisarm q && eqb (q .a) 0) (eqb (q .b) 0) m in
+    (omega (arith, eqb-true (q .a) 0 (both-true (isDisarm q) (eqb (q .a) 0) (b .0) .1)), omega (arith, eqb-true (q .b) 0 (b .1))))
+    (or-cases (move || arm) disarm (both-true (ltb (q .device) (s .devices)) (move || arm || disarm) e .1))
 
 -- five tests that hold, with the first exchanged for another that holds
 exchange : (x y b c d e : Bool) → y ≡ true → x && b && c && d && e ≡ true → y && b && c && d && e ≡ true
@@ -154,13 +151,14 @@ first-holds : (x b c d e : Bool) → x && b && c && d && e ≡ true → x ≡ tr
 first-holds true b c d e f = refl
 first-holds false b c d e f = f
 
-new-good : (e : Entry) (q : Request) → entryGood e ≡ true → Kinds q → entryGood (newEntry e q) ≡ true
-unfolding entryGood newEntry Kinds
-new-good e q g k =
-    let small : leb (e .state) 4 ≡ true = first-holds (leb (e .state) 4) (leb (e .armed) 1) (leb (e .sleep) 4) (leb (e .wake) 4) _ g in
-    ⊎-elim (λ m. rw (m .0) (exchange (leb (e .state) 4) (leb (q .a) 4) (leb (e .armed) 1) (leb (e .sleep) 4) (leb (e .wake) 4)
-    (eqb (e .armed) 1 || eqb (e .sleep) 0 && eqb (e .wake) 0) (m .1) g))
-    (λ n. ⊎-elim (λ m. rw (m .0, m .1, small, m .2, m .3) refl) (λ m. rw (m .0, m .1, small) refl) n) k
+new-good : (e : Entry) (q : Request) → entryGood e ≡ true → q .a ≤ 4 → q .b ≤ 4 → entryGood (newEntry e q) ≡ true
+unfolding entryGood newEntry
+new-good e q g a b =
+    let low : leb (e .state) 4 ≡ true = first-holds (leb (e .state) 4) (leb (e .armed) 1) (leb (e .sleep) 4) (leb (e .wake) 4) _ g in
+    decide (isMove q)
+    (λ m. rw m (exchange (leb (e .state) 4) (leb (q .a) 4) (leb (e .armed) 1) (leb (e .sleep) 4) (leb (e .wake) 4)
+    (eqb (e .armed) 1 || eqb (e .sleep) 0 && eqb (e .wake) 0) (le-leb (q .a) 4 a) g))
+    (λ m. decide (isArm q) (λ n. rw (m, n, low, le-leb (q .a) 4 a, le-leb (q .b) 4 b) refl) (λ n. rw (m, n, low) refl))
 
 entries-after : (n : ℕ) (s : Station) (entries : ℕ → Entry) (q : Request) → formGood s q ≡ true → entriesGood n s entries ≡ true
     → entriesGood n s (entriesAfter entries q) ≡ true
@@ -173,7 +171,7 @@ entries-after n s entries q f g =
     (λ z.
     let e : entriesAfter entries q k ≡ newEntry (entries k) q = rw (eqb-true k (q .device) z) (after-same entries q) in
     let l : ltb k (s .devices) ≡ true = lt-ltb k (s .devices) (rw (eqb-true k (q .device) z) (form-device s q f)) in
-    rw (e, l, new-good (entries k) q (a .0) (kinds s q f)) refl)
+    let n = small s q f in rw (e, l, new-good (entries k) q (a .0) (n .0) (n .1)) refl)
     (λ z. rw (after-other entries q k (eqb-false k (q .device) z)) (every-at _ n k g h)))
 
 pub after-status-consistent : (n : ℕ) (s : Station) (st : Status) (q : Request) → StationRules s → ConsistentStatus n s st

@@ -10,7 +10,7 @@ use Rattle.sets.specs.Sets.{member}
 use Rattle.sets.proofs.Laws.{decide}
 use Rattle.words.specs.Words.{put}
 use Rattle.words.proofs.Put.{put-none, put-put, length-put, sets-put}
-use Rattle.rules.specs.Station.{Station, width, limit, countR, stationOf, station}
+use Rattle.rules.specs.Station.{Station, width, countR, stationOf, station}
 use Rattle.rules.specs.declared.Call.{Call}
 use Rattle.rules.specs.declared.OptionalCall.{OptionalCall}
 use Rattle.rules.specs.declared.OptionalCall.the-variants.{Is, NoCall}

@@ -1,7 +1,7 @@
 -- The planner whole: the words and the state of an accepted request, and the outcome.
 use mathlib.Core.Path.{_≡_, refl, sym, ap, _∙_}
 use mathlib.Core.Bool.{Bool, true, false, not}
-use mathlib.Core.List.{List, [], _∷_}
+use mathlib.Core.List.{List, []}
 use Prim.Native.Nat.{ℕ, _*_, _≤_, _<_}
 use native.Mathlib.Omega.{arith}
 use borrow.Author.Tests.{leb-true, not-true, not-false}
@@ -15,11 +15,11 @@ use Rattle.rules.specs.declared.State.{State}
 use Rattle.rules.specs.declared.Verdict.{Verdict}
 use Rattle.rules.specs.declared.Verdict.the-variants.{Done}
 use Rattle.rules.specs.Answers.{passes}
-use Rattle.rules.specs.Station.{width, limit, station}
+use Rattle.rules.specs.Station.{width, station}
 use Rattle.rules.specs.Status.{Status, status}
 use Rattle.rules.specs.Calls.{turnOn, turnOff, calls, changeOf}
 use Rattle.rules.specs.Outcomes.{Outcome, outcome, planRoom, planned, stagesVerdict, planVerdict, stateAfter, planWords, planBytes}
-use Rattle.rules.proofs.Answers.{done-passes, first-pass, first-stop, first-none}
+use Rattle.rules.proofs.Answers.{first-pass, first-stop, first-none}
 use Rattle.table.specs.Layout.{WellSized}
 use Rattle.status.specs.State.{loadState, storeState, withEntry}
 use Rattle.status.specs.Ready.{statusWith}

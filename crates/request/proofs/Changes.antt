@@ -20,14 +20,13 @@ use Rattle.rules.specs.Request.{newEntry, replaceEntry}
 use Rattle.rules.specs.Calls.{ownCall, ownLast, endSet, toTurnOn, toTurnOff, changeOf}
 use Rattle.rules.specs.Outcomes.{stagesVerdict}
 use Rattle.rules.proofs.Answers.{done-passes}
-use Rattle.laws.proofs.States.{consistent-of, form-passed, form-device}
+use Rattle.laws.proofs.States.{consistent-of, small, form-passed, form-device}
 use Rattle.laws.proofs.Demand3.{end-lt, on-lt}
 use Rattle.laws.proofs.Stages.{Stages, stages-of, stages-pass}
 use Rattle.calls.proofs.OwnCall.{own-in-range}
 use Rattle.status.specs.Ready.{statusWith}
 use Rattle.status.proofs.Keeps.{entry-ready}
 use Rattle.request.specs.Permitted.{PermittedRequest, Disjoint, GoodChange}
-use Rattle.request.proofs.Rules.{small}
 use Rattle.request.proofs.Chain.{ready-of}
 
 -- ---- what a chain that passes has shown; v is its answer and p whether that passes

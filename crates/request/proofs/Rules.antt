@@ -1,11 +1,10 @@
 -- Each answer of the request's checks from the tests that lead to it.
 use mathlib.Core.Path.{_≡_, refl, sym, ap, _∙_}
-use mathlib.Core.Bool.{Bool, true, false, not, _&&_, _||_, or-false}
-use mathlib.Core.Logic.{⊎-elim}
+use mathlib.Core.Bool.{Bool, true, false, not, _||_, or-false}
 use mathlib.Core.List.{List, [], _∷_}
 use Prim.Native.Nat.{ℕ, _*_, _-_, _<_, _≤_}
 use native.Mathlib.Omega.{arith}
-use borrow.Author.Tests.{eqb-true, leb-true, eq-eqb, ne-eqb, le-leb, lt-leb, lt-ltb, le-ltb, not-true, not-false}
+use borrow.Author.Tests.{eq-eqb, ne-eqb, le-leb, lt-leb, lt-ltb, le-ltb, not-true, not-false}
 use lib.Dec.{eqb, leb, ltb}
 use mir.Syntax.{w8}
 use mir.Val.{Fits}
@@ -19,12 +18,11 @@ use Rattle.rules.specs.Index.{leastFrom, least}
 use Rattle.rules.specs.Answers.{passes, firstOf, unless, lowest}
 use Rattle.rules.specs.Station.{Station, countD, stationOf, station}
 use Rattle.rules.specs.Power.{supported, wakeFrom, wakePowered, wakeState}
-use Rattle.rules.specs.Request.{isMove, isArm, isDisarm, formGood, notShallowerOrD0, childBars, wakeAllows, moveVerdict, armVerdict}
+use Rattle.rules.specs.Request.{formGood, notShallowerOrD0, childBars, wakeAllows, moveVerdict, armVerdict}
 use Rattle.rules.specs.Request.{kindVerdict, requestVerdict, newEntry, numbersGood}
 use Rattle.rules.specs.Status.{entryAt, entries, parentAllows}
 use Rattle.rules.proofs.Index.{starts, found, next, done}
 use Rattle.rules.proofs.Answers.{lowest-stop, lowest-none, first-pass, first-alone}
-use Rattle.laws.proofs.Tests.{both-true, or-cases}
 use Rattle.laws.proofs.States.{form-device}
 use Rattle.status.specs.Ready.{Ready}
 use Rattle.status.proofs.Keeps.{devices-are, entry-ready}
@@ -68,24 +66,6 @@ unfolding formGood stationOf
 form-in t q n b e h f = rw (lt-ltb (q .device) (countD t) (omega arith)) f
 
 pub ruleset forms = (move-far, move-form, arm-far, arm-form, disarm-far, disarm-form, no-kind, form-out, form-in)
-
--- what numbers that are good say of each
-pub small : (s : Station) (q : Request) → formGood s q ≡ true → (q .a ≤ 4) × (q .b ≤ 4)
-unfolding formGood numbersGood
-small s q e =
-    let move = isMove q && leb (q .a) 4 && eqb (q .b) 0 in
-    let arm = isArm q && leb (q .a) 4 && leb (q .b) 4 in
-    let disarm = isDisarm q && eqb (q .a) 0 && eqb (q .b) 0 in
-    ⊎-elim
-    (λ x. ⊎-elim
-    (λ m. let b = both-true (isMove q && leb (q .a) 4) (eqb (q .b) 0) m in
-    (leb-true _ _ (both-true (isMove q) (leb (q .a) 4) (b .0) .1), omega (arith, eqb-true (q .b) 0 (b .1))))
-    (λ m. let b = both-true (isArm q && leb (q .a) 4) (leb (q .b) 4) m in
-    (leb-true _ _ (both-true (isArm q) (leb (q .a) 4) (b .0) .1), leb-true _ _ (b .1)))
-    (or-cases move arm x))
-    (λ m. let b = both-true (isDisarm q && eqb (q .a) 0) (eqb (q .b) 0) m in
-    (omega (arith, eqb-true (q .a) 0 (both-true (isDisarm q) (eqb (q .a) 0) (b .0) .1)), omega (arith, eqb-true (q .b) 0 (b .1))))
-    (or-cases (move || arm) disarm (both-true (ltb (q .device) (s .devices)) (move || arm || disarm) e .1))
 
 -- what the checks of each kind ask, a law for each number, so that the search finds it; f is the answer of the form's test
 module _ (t : List ℕ) (q : Request) (f : Bool) (form : f ≡ formGood (station t) q) (good : not f ≡ false) where

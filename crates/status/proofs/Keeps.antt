@@ -1,22 +1,21 @@
 -- A device's consistency by its parts: one law for each way out of the code that tests them.
 use mathlib.Core.Path.{_≡_, refl, ap, _∙_}
-use mathlib.Core.Bool.{Bool, true, false, not, cond, _&&_, _||_}
+use mathlib.Core.Bool.{Bool, true, false, not, _&&_, _||_}
 use mathlib.Core.Logic.{⊎-elim}
 use mathlib.Core.List.{List}
 use Prim.Native.Nat.{ℕ, _+_, _*_, _≤_, _<_}
-use native.Mathlib.Numerals.{add-one}
 use native.Mathlib.Omega.{arith}
 use borrow.Author.Tests.{eqb-true, eq-eqb, ne-eqb, leb-true, ltb-true, not-true, not-false}
 use lib.Dec.{eqb, leb, ltb}
 use lib.ListN.{length, getD}
-use Rattle.sets.specs.Sets.{union, subset}
+use Rattle.sets.specs.Sets.{subset}
 use Rattle.rules.specs.declared.Entry.{Entry}
 use Rattle.rules.specs.declared.Verdict.the-variants.{Done, Refused}
 use Rattle.rules.specs.declared.Reason.the-variants.{Inconsistent}
 use Rattle.rules.specs.Answers.{lowest}
 use Rattle.rules.specs.Station.{Station, width, limit, countD, stationOf, station}
 use Rattle.rules.specs.Table.{parentGood}
-use Rattle.rules.specs.Power.{supported, needs, neededBelow, needed, wakePair}
+use Rattle.rules.specs.Power.{supported, needs, wakePair}
 use Rattle.rules.specs.Status.{Status, entryAt, entries, entryGood, entriesGood, parentAllows, wakeConsistent, consistentButPower}
 use Rattle.rules.specs.Status.{powered, consistent, consistencyVerdict}
 use Rattle.rules.proofs.Index.{every-at}

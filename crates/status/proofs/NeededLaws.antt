@@ -8,7 +8,7 @@ use native.Mathlib.Omega.{arith}
 use borrow.Author.Tests.{eq-eqb, ne-eqb}
 use Rattle.sets.specs.Sets.{union}
 use Rattle.rules.specs.declared.Entry.{Entry}
-use Rattle.rules.specs.Station.{Station, width, countD, stationOf, station}
+use Rattle.rules.specs.Station.{Station, countD, stationOf, station}
 use Rattle.rules.specs.Power.{needs, neededBelow, needed}
 use Rattle.rules.specs.Status.{entryAt, entries}
 use Rattle.rules.specs.Request.{replaceEntry}
