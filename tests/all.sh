@@ -70,6 +70,11 @@ board() {
   gcc -std=c99 -Wall -Wextra -Wpedantic -Werror -Iinclude "$@" examples/board.c target/staticlib/libsailgarnet.a -o target/board && target/board | diff - examples/board.out
 }
 
+# every exported function with each lent buffer beside a page that may not be touched
+fence() {
+  gcc -std=c99 -O2 -Wall -Wextra -Wpedantic -Werror -Iinclude tests/fence.c target/staticlib/libsailgarnet.a -o target/fence && target/fence
+}
+
 # the pictures in docs are what the command draws today
 pictures() {
   bash tests/pictures.sh target > /dev/null && diff docs/trace-w4.svg target/trace-w4.svg && diff docs/trace-w5.svg target/trace-w5.svg
@@ -83,6 +88,7 @@ step header
 step board -O2
 step board -g -fsanitize=address,undefined
 step bash tests/stack.sh
+step fence
 host
 step python3 tests/readme.py
 step pictures

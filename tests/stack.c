@@ -9,9 +9,9 @@
 #include <ucontext.h>
 
 #include "../examples/station.h"
-#include "sailgarnet.h"
+#include "full.h"
 
-enum { STACK = 64 * 1024, LIMIT = 8192, FULL = 32, FULL_TABLE = 8 + 4 * FULL + 40 * FULL, LONG_LIST = 40000 };
+enum { STACK = 64 * 1024, LIMIT = 8192, LONG_LIST = 40000 };
 
 /* The arguments of a call. */
 struct input {
@@ -111,35 +111,6 @@ static void both(const char *title, unsigned number)
 {
     measure("plan", run_plan, title, number);
     measure("check", run_check, title, number);
-}
-
-static void put32(uint8_t *to, uint32_t value)
-{
-    for (int i = 0; i < 4; i++)
-        to[i] = (uint8_t)(value >> 8 * i);
-}
-
-/* 32 resources, 32 devices in one line of descent, each with every object; 24 resources are for the last device alone. */
-static void fill_table(uint8_t *table)
-{
-    static const uint8_t header[8] = {'P', 'W', 'T', FULL, 1, 0, FULL, 0};
-
-    memset(table, 0, FULL_TABLE);
-    memcpy(table, header, sizeof header);
-    for (unsigned r = 0; r < FULL; r++) {
-        table[8 + 4 * r] = 4;
-        table[8 + 4 * r + 2] = (uint8_t)(7 * r % 16);
-    }
-    for (unsigned d = 0; d < FULL; d++) {
-        uint8_t *record = table + 8 + 4 * FULL + 40 * d;
-        record[0] = d == 0 ? SAILGARNET_NONE : (uint8_t)(d - 1);
-        record[1] = record[2] = 15;
-        record[3] = 3;
-        for (unsigned k = 0; k < 4; k++)
-            put32(record + 4 + 4 * k, d == FULL - 1 ? 0xffffff00u : 0xffu);
-        put32(record + 20, 1u << d % 8);
-        memset(record + 28, 4, 6);
-    }
 }
 
 static void request(uint32_t kind, uint32_t device, uint32_t a, uint32_t b)
@@ -273,7 +244,7 @@ int main(void)
 {
     static uint8_t table[FULL_TABLE];
 
-    fill_table(table);
+    fill_table(table, FULL, FULL);
     printf("| function | input | answer | stack bytes |\n|---|---|---|---|\n");
     bench_station();
     full_table(table);
