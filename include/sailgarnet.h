@@ -4,7 +4,8 @@
  * Three functions on numbers and byte buffers. Nothing has to be checked before a call: any bytes for table, state,
  * request and call list get an answer, and a refusal writes nothing. Two things are left to the caller, because no
  * function can see them:
- *   - each pointer is valid for the length that is passed with it (a length of 0 reads and writes nothing);
+ *   - each pointer is valid for the length that is passed with it; with a length of 0 nothing is read or written, and any
+ *     pointer is good, a null pointer too;
  *   - buffers that are lent in one call do not overlap.
  *
  * Valid as C99, C11 and C++17.
