@@ -12,7 +12,7 @@ test:
 	@bash tests/all.sh
 
 library:
-	@rt staticlib sailgarnet
+	@bash tests/prove.sh staticlib sailgarnet
 
 run: library
 	@cargo run $(HOST) -p sailgarnet-cli -- demo
