@@ -99,6 +99,7 @@ step fence
 host
 step python3 tests/readme.py
 step pictures
+step bash tests/install.sh
 [ "$quick" = quick ] || step make --no-print-directory soak SECONDS=60 SEED=1
 echo "$passed passed, $failed failed"
 [ "$failed" -eq 0 ]
