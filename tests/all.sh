@@ -64,12 +64,14 @@ header() {
   local strict=(-Wall -Wextra -Wpedantic -Werror -fsyntax-only -Iinclude)
   echo '#include "sailgarnet.h"' > target/header.c
   cp target/header.c target/header.cpp
-  gcc -std=c99 "${strict[@]}" target/header.c && gcc -std=c11 "${strict[@]}" target/header.c && g++ -std=c++17 "${strict[@]}" target/header.cpp
+  gcc -std=c99 "${strict[@]}" target/header.c && gcc -std=c11 "${strict[@]}" target/header.c &&
+    g++ -std=c++17 "${strict[@]}" target/header.cpp
 }
 
 # the board's program against the proved library, with other flags in $@
 board() {
-  gcc -std=c99 -Wall -Wextra -Wpedantic -Werror -Iinclude "$@" examples/board.c target/staticlib/libsailgarnet.a -o target/board && target/board | diff - examples/board.out
+  gcc -std=c99 -Wall -Wextra -Wpedantic -Werror -Iinclude "$@" examples/board.c target/staticlib/libsailgarnet.a -o target/board &&
+    target/board | diff - examples/board.out
 }
 
 # every exported function with each lent buffer beside a page that may not be touched
