@@ -1,4 +1,4 @@
--- A call of document 01 is read back from its word, and a word that says a call is that call's word: no two words say the same.
+-- A call of RULES.md 2.9 is read back from its word, and a word that says a call is that call's word: no two words say the same.
 use mathlib.Core.Path.{_≡_, refl, sym, ap, _∙_, subst}
 use mathlib.Core.Bool.{Bool, true, false, cond, _&&_}
 use mathlib.Core.Logic.{_↔_}

@@ -1,4 +1,4 @@
--- The calls that document 01 has: resources and devices that a byte holds, `_PS0` to `_PS3`, and the wake pairs. These have a word of 32
+-- The calls of RULES.md 2.9: resources and devices that a byte holds, `_PS0` to `_PS3`, and the wake pairs. These have a word of 32
 -- bits.
 use Prim.Native.Nat.{_≤_, _<_}
 use Rattle.rules.specs.declared.Wake.{Wake}
@@ -18,7 +18,7 @@ InRange (ResourceOff r) = r < 256
 InRange (SetState d x) = (d < 256) × (x ≤ 3)
 InRange (SetWake d k) = (d < 256) × WakeInRange k
 
--- a call of document 01, or none
+-- a call of RULES.md 2.9, or none
 abbrev pub OptionalInRange : OptionalCall → Type 0
 OptionalInRange (Is c) = InRange c
 OptionalInRange NoCall = Unit {0}

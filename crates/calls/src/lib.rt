@@ -32,7 +32,7 @@ fn wake_word(device: u8, wake: Wake) -> u32
     }
 }
 
-// The word of a call that document 01 has. Of another, with a high wake state, it might not fit.
+// The word of a call of RULES.md 2.9. Of another, with a high wake state, it might not fit.
 pub fn word_of(call: Call) -> u32
     requires { ⌜ InRange call ⌝ }
     ensures { λ r. ⌜ r ≡ wordOf call ⌝ }

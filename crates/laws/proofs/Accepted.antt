@@ -1,4 +1,4 @@
--- What an accepted table gives: its counts and length, and of each resource and device every rule of document 01's table, read off the
+-- What an accepted table gives: its counts and length, and of each resource and device every rule of RULES.md 2.3 to 2.5, read off the
 -- station.
 use mathlib.Core.Path.{_≡_, refl, sym, _∙_}
 use mathlib.Core.Bool.{true, false}

@@ -1,4 +1,4 @@
--- Demand 3 as one statement, over table bytes, state bytes, a request and any list of words.
+-- RULES.md 8.3, demand 3 as one statement, over table bytes, state bytes, a request and any list of words.
 use Prim.Native.Nat.{ℕ, _*_, _/_, _%_, _<_}
 use mathlib.Core.Path.{_≡_}
 use mathlib.Core.Bool.{Bool, true, cond}

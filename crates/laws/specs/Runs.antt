@@ -1,4 +1,4 @@
--- A run of requests: each with a plan buffer of its own, the state going from one to the next, refused requests among them.
+-- RULES.md 8.4, a run of requests: each with a plan buffer of its own, the state going from one to the next, refused requests among them.
 use Prim.Native.Nat.{ℕ}
 use mathlib.Core.List.{List, [], _∷_}
 use Rattle.rules.specs.declared.Request.{Request}

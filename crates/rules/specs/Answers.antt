@@ -1,4 +1,4 @@
--- Document 01, "Answer numbers": the number, place and count of each answer, and how a chain of checks comes to one.
+-- RULES.md 9.3: the number, place and count of each answer, and how a chain of checks comes to one.
 use Prim.Native.Nat.{ℕ}
 use mathlib.Core.Bool.{Bool, true, false, cond}
 use mathlib.Core.List.{List, [], _∷_}

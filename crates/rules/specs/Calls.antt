@@ -1,4 +1,4 @@
--- Document 01, "Requests and calls": a call as a word, the calls of a request and their order, and the planner's list.
+-- RULES.md 2.9 and 6: a call as a word, the calls of a request and their order, and the planner's list.
 use Prim.Native.Nat.{ℕ, zero, suc, _+_, _-_, _*_, _/_, _%_}
 use mathlib.Core.Bool.{Bool, _&&_, _||_, not, cond}
 use mathlib.Core.List.{List, [], _∷_, _++_, map, reverse}
@@ -40,7 +40,7 @@ wakeOf d x y =
     cond (eqb x 0 && eqb y 0) (Is (SetWake d Disable))
     (cond (leb x 4 && leb 128 y && leb y 132) (Is (SetWake d (Enable x (y - 128)))) NoCall)
 
--- the call with these bytes, if there is one
+-- RULES.md 2.9: the call with these bytes, if there is one
 unfoldable pub callOfBytes : ℕ → ℕ → ℕ → ℕ → OptionalCall
 callOfBytes a b c d =
     cond (eqb a 1 && eqb c 0 && eqb d 0) (Is (ResourceOn b))
@@ -78,15 +78,15 @@ wakeCall s e q =
     cond (isArm q) (only (hasDSW (s .device (q .device))) (SetWake (q .device) (Enable (q .a) (q .b))))
     (only (hasDSW (s .device (q .device)) && isArmed e) (SetWake (q .device) Disable))
 
--- the own call of the request's device, whose entry is e
+-- RULES.md 6.2: the own call of the request's device, whose entry is e
 unfoldable pub ownCall : Station → Entry → Request → OptionalCall
 ownCall s e q = cond (isMove q) (moveCall s e (q .device) (q .a)) (wakeCall s e q)
 
--- moving to D0, or arming: the own call comes last; moving deeper, or disarming: first
+-- RULES.md 6.3: moving to D0, or arming: the own call comes last; moving deeper, or disarming: first
 unfoldable pub ownLast : Request → Bool
 ownLast q = isMove q && eqb (q .a) 0 || isArm q
 
--- the needed set after the request, and what it asks to turn on and off
+-- RULES.md 6.1: the needed set after the request, and what it asks to turn on and off
 unfoldable pub endSet : Station → (ℕ → Entry) → Request → ℕ
 endSet s entries q = needed s (entriesAfter entries q)
 
@@ -120,7 +120,7 @@ orderIn s r = s .resource r .order
 unfoldable pub rising : Station → ℕ → List ℕ
 rising s m = sort (earlier (orderIn s)) (membersFrom m 0 (s .resources))
 
--- document 01's ONs and OFFs: OFFs by falling order, equal orders by falling number
+-- RULES.md 6.4: what is turned on by rising order; what is turned off by falling order, equal orders by falling number
 unfoldable pub turnOn : Station → Status → Request → List ℕ
 turnOn s st q = rising s (toTurnOn s st q)
 

@@ -1,4 +1,4 @@
--- Document 01, "A list is lawful if": said on its own, apart from how a checker would test it.
+-- RULES.md 7, which lists conform: said on its own, apart from how a checker would test it.
 use Prim.Native.Nat.{ℕ, _+_, _≤_}
 use mathlib.Core.Path.{_≡_}
 use mathlib.Core.Bool.{cond}

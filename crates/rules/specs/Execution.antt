@@ -1,5 +1,4 @@
--- Document 01, "Carrying out a list": its panel, here the execution. All it keeps is a set of resources; it knows no table, no request and
--- no answer.
+-- RULES.md 8.1, the execution of a list. All it keeps is a set of resources; it knows no table, no request and no answer.
 use Prim.Native.Nat.{ℕ, _/_, _%_}
 use mathlib.Core.Bool.{Bool, true, false, cond, _&&_}
 use mathlib.Core.List.{List, [], _∷_}

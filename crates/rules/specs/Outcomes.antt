@@ -1,4 +1,4 @@
--- Document 01: fresh, plan and check, which the board calls, and a device's record, each as a total function of all that it is lent.
+-- RULES.md 9: fresh, plan and check, which the board calls, and a device's record, each as a total function of all that it is lent.
 use Prim.Native.Nat.{ℕ, _+_, _*_, _/_, _%_}
 use mathlib.Core.Bool.{Bool, true, cond, _&&_}
 use mathlib.Core.List.{List, [], _∷_, map}
@@ -23,7 +23,7 @@ pub record Outcome : Type 0 where
   pub state : List ℕ
   pub plan : List ℕ
 
--- done: what is written; refused: state and plan as they were lent
+-- RULES.md 9.4: done, what is written; refused, state and plan as they were lent
 unfoldable pub outcome : Verdict → List ℕ → List ℕ → List ℕ → List ℕ → Outcome
 outcome v state plan state′ plan′ = record { verdict = v; state = cond (passes v) state′ state; plan = cond (passes v) plan′ plan }
 
@@ -38,7 +38,7 @@ fresh t b = outcome (freshVerdict t b) b [] (imageOf (width t) (freshStatus (sta
 unfoldable pub requestStage : List ℕ → List ℕ → Request → Verdict
 requestStage t b q = requestVerdict (station t) (status t b .entries) q
 
--- the checks that planner and checker share, in their order: 1 to 8; 9 without room, which only the planner needs; 10 to 18
+-- RULES.md 9.2, the checks that planner and checker share, in their order: 1 to 8; 9 without room, which only the planner needs; 10 to 18
 unfoldable pub stagesVerdict : Bool → List ℕ → List ℕ → Request → Verdict
 stagesVerdict room t b q = firstOf (tableVerdict t ∷ stateVerdict t b ∷ unless room NoRoom 0 ∷ requestStage t b q ∷ []) (Done 0)
 
@@ -84,6 +84,6 @@ checkBytes t b q list =
     ∷ [])
     (Done 0)
 
--- a device's own bytes of the table; empty if the table is refused or the number is not below D
+-- RULES.md 9.7: a device's own bytes of the table; empty if the table is refused or the number is not below D
 unfoldable pub recordPart : List ℕ → ℕ → List ℕ
 recordPart t d = cond (passes (tableVerdict t) && ltb d (countD t)) (take (recordSize (width t)) (drop (deviceStart (width t) t d) t)) []

@@ -1,4 +1,4 @@
--- Document 01, "Supported", "Needs" and "Wake pair": what a device can do and what it needs, over a station and a device's number.
+-- RULES.md 3: what a device can do and what it needs, over a station and a device's number.
 use Prim.Native.Nat.{ℕ, zero, suc}
 use mathlib.Core.Bool.{Bool, true, false, _&&_, _||_, not, cond}
 use lib.Dec.{eqb, leb, ltb}
@@ -10,7 +10,7 @@ use Rattle.rules.specs.Station.{Device, Station, absent, hasPS, hasPR, h
 abbrev pub isArmed : Entry → Bool
 isArmed e = eqb (e .armed) 1
 
--- D0 and D3hot always; D1 or D2 if either mask has its bit; D3cold if `_PR3` exists
+-- RULES.md 3.1: D0 and D3hot always; D1 or D2 if either mask has its bit; D3cold if `_PR3` exists
 unfoldable pub supported : Station → ℕ → ℕ → Bool
 supported s d x =
     let v = s .device d in
@@ -25,11 +25,11 @@ unfoldable pub listedSet : Device → ℕ → ℕ
 listedSet v zero = ownSet v 0
 listedSet v (suc x) = cond (hasPR v (suc x)) (v .sets (suc x)) (listedSet v x)
 
--- in D0, D1 or D2 the state's own set; in D3hot `_PR3`'s or the next shallower listed; in D3cold nothing
+-- RULES.md 3.2: in D0, D1 or D2 the state's own set; in D3hot `_PR3`'s or the next shallower listed; in D3cold nothing
 unfoldable pub stateNeeds : Device → ℕ → ℕ
 stateNeeds v x = cond (ltb x 3) (ownSet v x) (cond (eqb x 3) (listedSet v 3) 0)
 
--- an armed device also needs its `_PRW` set
+-- RULES.md 3.5: an armed device also needs its `_PRW` set
 unfoldable pub wakeNeeds : Device → Entry → ℕ
 wakeNeeds v e = cond (isArmed e && hasPRW v) (v .sets 4) 0
 
@@ -42,11 +42,11 @@ unfoldable pub neededBelow : Station → (ℕ → Entry) → ℕ → ℕ
 neededBelow s entries zero = 0
 neededBelow s entries (suc n) = union (neededBelow s entries n) (needs s n (entries n))
 
--- the needed set: the union over all devices
+-- RULES.md 3.6, the needed set: the union over all devices
 unfoldable pub needed : Station → (ℕ → Entry) → ℕ
 needed s entries = neededBelow s entries (s .devices)
 
--- the wake range: both present, `_SxD` to `_SxW`; only `_SxD`, that state alone; only `_SxW`, 0 to it; neither, empty.
+-- RULES.md 3.3, the wake range: both present, `_SxD` to `_SxW`; only `_SxD`, that state alone; only `_SxW`, 0 to it; neither, empty.
 -- It is empty too for an `_SxD` or `_SxW` that no accepted table holds, and no state above 4 is in it
 unfoldable pub wakeRange : ℕ → ℕ → ℕ → Bool
 wakeRange sxd sxw x =
@@ -65,6 +65,6 @@ wakePowered s d x = every (λ r. not (member (s .device d .sets 4) r) || leb x (
 unfoldable pub wakeState : Station → ℕ → ℕ → ℕ → Bool
 wakeState s d x y = supported s d y && wakeRange (s .device d .sxd x) (s .device d .sxw x) y
 
--- the wake pair (S, D) is legal
+-- RULES.md 3.4: the wake pair (S, D) is legal
 unfoldable pub wakePair : Station → ℕ → ℕ → ℕ → Bool
 wakePair s d x y = wakeFrom s d x && wakePowered s d x && wakeState s d x y

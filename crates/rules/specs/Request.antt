@@ -1,5 +1,4 @@
--- Document 01, "Requests": which requests are refused, answers 10 to 18, and what an accepted one changes. No rule here looks at the
--- on-set.
+-- RULES.md 5: which requests are refused, answers 10 to 18, and what an accepted one changes. No rule here looks at the on-set.
 use Prim.Native.Nat.{ℕ}
 use mathlib.Core.Bool.{Bool, _&&_, _||_, not, cond}
 use mathlib.Core.List.{[], _∷_}
@@ -30,7 +29,7 @@ unfoldable pub numbersGood : Request → Bool
 numbersGood q =
     isMove q && leb (q .a) 4 && eqb (q .b) 0 || isArm q && leb (q .a) 4 && leb (q .b) 4 || isDisarm q && eqb (q .a) 0 && eqb (q .b) 0
 
--- 10: kind, device and numbers in range, unused ones zero
+-- 10 (RULES.md 5.1): kind, device and numbers in range, unused ones zero
 unfoldable pub formGood : Station → Request → Bool
 formGood s q = ltb (q .device) (s .devices) && numbersGood q
 
@@ -46,7 +45,7 @@ childBars s entries d x c = eqb (s .device c .parent) d && ltb (entries c .state
 unfoldable pub wakeAllows : Entry → ℕ → Bool
 wakeAllows e x = not (isArmed e) || leb x (e .wake)
 
--- 11 to 15: device d to state x; 13 is a parent that is deeper than x
+-- 11 to 15 (RULES.md 5.2): device d to state x; 13 is a parent that is deeper than x
 unfoldable pub moveVerdict : Station → (ℕ → Entry) → ℕ → ℕ → Verdict
 moveVerdict s entries d x =
     firstOf
@@ -58,7 +57,7 @@ moveVerdict s entries d x =
     ∷ [])
     (Done 0)
 
--- 16 to 18: arm device d for S = x, D = y; D is not shallower than the present state
+-- 16 to 18 (RULES.md 5.3): arm device d for S = x, D = y; D is not shallower than the present state
 unfoldable pub armVerdict : Station → (ℕ → Entry) → ℕ → ℕ → ℕ → Verdict
 armVerdict s entries d x y =
     firstOf
@@ -77,7 +76,7 @@ kindVerdict s entries q =
 unfoldable pub requestVerdict : Station → (ℕ → Entry) → Request → Verdict
 requestVerdict s entries q = firstOf (unless (formGood s q) BadRequest 0 ∷ kindVerdict s entries q ∷ []) (Done 0)
 
--- a move changes the state, arming writes the pair, any other kind is disarming and zeroes it
+-- RULES.md 5.5: a move changes the state, arming writes the pair, any other kind is disarming and zeroes it
 unfoldable pub newEntry : Entry → Request → Entry
 newEntry e q =
     cond (isMove q) (record { state = q .a; armed = e .armed; sleep = e .sleep; wake = e .wake })

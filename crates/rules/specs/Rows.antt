@@ -1,11 +1,11 @@
--- Document 01, "Bench station": its table, byte for byte, and the worked rows W1 to W12. What a row must meet is in Holds; rows of our own
+-- RULES.md 10: the bench station's table, byte for byte, and the worked rows W1 to W12. What a row must meet is in Holds; rows of our own
 -- are in OwnRows.
 use Prim.Native.Nat.{ℕ, zero, suc, _/_, _%_}
 use mathlib.Core.List.{List, [], _∷_, _++_}
 use lib.ListN.{replicate}
 use Rattle.rules.specs.declared.Request.{Request}
 
--- the n bytes of x as the document writes them, the highest first
+-- the n bytes of x as they stand in a hexadecimal number, the highest first
 abbrev pub bytesOnto : List ℕ → ℕ → ℕ → List ℕ
 bytesOnto l zero x = l
 bytesOnto l (suc n) x = bytesOnto (x % 256 ∷ l) n (x / 256)
@@ -13,7 +13,7 @@ bytesOnto l (suc n) x = bytesOnto (x % 256 ∷ l) n (x / 256)
 abbrev pub bytes : ℕ → ℕ → List ℕ
 bytes n x = bytesOnto [] n x
 
--- the records of the bench station's devices
+-- RULES.md 10.1: the records of the bench station's devices
 abbrev pub bus : List ℕ
 bus = bytes 40 0xff090900_01000000_00000000_00000000_01000000_00000000_ffffffff_ffffffffff_00_000000000000
 

@@ -1,4 +1,4 @@
--- Document 01, "Power table", first part: what the bytes of a table say, as a station of numbered resources and devices.
+-- RULES.md 2.2 to 2.4: what the bytes of a table say, as a station of numbered resources and devices.
 -- Sets take w bytes each, and w fixes all sizes; `width` is a table's. The rules of Power, Request and Calls
 -- speak of stations, entries and words, of no layout and no width.
 use Prim.Native.Nat.{ℕ, _+_, _*_, _%_, _≤_}

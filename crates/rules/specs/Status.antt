@@ -1,4 +1,4 @@
--- Document 01, "State image" and "Sound": the image's bytes as a status, which are good, and answers 7 and 8.
+-- RULES.md 2.7 and 4: the image's bytes as a status, which are good, and answers 7 and 8.
 use Prim.Native.Nat.{ℕ, zero, suc, _+_, _*_, _^_}
 use mathlib.Core.Bool.{Bool, _&&_, _||_, not}
 use mathlib.Core.List.{List, [], _∷_, _++_}
@@ -31,7 +31,7 @@ entryAt b at = record { state = getD b at 0; armed = getD b (at + 1) 0; sleep = 
 unfoldable pub entryBytes : Entry → List ℕ
 entryBytes e = e .state ∷ e .armed ∷ e .sleep ∷ e .wake ∷ []
 
--- four bytes a device for 8w devices, 128 for w = 4, then the on-set; 132 bytes in all
+-- RULES.md 2.7: four bytes a device for 8w devices, 128 for w = 4, then the on-set; 132 bytes in all
 abbrev pub entriesSize : ℕ → ℕ
 entriesSize w = 32 * w
 
@@ -60,7 +60,7 @@ entriesBytes entries i (suc k) = entryBytes (entries i) ++ entriesBytes entries 
 unfoldable pub imageOf : ℕ → Status → List ℕ
 imageOf w s = entriesBytes (s .entries) 0 (limit w) ++ bytesLE w (s .on)
 
--- every device in D0, none armed, all R resources on
+-- RULES.md 4.1: every device in D0, none armed, all R resources on
 unfoldable pub freshStatus : Station → Status
 freshStatus s = record { entries = λ k. noEntry; on = firstN (s .resources) }
 
@@ -88,7 +88,7 @@ parentAllows s entries d x = eqb (s .device d .parent) absent || leb (entries (s
 unfoldable pub wakeConsistent : Station → ℕ → Entry → Bool
 wakeConsistent s d e = not (isArmed e) || wakePair s d (e .sleep) (e .wake) && leb (e .state) (e .wake)
 
--- what document 01 calls sound, apart from power: a supported state, not shallower than its parent, the wake rules
+-- RULES.md 4.3, consistent apart from power: a supported state, not shallower than its parent, the wake rules
 unfoldable pub consistentButPower : Station → (ℕ → Entry) → ℕ → Bool
 consistentButPower s entries d =
     supported s d (entries d .state) && parentAllows s entries d (entries d .state) && wakeConsistent s d (entries d)
@@ -97,11 +97,11 @@ consistentButPower s entries d =
 unfoldable pub powered : Station → Status → ℕ → Bool
 powered s st d = subset (needs s d (st .entries d)) (st .on)
 
--- document 01's sound, of one device
+-- RULES.md 4.3, of one device
 unfoldable pub consistent : Station → Status → ℕ → Bool
 consistent s st d = consistentButPower s (st .entries) d && powered s st d
 
--- no value of a status with n entries is out of its rules; else 7
+-- RULES.md 4.2: no value of a status with n entries is out of its rules; else 7
 unfoldable pub valuesGood : ℕ → Station → Status → Bool
 valuesGood n s st = entriesGood n s (st .entries) && onGood s (st .on)
 

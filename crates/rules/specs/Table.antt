@@ -1,4 +1,4 @@
--- Document 01, "Power table", second part: which bytes are a good table, answers 1 to 6.
+-- RULES.md 2.2 to 2.6: which bytes are a good table, answers 1 to 6.
 use Prim.Native.Nat.{ℕ, _+_, _*_, _%_, _^_}
 use mathlib.Core.Bool.{Bool, true, false, _&&_, _||_, not, cond}
 use mathlib.Core.List.{List, [], _∷_, _++_}
@@ -72,7 +72,7 @@ sxwGood v x = eqb (v .sxw x) absent || leb (v .sxw x) 4
 unfoldable pub deepestGood : Device → Bool
 deepestGood v = leb (v .deepest) 4 && (hasPRW v || eqb (v .deepest) 0)
 
--- the fields of a device's record in the order of document 01's table: bytes 0 to 3
+-- the fields of a device's record in the order of RULES.md 2.4: bytes 0 to 3
 unfoldable pub headFields : ℕ → Device → List Field
 headFields d v = field 0 (parentGood d v) ∷ field 1 (ltb (v .ps) 16) ∷ field 2 (ltb (v .pr) 16) ∷ field 3 (ltb (v .flags) 4) ∷ []
 
@@ -106,7 +106,7 @@ badField t d = firstBad (recordSize (width t)) (deviceFields (width t) (countR t
 unfoldable pub fieldsGood : List ℕ → ℕ → Bool
 fieldsGood t d = eqb (badField t d) (recordSize (width t))
 
--- 6: any `_PS` needs `_PS0` and `_PS3`; any `_PR` needs `_PR0`; with both kinds, mask bits 0 to 2 agree; `_DSW` needs `_PRW`
+-- 6 (RULES.md 2.5): any `_PS` needs `_PS0` and `_PS3`; any `_PR` needs `_PR0`; with both kinds, mask bits 0 to 2 agree; `_DSW` needs `_PRW`
 unfoldable pub objectsGood : Device → Bool
 objectsGood v =
     (eqb (v .ps) 0 || hasPS v 0 && hasPS v 3)
@@ -121,7 +121,7 @@ deviceRefusal t d = Refused (cond (fieldsGood t d) BadObjects BadDevice) d
 unfoldable pub deviceGood : List ℕ → ℕ → Bool
 deviceGood t d = fieldsGood t d && objectsGood (deviceAt (width t) t (deviceStart (width t) t d))
 
--- 1 to 6 in their order, 5 and 6 device by device
+-- RULES.md 2.6: 1 to 6 in their order, 5 and 6 device by device
 unfoldable pub tableVerdict : List ℕ → Verdict
 tableVerdict t =
     firstOf

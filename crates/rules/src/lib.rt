@@ -1,4 +1,4 @@
-// The values that planner, checker and board exchange. Their meaning is document 01's, written as definitions in specs/.
+// The values that planner, checker and board exchange. Their meaning is in docs/RULES.md, and as definitions in specs/.
 
 ghost use mathlib.Core.Path.{_≡_};
 ghost use Rattle.rules.specs.Answers.{reasonNumber, numberOf, placeOf, countOf, passes};
@@ -35,7 +35,7 @@ pub struct Request {
     pub b: u32,
 }
 
-// What the state image says of a device: its state; armed, 0 or 1; and the pair it is armed for, document 01's wake S and wake D.
+// What the state image says of a device: its state; armed, 0 or 1; and the pair it is armed for, wake S and wake D (RULES.md 2.7).
 pub struct Entry {
     pub state: u8,
     pub armed: u8,
@@ -71,7 +71,7 @@ pub enum Reason {
     BadDevice,
     BadObjects,
     BadState,
-    // the state is not consistent, document 01's sound
+    // the state is not consistent (RULES.md 4.3)
     Inconsistent,
     NoRoom,
     BadRequest,
@@ -85,7 +85,7 @@ pub enum Reason {
     NoWake,
     WakeUnpowered,
     BadWakeState,
-    // the list does not conform, document 01's lawful
+    // the list does not conform (RULES.md 7)
     NotConforming,
 }
 
@@ -95,7 +95,7 @@ pub enum Verdict {
     Refused(Reason, usize),
 }
 
-// The number of a refusal, as document 01 counts them.
+// The number of a refusal (RULES.md 9.3).
 fn reason_number(why: Reason) -> u8
     ensures { λ r. ⌜ r ≡ reasonNumber why ⌝ }
 {

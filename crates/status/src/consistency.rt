@@ -1,4 +1,4 @@
-// Whether each device is consistent, document 01's sound: answer 8.
+// Whether each device is consistent (RULES.md 4.3): answer 8.
 ghost use mathlib.Core.Path.{_≡_};
 ghost use Prim.Native.Nat.{_<_};
 ghost use Rattle.rules.specs.Station.{countD, station};
