@@ -35,7 +35,7 @@ proofs() {
   rm -f "$log"
 }
 
-# the program's stored output is what an independent script works out from document 01
+# the program's stored output is what an independent script works out by the rules of docs/RULES.md
 stored_output() {
   python3 tests/bench_expected.py "$1" | diff - "crates/$1/stdout"
 }

@@ -1,6 +1,6 @@
 #!/usr/bin/env python3
-"""What the program `bench` must print for the cases of its file `stdin`, worked out from document 01 alone: it shares the cases with the program and
-nothing else. `bench_expected.py bench > crates/bench/stdout` writes the page anew."""
+"""What the program `bench` must print for the cases of its file `stdin`, worked out by docs/RULES.md alone: it shares the cases with the
+program and nothing else. `bench_expected.py bench > crates/bench/stdout` writes the page anew."""
 import pathlib
 import sys
 
@@ -21,7 +21,7 @@ class Device:
         self.zeros = b[34:40]
         self.prw, self.dsw = bool(self.flags & 1), bool(self.flags & 2)
 
-    # ---- "Power table", device record
+    # ---- RULES.md 2.4, device record
     def fields_good(self, number, R):
         if not (self.parent == ABSENT or self.parent < number):
             return False
@@ -42,7 +42,7 @@ class Device:
             return False
         return not any(self.zeros)
 
-    # ---- object rules
+    # ---- RULES.md 2.5, object rules
     def objects_good(self):
         if self.ps and not (self.ps & 1 and self.ps & 8):
             return False
@@ -52,7 +52,7 @@ class Device:
             return False
         return not (self.dsw and not self.prw)
 
-    # ---- "Supported", "Needs", "Wake pair"
+    # ---- RULES.md 3.1 to 3.4
     def supported(self, x):
         if x in (0, 3):
             return True
@@ -96,7 +96,7 @@ def split(t):
     return resources, devices
 
 
-# ---- answers 1 to 6
+# ---- RULES.md 2.6, answers 1 to 6
 def check_table(t):
     if len(t) < 8 or t[:3] != b"PWT" or le(t[4:6]) != 1 or t[7] != 0:
         return 1, 0
@@ -117,7 +117,7 @@ def check_table(t):
     return 0, 0
 
 
-# ---- answers 7 and 8 of a table that is accepted
+# ---- RULES.md 4.2 and 4.3, answers 7 and 8 of a table that is accepted
 def check_state(t, image):
     resources, devices = split(t)
     if len(image) != 132:
@@ -161,7 +161,7 @@ def fresh(t, buffer):
     return 0, 0, bytes(128) + (2 ** t[3] - 1).to_bytes(4, "little")
 
 
-# ---- "Requests and calls", and answers 10 to 18. A request is four numbers: kind, device, a, b
+# ---- RULES.md 5, answers 10 to 18. A request is four numbers: kind, device, a, b
 def check_request(devices, levels, image, q):
     kind, d, a, b = q
     if kind not in (1, 2, 3) or d >= len(devices):

@@ -91,7 +91,7 @@ pub fn each_list(list: &[u8], mut each: impl FnMut(&[u8])) {
     }
 }
 
-/// The bench station of the scope paper: a bus with a camera and a lamp.
+/// The bench station (RULES.md 10.1): a bus with a camera and a lamp.
 pub fn bench_station() -> Station {
     let resource = |level, order| Resource { level, order };
     let bus = Record {

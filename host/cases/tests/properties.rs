@@ -153,7 +153,7 @@ fn bytes_and_words_agree() {
     });
 }
 
-/// Lawful by the words of the paper: as a set the list has exactly the calls,
+/// Lawful by the words of RULES.md 7: as a set the list has exactly the calls,
 /// each once, and no call comes before one that must precede it.
 fn is_lawful(table: &Table, effect: &Effect, list: &[u8]) -> bool {
     let list_words = words(list);

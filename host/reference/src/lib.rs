@@ -1,4 +1,4 @@
-//! A planner for ACPI power resources, written from the scope paper as ordinary
+//! A planner for ACPI power resources: the rules of docs/RULES.md as ordinary
 //! Rust.
 //!
 //! It shares no code with the proved planner. The two are compared input by

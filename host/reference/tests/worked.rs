@@ -1,5 +1,5 @@
-//! The bench station: W1 to W12 with every step and end state, and the list
-//! "run as well".
+//! The bench station: W1 to W12 with every step and end state (RULES.md 10.3),
+//! and the other cases that are run (RULES.md 10.4).
 
 mod common;
 
