@@ -23,7 +23,7 @@ use Rattle.rules.specs.Request.{kindVerdict, requestVerdict, newEntry, numbersG
 use Rattle.rules.specs.Status.{entryAt, entries, parentAllows}
 use Rattle.rules.proofs.Index.{starts, found, next, done}
 use Rattle.rules.proofs.Answers.{lowest-stop, lowest-none, first-pass, first-alone}
-use Rattle.laws.proofs.States.{form-device}
+use Rattle.laws.proofs.States.{small, form-device}
 use Rattle.status.specs.Ready.{Ready}
 use Rattle.status.proofs.Keeps.{devices-are, entry-ready}
 
