@@ -19,5 +19,6 @@ pub mod Conform
 pub mod Arrange
 pub mod Place
 pub mod Demand3
+pub mod Demand2
 pub mod Bytes
 pub mod Bounds

@@ -1,3 +1,4 @@
 pub mod Carried
 pub mod Runs
+pub mod Demand2
 pub mod Demand3

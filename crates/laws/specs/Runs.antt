@@ -2,9 +2,9 @@
 use Prim.Native.Nat.{ℕ}
 use mathlib.Core.List.{List, [], _∷_}
 use Rattle.rules.specs.declared.Request.{Request}
-use Rattle.rules.specs.Outcomes.{planWords}
+use Rattle.rules.specs.Outcomes.{planBytes}
 
--- a request and the plan buffer that is lent with it
+-- a request and the plan of bytes that is lent with it
 pub record Asked : Type 0 where
   pub request : Request
   pub plan : List ℕ
@@ -12,4 +12,4 @@ pub record Asked : Type 0 where
 -- the state image after the requests, from first to last
 unfoldable pub stateAfterAll : List ℕ → List ℕ → List Asked → List ℕ
 stateAfterAll t b [] = b
-stateAfterAll t b (r ∷ rs) = stateAfterAll t (planWords t b (r .request) (r .plan) .state) rs
+stateAfterAll t b (r ∷ rs) = stateAfterAll t (planBytes t b (r .request) (r .plan) .state) rs

@@ -14,7 +14,7 @@ use Rattle.rules.specs.declared.Request.{Request}
 use Rattle.rules.specs.declared.State.{State}
 use Rattle.rules.specs.declared.Verdict.{Verdict}
 use Rattle.rules.specs.declared.Verdict.the-variants.{Done}
-use Rattle.rules.specs.Answers.{passes}
+use Rattle.rules.specs.Answers.{numberOf, countOf, passes}
 use Rattle.rules.specs.Station.{width, station}
 use Rattle.rules.specs.Status.{Status, status}
 use Rattle.rules.specs.Calls.{turnOn, turnOff, calls, changeOf}
@@ -26,7 +26,9 @@ use Rattle.status.specs.Ready.{statusWith}
 use Rattle.status.proofs.Written.{after-image}
 use Rattle.request.specs.Permitted.{PermittedRequest}
 use Rattle.request.proofs.Changes.{status-with, on-small}
+use Rattle.laws.specs.Demand2.{Demand2Words}
 use Rattle.laws.proofs.Stages.{room-passed}
+use Rattle.laws.proofs.Demand2.{demand2-words}
 use Rattle.planner.specs.Plan.{changeWords, changedState, Written}
 
 -- ---- the state by value after a change
@@ -83,6 +85,11 @@ pub record Answered (v : Verdict) (b′ plan′ : List ℕ) (o : Outcome) : Type
 
 pub parts : {v : Verdict} {b plan : List ℕ} {o : Outcome} → Answered v b plan o → (v ≡ o .verdict) × (b ≡ o .state) × (plan ≡ o .plan)
 parts a = (a .verdict, a .state, a .plan)
+
+-- the parts of an outcome of words keep demand 2
+pub words-demand : {v : Verdict} {b′ plan′ : List ℕ} (t b : List ℕ) (q : Request) (plan : List ℕ)
+    → Answered v b′ plan′ (planWords t b q plan) → Demand2Words t b q plan (numberOf v) (countOf v) b′ plan′
+words-demand t b q plan a = rw (a .verdict, a .state, a .plan) (demand2-words t b q plan)
 
 -- whatever an accepted request writes into the plan: words, or their bytes. v is the answer of the stages, p whether it passes
 module _ (t b : List ℕ) (q : Request) (room : Bool) (v : Verdict) (p : Bool) (e : v ≡ stagesVerdict room t b q) (f : p ≡ passes v)

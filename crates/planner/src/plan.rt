@@ -6,8 +6,10 @@ use rules::Verdict;
 ghost use mathlib.Core.Path.{_≡_};
 ghost use Prim.Native.Nat.{_<_, _≤_};
 ghost use lib.ListN.{length};
+ghost use Rattle.rules.specs.Answers.{numberOf, countOf};
 ghost use Rattle.rules.specs.Station.{width};
 ghost use Rattle.rules.specs.Outcomes.{planRoom, planWords};
+ghost use Rattle.laws.specs.Demand2.{Demand2Words};
 ghost use Rattle.request.specs.Permitted.{PermittedRequest};
 ghost use Rattle.planner.specs.Plan.{changedState, Written};
 
@@ -45,11 +47,13 @@ pub fn write_plan(table: &[u8], state: &mut [u8], q: Request, plan: &mut [u32]) 
     count
 }
 
-// Plans one request on a plan of words.
+// Plans one request on a plan of words. What it accepts keeps demand 2.
 pub fn plan_words(table: &[u8], state: &mut [u8], q: Request, plan: &mut [u32]) -> Verdict
-    ensures { λ r. ⌜ (r ≡ planWords (now (table .entry)) (now (state .entry)) q (now (plan .entry)) .verdict)
+    ensures answer { λ r. ⌜ (r ≡ planWords (now (table .entry)) (now (state .entry)) q (now (plan .entry)) .verdict)
         × (now (state .exit) ≡ planWords (now (table .entry)) (now (state .entry)) q (now (plan .entry)) .state)
         × (now (plan .exit) ≡ planWords (now (table .entry)) (now (state .entry)) q (now (plan .entry)) .plan) ⌝ }
+    ensures demand { λ r. ⌜ Demand2Words (now (table .entry)) (now (state .entry)) q (now (plan .entry)) (numberOf r) (countOf r)
+        (now (state .exit)) (now (plan .exit)) ⌝ }
 {
     let fits = plan.len() >= room(table);
     let v = request::stages::verdict(table, state, fits, q);

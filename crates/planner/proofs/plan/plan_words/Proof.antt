@@ -1,6 +1,6 @@
 -- A refusal leaves state and plan; otherwise the calls and the state of the request are written.
 use Rattle.request.proofs.Changes.{permitted-by}
-use Rattle.planner.proofs.Whole.{parts, room-there, words-refused, words-planned}
+use Rattle.planner.proofs.Whole.{parts, words-demand, room-there, words-refused, words-planned}
 use borrow.Author.Needs.{needs}
 use Rattle.planner.proofs.plan.plan_words.Statement.{statement}
 use Rattle.planner.proofs.plan.plan_words.Tie as tie
@@ -9,8 +9,9 @@ returns : tie.Need-returns
 returns c =
     let answered = c .before in
     let asked = answered .before in
-    parts (words-refused _ _ _ _ _ (asked .before .before .room .ensures .0) _ _ (answered .passes .ensures) (asked .verdict .ensures)
-    (c .if1 .taken))
+    let a = words-refused _ _ _ _ _ (asked .before .before .room .ensures .0) _ _ (answered .passes .ensures) (asked .verdict .ensures)
+    (c .if1 .taken) in
+    (parts a, words-demand _ _ _ _ a)
 
 returns-2 : tie.Need-returns-2
 returns-2 c =
@@ -18,8 +19,9 @@ returns-2 c =
     let left = written .before .before .before in
     let answered = left .before in
     let asked = answered .before in
-    parts (words-planned _ _ _ _ _ (asked .before .before .room .ensures .0) _ _ (answered .passes .ensures) (asked .verdict .ensures)
-    (left .if1 .left) _ _ _ (written .write-plan .ensures))
+    let a = words-planned _ _ _ _ _ (asked .before .before .room .ensures .0) _ _ (answered .passes .ensures) (asked .verdict .ensures)
+    (left .if1 .left) _ _ _ (written .write-plan .ensures) in
+    (parts a, words-demand _ _ _ _ a)
 
 pub plan-words-spec : {M : Type 1} → statement M
 plan-words-spec =
