@@ -14,9 +14,11 @@ use Rattle.rules.specs.Answers.{reasonNumber, numberOf, placeOf, countOf}
 use Rattle.rules.specs.Station.{width}
 use Rattle.rules.specs.Outcomes.{outcome, fresh, planBytes, checkBytes}
 use Rattle.rules.proofs.Width.{width-wide}
+use Rattle.laws.specs.Demand2.{Demand2Bytes}
+use Rattle.laws.proofs.Demand2.{demand2-bytes}
 use Rattle.laws.proofs.Bounds.{Bounded, fresh-bounded, plan-bounded, check-bounded}
 use Rattle.sailgarnet.proofs.Outer.{planned-short}
-use Rattle.sailgarnet.specs.Packed.{packed, Reads}
+use Rattle.sailgarnet.specs.Packed.{numberIn, countIn, packed, Reads}
 
 reason-small : (why : Reason) → reasonNumber why < 0x100
 reason-small NotATable = omega arith
@@ -76,3 +78,9 @@ plan-fits t b q plan = plan-bounded t b q _ (planned-short t b q)
 
 pub check-fits : (t b : List ℕ) (q : Request) (list : List ℕ) → Bounded (width t) (checkBytes t b q list)
 check-fits t b q list = check-bounded t b q list
+
+-- ---- what the planner on bytes leaves keeps demand 2, with number and count as they are read from the packed answer
+pub bytes-demand : (t b : List ℕ) (q : Request) (plan : List ℕ) (r : ℕ) (b′ plan′ : List ℕ) → Reads r (planBytes t b q plan .verdict)
+    → b′ ≡ planBytes t b q plan .state → plan′ ≡ planBytes t b q plan .plan
+    → Demand2Bytes t b q plan (numberIn r) (countIn r) b′ plan′
+bytes-demand t b q plan r b′ plan′ a s p = rw (a .number, a .count, s, p) (demand2-bytes t b q plan)

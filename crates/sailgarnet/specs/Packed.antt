@@ -12,8 +12,18 @@ asked kind device a b = record { kind = kind; device = device; a = a; b = b }
 unfoldable pub packed : Verdict → ℕ
 packed v = numberOf v + 0x100 * countOf v + 0x100_0000 * placeOf v
 
--- what the header's helpers read from it: the answer's own number, count and place, none of them cut
+-- what the header's helpers read from it
+abbrev pub numberIn : ℕ → ℕ
+numberIn r = r % 0x100
+
+abbrev pub countIn : ℕ → ℕ
+countIn r = r / 0x100 % 0x1_0000
+
+abbrev pub placeIn : ℕ → ℕ
+placeIn r = r / 0x100_0000
+
+-- they read the answer's own number, count and place, none of them cut
 pub record Reads (r : ℕ) (v : Verdict) : Type 0 where
-  pub number : r % 0x100 ≡ numberOf v
-  pub count : r / 0x100 % 0x1_0000 ≡ countOf v
-  pub place : r / 0x100_0000 ≡ placeOf v
+  pub number : numberIn r ≡ numberOf v
+  pub count : countIn r ≡ countOf v
+  pub place : placeIn r ≡ placeOf v

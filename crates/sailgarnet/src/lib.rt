@@ -7,11 +7,12 @@ ghost use mathlib.Core.Path.{_≡_};
 ghost use Prim.Native.Nat.{_<_};
 ghost use Rattle.rules.specs.Answers.{placeOf, countOf};
 ghost use Rattle.rules.specs.Outcomes.{fresh, planBytes, checkBytes};
+ghost use Rattle.laws.specs.Demand2.{Demand2Bytes};
 ghost use Rattle.laws.specs.Demand3.{Demand3Bytes};
-ghost use Rattle.sailgarnet.specs.Packed.{packed, Reads, asked};
+ghost use Rattle.sailgarnet.specs.Packed.{packed, numberIn, countIn, Reads, asked};
 
 // An answer as one number: its number in bits 0 to 7, its count in bits 8 to 23, its place in bits 24 to 63.
-pub fn pack(v: Verdict) -> u64
+fn pack(v: Verdict) -> u64
     requires { ⌜ (countOf v < 0x1_0000) × (placeOf v < 0x100_0000_0000) ⌝ }
     ensures { λ r. ⌜ (r ≡ packed v) × Reads r v ⌝ }
 {
@@ -47,6 +48,8 @@ pub extern "C" fn sailgarnet_plan(
         (now (plan .entry)) .state ⌝ }
     ensures plan { λ _. ⌜ now (plan .exit) ≡ planBytes (now (table .entry)) (now (state .entry)) (asked kind device a b)
         (now (plan .entry)) .plan ⌝ }
+    ensures demand { λ r. ⌜ Demand2Bytes (now (table .entry)) (now (state .entry)) (asked kind device a b) (now (plan .entry))
+        (numberIn r) (countIn r) (now (state .exit)) (now (plan .exit)) ⌝ }
 {
     pack(crate::buffers::plan_bytes(table, state, Request { kind, device, a, b }, plan))
 }

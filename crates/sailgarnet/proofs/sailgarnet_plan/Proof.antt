@@ -1,5 +1,5 @@
 -- The packed answer of the planner on bytes.
-use Rattle.sailgarnet.proofs.Numbers.{plan-fits, fits, packs}
+use Rattle.sailgarnet.proofs.Numbers.{plan-fits, fits, packs, bytes-demand}
 use borrow.Author.Needs.{needs}
 use Rattle.sailgarnet.proofs.sailgarnet_plan.Statement.{statement}
 use Rattle.sailgarnet.proofs.sailgarnet_plan.Tie as tie
@@ -9,7 +9,9 @@ pack-requires c κs = fits _ _ _ (c .before .before .before .before .plan-bytes 
 
 returns : tie.Need-returns
 returns c =
-    (packs _ _ _ (c .before .before .before .before .before .plan-bytes .ensures .0) (c .pack .ensures), (search needs, search needs))
+    let planned = c .before .before .before .before .before .plan-bytes .ensures in
+    let answer = packs _ _ _ (planned .0) (c .pack .ensures) in
+    (answer, (search needs, (search needs, bytes-demand _ _ _ _ _ _ _ (answer .1) (planned .1) (planned .2))))
 
 pub sailgarnet-plan-spec : {M : Type 1} → statement M
 sailgarnet-plan-spec =
