@@ -67,7 +67,8 @@ module _ (t b : List ℕ) (q : Request) (g : Stages t b q) where
   own =
       let most : station t .devices ≤ limit (width t) = unfold stationOf in accepted t (g .table) .devices in
       let n = small (station t) q form in
-      own-fits (station t) (status t b .entries (q .device)) q (omega (arith, form-device (station t) q form, width-wide t .high)) (n .0) (n .1)
+      own-fits (station t) (status t b .entries (q .device)) q
+      (omega (arith, form-device (station t) q form, width-wide t .high)) (n .0) (n .1)
 
   own-first : All Fits (map wordOf (ownFirstCalls (station t) (status t b) q))
   unfolding ownFirstCalls All

@@ -2,14 +2,14 @@
 -- `outcome` writes.
 use mathlib.Core.Path.{_≡_, refl, sym, ap, _∙_}
 use mathlib.Core.Bool.{Bool, true}
-use mathlib.Core.List.{List, map}
+use mathlib.Core.List.{List}
 use mathlib.Core.Logic.{_↔_, inl, inr, ⊎-elim}
-use Prim.Native.Nat.{ℕ, _+_, _*_, _<_}
+use Prim.Native.Nat.{ℕ, _+_, _*_}
 use native.Mathlib.Omega.{arith}
 use native.Mathlib.Nat.{zero-add}
 use borrow.Author.Tests.{eqb-true, leb-true}
-use lib.Dec.{eqb, leb}
-use lib.ListN.{length, take, drop, length-map}
+use lib.Dec.{eqb}
+use lib.ListN.{length, drop, length-map}
 use lib.Seq.{drop-at}
 use Rattle.sets.specs.Sets.{member}
 use Rattle.words.specs.Words.{put, wordBytes}
@@ -17,12 +17,11 @@ use Rattle.words.proofs.Put.{take-put}
 use Rattle.words.proofs.Laws.{word-bytes-length}
 use Rattle.rules.specs.declared.Request.{Request}
 use Rattle.rules.specs.Answers.{numberOf, countOf, passes}
-use Rattle.rules.specs.Station.{absent, width, station}
-use Rattle.rules.specs.Power.{needs, needed}
+use Rattle.rules.specs.Station.{absent, station}
+use Rattle.rules.specs.Power.{needed}
 use Rattle.rules.specs.Status.{Status, status, parentAllows}
-use Rattle.rules.specs.Request.{entriesAfter}
 use Rattle.rules.specs.Calls.{wordOf, calls, endSet, statusAfter}
-use Rattle.rules.specs.Outcomes.{Outcome, outcome, planRoom, planned, planVerdict, stateAfter, planWords, planBytes}
+use Rattle.rules.specs.Outcomes.{Outcome, outcome, planned, planVerdict, stateAfter, planWords, planBytes}
 use Rattle.rules.proofs.Answers.{done-passes}
 use Rattle.laws.specs.Demand2.{SomeNeeds, NotShallower, EndState, Demand2, Demand2Words, Demand2Bytes}
 use Rattle.laws.proofs.Tests.{or-cases}

@@ -37,8 +37,8 @@ pub record EndState (t b : List ℕ) (q : Request) (b′ : List ℕ) : Type 0 wh
   -- it passes 7 and 8
   pub consistent : numberOf (stateVerdict t b′) ≡ 0
 
--- what the caller gets: the answer's number and count, the state b′ and the plan plan′. A word of the plan has `size` elements, and `said` turns
--- words into these
+-- what the caller gets: the answer's number and count, the state b′ and the plan plan′. A word of the plan has `size` elements, and `said`
+-- turns words into these
 pub record Demand2 (size : ℕ) (said : List ℕ → List ℕ) (t b : List ℕ) (q : Request) (plan : List ℕ)
     (number n : ℕ) (b′ plan′ : List ℕ) : Type 0 where
   pub state : number ≡ 0 → EndState t b q b′

@@ -16,16 +16,11 @@ use Rattle.rules.specs.Table.{headerGood, tableVerdict}
 use Rattle.rules.specs.Status.{statusOf, entries, stateVerdict}
 use Rattle.rules.specs.Request.{requestVerdict}
 use Rattle.rules.specs.Outcomes.{requestStage, stagesVerdict}
-use Rattle.rules.proofs.Answers.{done-passes, refused-stops, first-pass, first-stop, first-through, first-alone, unless-of, unless-stop}
+use Rattle.rules.proofs.Answers.{done-passes, refused-stops, first-pass, first-stop, first-alone, unless-of, unless-stop}
 use Rattle.laws.proofs.Accepted.{accepted}
 use Rattle.laws.proofs.States.{consistent-of}
-use Rattle.table.proofs.Verdicts.{sized-of, no-table}
+use Rattle.table.proofs.Verdicts.{sized-of, no-table, table-passed}
 use Rattle.status.specs.Ready.{Ready}
-
--- a table that passes is done
-pub table-done : (t : List ℕ) → passes (tableVerdict t) ≡ true → tableVerdict t ≡ Done 0
-unfolding tableVerdict
-table-done t e = first-through _ (Done 0) e
 
 -- an accepted table and an accepted state
 pub ready-of : (t b : List ℕ) → passes (tableVerdict t) ≡ true → passes (stateVerdict t b) ≡ true → Ready t b
@@ -53,9 +48,6 @@ module _ (t : List ℕ) (v : Verdict) (p : Bool) (e : v ≡ tableVerdict t) (f :
   pub stop-table : (b : List ℕ) (q : Request) (room : Bool) → not p ≡ true → v ≡ stagesVerdict room t b q
   unfolding stagesVerdict
   stop-table b q room n = rw e (sym (first-stop (tableVerdict t) _ (Done 0) (stopped v _ p e f n)))
-
-  pub table-passed : not p ≡ false → tableVerdict t ≡ Done 0
-  table-passed n = table-done t (passed v _ p e f n)
 
 -- h: whether the header is good
 pub stop-header : (t b : List ℕ) (q : Request) (room h : Bool) → h ≡ headerGood t → not h ≡ true

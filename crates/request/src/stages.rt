@@ -7,8 +7,8 @@ ghost use Rattle.rules.specs.declared.Verdict.the-variants.{Done};
 ghost use Rattle.rules.specs.Table.{tableVerdict};
 ghost use Rattle.rules.specs.Outcomes.{stagesVerdict};
 
-// The first refusal past the table, or done, of a table that is accepted. Apart from the table's answer, so that a caller can refuse what is
-// no table before it calls.
+// The first refusal past the table, or done, of a table that is accepted. Apart from the table's answer, so that a caller can refuse what
+// is no table before it calls.
 pub fn past_table(table: &[u8], state: &[u8], room: bool, q: Request) -> Verdict
     requires { ⌜ tableVerdict (now table) ≡ Done 0 ⌝ }
     ensures { λ r. ⌜ r ≡ stagesVerdict room (now (table .entry)) (now (state .entry)) q ⌝ }

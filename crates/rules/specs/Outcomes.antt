@@ -34,6 +34,10 @@ freshVerdict t b = firstOf (tableVerdict t ∷ unless (eqb (length b) (imageSize
 unfoldable pub fresh : List ℕ → List ℕ → Outcome
 fresh t b = outcome (freshVerdict t b) b [] (imageOf (width t) (freshStatus (station t))) []
 
+-- 1 to 8 of any bytes: whether they are a table and a consistent state of it
+unfoldable pub statusVerdict : List ℕ → List ℕ → Verdict
+statusVerdict t b = firstOf (tableVerdict t ∷ stateVerdict t b ∷ []) (Done 0)
+
 -- 10 to 18 of the request, on the bytes
 unfoldable pub requestStage : List ℕ → List ℕ → Request → Verdict
 requestStage t b q = requestVerdict (station t) (status t b .entries) q

@@ -1,4 +1,3 @@
-pub mod Copy
 pub mod Long
 pub mod Outer
 pub mod Numbers

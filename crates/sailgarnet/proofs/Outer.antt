@@ -93,7 +93,7 @@ room-words t words h = omega (arith, room-33 t)
 
 module _ (t b : List ℕ) (q : Request) (g : PermittedRequest t b q) (n : ℕ) (b′ words words′ : List ℕ) (w : Written t b q words n b′ words′)
   where
-    pub count-33 : n ≤ 33
+    count-33 : n ≤ 33
     count-33 = omega (arith, w .count, room-33 t, planned-short t b q (stages-of true t b q (g .passed)))
 
     pub words-33 : length words ≡ 33 → n ≤ length words′

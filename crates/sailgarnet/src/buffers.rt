@@ -5,40 +5,16 @@ use rules::Request;
 use rules::Verdict;
 ghost use mathlib.Core.Path.{_≡_};
 ghost use mathlib.Core.Bool.{_&&_};
-ghost use Prim.Native.Nat.{_*_, _/_, _%_, _≤_};
+ghost use Prim.Native.Nat.{_*_, _/_, _%_};
 ghost use lib.Dec.{eqb};
-ghost use lib.ListN.{length, take};
+ghost use lib.ListN.{length};
 ghost use Rattle.rules.specs.Station.{station};
 ghost use Rattle.rules.specs.Status.{status};
 ghost use Rattle.rules.specs.Check.{conforming};
 ghost use Rattle.request.specs.Permitted.{PermittedRequest};
 ghost use Rattle.rules.specs.Outcomes.{planBytes, checkBytes};
 ghost use Rattle.laws.specs.Demand3.{Demand3Bytes};
-ghost use Rattle.words.specs.Words.{put, wordBytes, byteWords};
-
-// The first n words, written from the start of the bytes.
-fn write_words(from: &[u32], n: usize, out: &mut [u8])
-    requires { ⌜ (n ≤ 33) × (n ≤ length (now from)) × (4 * n ≤ length (now out)) ⌝ }
-    ensures { λ _. ⌜ now (out .exit) ≡ put (now (out .entry)) 0 (wordBytes (take n (now (from .entry)))) ⌝ }
-{
-    let mut i = 0;
-    while i < n {
-        words::write32(out, 4 * i, from[i]);
-        i += 1;
-    }
-}
-
-// The first n words of the bytes, stored from the start of the words.
-fn read_words(from: &[u8], n: usize, out: &mut [u32])
-    requires { ⌜ (n ≤ 33) × (4 * n ≤ length (now from)) × (n ≤ length (now out)) ⌝ }
-    ensures { λ _. ⌜ now (out .exit) ≡ put (now (out .entry)) 0 (byteWords n (now (from .entry))) ⌝ }
-{
-    let mut i = 0;
-    while i < n {
-        out[i] = words::read32(from, 4 * i);
-        i += 1;
-    }
-}
+ghost use Rattle.words.specs.Words.{byteWords};
 
 // Plans one request on a plan of bytes.
 pub fn plan_bytes(table: &[u8], state: &mut [u8], q: Request, plan: &mut [u8]) -> Verdict
@@ -60,7 +36,7 @@ pub fn plan_bytes(table: &[u8], state: &mut [u8], q: Request, plan: &mut [u8]) -
     }
     let mut calls = [0u32; 33];
     let n = planner::plan::write_plan(table, state, q, &mut calls);
-    write_words(&calls, n, plan);
+    words::write_words(&calls, n, plan);
     Verdict::Done(n)
 }
 
@@ -78,7 +54,7 @@ fn conforming(table: &[u8], state: &[u8], q: Request, list: &[u8]) -> bool
         return false;
     }
     let mut calls = [0u32; 33];
-    read_words(list, n, &mut calls);
+    words::read_words(list, n, &mut calls);
     checker::check::conforming(table, state, q, &calls[..n])
 }
 

@@ -17,10 +17,10 @@ use Rattle.rules.specs.Answers.{passes, firstOf, unless, lowest}
 use Rattle.rules.specs.Station.{width, limit, countR, stationOf, station}
 use Rattle.rules.specs.Table.{tableVerdict}
 use Rattle.rules.specs.Status.{entries, statusOf, status, imageSize, entriesGood, onGood, valuesGood, consistencyVerdict, stateVerdict}
-use Rattle.rules.specs.Outcomes.{outcome, freshVerdict, fresh}
-use Rattle.rules.proofs.Answers.{done-passes, refused-stops, first-pass, first-stop, unless-of}
+use Rattle.rules.specs.Outcomes.{outcome, freshVerdict, fresh, statusVerdict}
+use Rattle.rules.proofs.Answers.{done-passes, refused-stops, first-pass, first-stop, first-alone, unless-of}
 use Rattle.laws.proofs.Accepted.{accepted}
-use Rattle.table.proofs.Verdicts.{sized-done, sized-told, accepted-is}
+use Rattle.table.proofs.Verdicts.{sized-done, sized-told, accepted-is, table-passed}
 use Rattle.status.specs.State.{storeState, freshState}
 use Rattle.status.specs.Ready.{Ready, statusWith}
 use Rattle.status.proofs.Held.{fresh-image}
@@ -80,6 +80,22 @@ module _ (t b : List ℕ) (n : ℕ) (z : n ≡ imageSize (width t)) where
           (c ∙ sym (lowest-last _ (station t .devices) (Refused Inconsistent) (refused-stops Inconsistent)))
 
 pub ruleset state-laws = (sized-done, ready-by, state-length, state-entries, state-on, state-is)
+
+-- ---- 1 to 8; v is what the check of the table answered, p whether that passes
+state-alone : (t b : List ℕ) → firstOf (stateVerdict t b ∷ []) (Done 0) ≡ stateVerdict t b
+unfolding stateVerdict
+state-alone t b = first-alone _
+
+module _ (t b : List ℕ) (v : Verdict) (p : Bool) (e : v ≡ tableVerdict t) (f : p ≡ passes v) where
+  pub table-first : not p ≡ true → v ≡ statusVerdict t b
+  unfolding statusVerdict
+  table-first n = rw (← e) (sym (first-stop v _ (Done 0) (sym f ∙ not-true p n)))
+
+  pub state-second : not p ≡ false → (u : Verdict) → u ≡ stateVerdict t b → u ≡ statusVerdict t b
+  unfolding statusVerdict
+  state-second n u g = g ∙ sym (rw (← e) (first-pass v _ (Done 0) (sym f ∙ not-false p n) ∙ state-alone t b))
+
+pub ruleset both-laws = (table-passed, table-first, state-second)
 
 -- ---- a fresh state; v is what the check of the table answered, p whether that passes, k the size that an image has
 module _ (t b : List ℕ) (v : Verdict) (p : Bool) (e : v ≡ tableVerdict t) (f : p ≡ passes v) where

@@ -21,7 +21,8 @@ use Rattle.rules.specs.Table.{firstBad, deviceFields, headerGood, countsGood, l
 use Rattle.rules.specs.Table.{objectsGood, deviceRefusal, deviceGood, tableVerdict}
 use Rattle.rules.specs.Outcomes.{recordPart}
 use Rattle.rules.proofs.Index.{found, next, done}
-use Rattle.rules.proofs.Answers.{done-passes, refused-stops, first-pass, first-stop, first-none, unless-of, unless-stop, lowest-stop}
+use Rattle.rules.proofs.Answers.{done-passes, refused-stops, first-pass, first-stop, first-none, first-through, unless-of, unless-stop}
+use Rattle.rules.proofs.Answers.{lowest-stop}
 use Rattle.rules.proofs.Width.{width-wide}
 use Rattle.laws.proofs.Accepted.{accepted, refuses}
 use Rattle.laws.proofs.Tests.{both-true}
@@ -232,6 +233,14 @@ accepted-is t v b e f = f ∙ ap passes e
 
 pub sized-told : (t : List ℕ) (b : Bool) → b ≡ passes (tableVerdict t) → not b ≡ false → WellSized t
 sized-told t b e p = sized-of t (sym e ∙ not-false b p)
+
+-- a table that passes is done
+table-done : (t : List ℕ) → passes (tableVerdict t) ≡ true → tableVerdict t ≡ Done 0
+unfolding tableVerdict
+table-done t e = first-through _ (Done 0) e
+
+pub table-passed : (t : List ℕ) (v : Verdict) (b : Bool) → v ≡ tableVerdict t → b ≡ passes v → not b ≡ false → tableVerdict t ≡ Done 0
+table-passed t v b e f p = table-done t (sym (accepted-is t v b e f) ∙ not-false b p)
 
 -- ---- a device's record
 module _ (t : List ℕ) (d : ℕ) (b : Bool) (e : b ≡ passes (tableVerdict t)) where

@@ -1,8 +1,8 @@
-// Little-endian numbers in byte slices.
+// Little-endian numbers in byte slices, and words as bytes, four each.
 ghost use mathlib.Core.Path.{_≡_};
-ghost use Prim.Native.Nat.{_+_, _≤_, _<_};
-ghost use lib.ListN.{length};
-ghost use Rattle.words.specs.Words.{readLE, bytesLE, put};
+ghost use Prim.Native.Nat.{_+_, _*_, _≤_, _<_};
+ghost use lib.ListN.{length, take};
+ghost use Rattle.words.specs.Words.{readLE, bytesLE, put, wordBytes, byteWords};
 
 // A byte as a wider number; its caller has nothing to show for the cast, and learns the bound.
 pub fn wide(x: u8) -> u32
@@ -43,4 +43,28 @@ pub fn write32(s: &mut [u8], at: usize, x: u32)
 {
     write16(s, at, (x % 0x1_0000) as u16);
     write16(s, at + 2, (x / 0x1_0000) as u16);
+}
+
+// The first n words, written from the start of the bytes.
+pub fn write_words(from: &[u32], n: usize, out: &mut [u8])
+    requires { ⌜ (n ≤ length (now from)) × (4 * n ≤ length (now out)) ⌝ }
+    ensures { λ _. ⌜ now (out .exit) ≡ put (now (out .entry)) 0 (wordBytes (take n (now (from .entry)))) ⌝ }
+{
+    let mut i = 0;
+    while i < n {
+        write32(out, 4 * i, from[i]);
+        i += 1;
+    }
+}
+
+// The first n words of the bytes, stored from the start of the words.
+pub fn read_words(from: &[u8], n: usize, out: &mut [u32])
+    requires { ⌜ (4 * n ≤ length (now from)) × (n ≤ length (now out)) ⌝ }
+    ensures { λ _. ⌜ now (out .exit) ≡ put (now (out .entry)) 0 (byteWords n (now (from .entry))) ⌝ }
+{
+    let mut i = 0;
+    while i < n {
+        out[i] = read32(from, 4 * i);
+        i += 1;
+    }
 }

@@ -6,8 +6,8 @@ use Rattle.rules.specs.declared.Verdict.the-variants.{Refused}
 use Rattle.rules.specs.declared.Reason.the-variants.{NotATable}
 use Rattle.rules.proofs.Answers.{refused-stops}
 use Rattle.laws.proofs.Bytes.{demand3-bytes}
-use Rattle.table.proofs.Verdicts.{header-passed}
-use Rattle.request.proofs.Chain.{stop-header, stop-table, table-passed}
+use Rattle.table.proofs.Verdicts.{header-passed, table-passed}
+use Rattle.request.proofs.Chain.{stop-header, stop-table}
 use Rattle.request.proofs.Changes.{permitted-by}
 use Rattle.checker.proofs.Answer.{of-bytes, bytes-refused}
 use Rattle.sailgarnet.proofs.buffers.check_bytes.Statement.{statement}

@@ -6,11 +6,11 @@ use borrow.Author.Needs.{needs}
 use Rattle.rules.specs.declared.Verdict.the-variants.{Refused}
 use Rattle.rules.specs.declared.Reason.the-variants.{NotATable}
 use Rattle.rules.proofs.Answers.{refused-stops}
-use Rattle.table.proofs.Verdicts.{header-passed}
-use Rattle.request.proofs.Chain.{stop-header, stop-table, table-passed}
+use Rattle.table.proofs.Verdicts.{header-passed, table-passed}
+use Rattle.request.proofs.Chain.{stop-header, stop-table}
 use Rattle.request.proofs.Changes.{permitted-by}
 use Rattle.planner.proofs.Whole.{parts, room-bytes, bytes-refused, bytes-planned}
-use Rattle.sailgarnet.proofs.Outer.{room-words, count-33, words-33, bytes-132}
+use Rattle.sailgarnet.proofs.Outer.{room-words, words-33, bytes-132}
 use Rattle.sailgarnet.proofs.buffers.plan_bytes.Statement.{statement}
 use Rattle.sailgarnet.proofs.buffers.plan_bytes.Tie as tie
 
@@ -18,7 +18,8 @@ returns : tie.Need-returns
 returns c =
     let asked = c .before in
     let stop = stop-header _ _ _ _ _ (asked .header-good .ensures) (c .if1 .taken) in
-    parts (bytes-refused _ _ _ _ _ (asked .before .room .ensures .0) (Refused NotATable 0) false (sym (refused-stops NotATable 0)) stop refl)
+    parts (bytes-refused _ _ _ _ _ (asked .before .room .ensures .0) (Refused NotATable 0) false
+    (sym (refused-stops NotATable 0)) stop refl)
 
 returns-2 : tie.Need-returns-2
 returns-2 c =
@@ -61,7 +62,7 @@ write-words-requires c κs =
     let w = written .write-plan .ensures in
     let g = permitted-by _ _ _ _ _ _ e f (left .if3 .left) in
     let fits = room-bytes _ _ _ _ _ (room .room .ensures .0) _ _ f e (left .if3 .left) in
-    (count-33 _ _ _ g _ _ _ _ w, words-33 _ _ _ g _ _ _ _ w (search needs), bytes-132 _ _ _ g _ _ _ _ w _ fits)
+    (words-33 _ _ _ g _ _ _ _ w (search needs), bytes-132 _ _ _ g _ _ _ _ w _ fits)
 
 returns-4 : tie.Need-returns-4
 returns-4 c =

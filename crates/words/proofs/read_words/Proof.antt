@@ -1,10 +1,10 @@
 use Prim.Native.Nat.{_-_, _≤_}
 use borrow.Author.Needs.{needs}
 use Rattle.words.specs.Words.{byteWords}
 use Rattle.words.proofs.Put.{Emitted}
-use Rattle.sailgarnet.proofs.Copy.{reading}
-use Rattle.sailgarnet.proofs.buffers.read_words.Statement.{statement}
-use Rattle.sailgarnet.proofs.buffers.read_words.Tie as tie
+use Rattle.words.proofs.Copy.{reading}
+use Rattle.words.proofs.read_words.Statement.{statement}
+use Rattle.words.proofs.read_words.Tie as tie
 
 abbrev Inv-loop : tie.InvT-loop
 Inv-loop from n out₀ i₀ out i = (i ≤ n) × Emitted out₀ 0 (byteWords i from) out i

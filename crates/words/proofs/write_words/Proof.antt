@@ -1,11 +1,11 @@
 use Prim.Native.Nat.{_*_, _-_, _≤_}
 use borrow.Author.Needs.{needs}
 use lib.ListN.{take}
 use Rattle.words.specs.Words.{wordBytes}
 use Rattle.words.proofs.Put.{Emitted}
-use Rattle.sailgarnet.proofs.Copy.{writing}
-use Rattle.sailgarnet.proofs.buffers.write_words.Statement.{statement}
-use Rattle.sailgarnet.proofs.buffers.write_words.Tie as tie
+use Rattle.words.proofs.Copy.{writing}
+use Rattle.words.proofs.write_words.Statement.{statement}
+use Rattle.words.proofs.write_words.Tie as tie
 
 abbrev Inv-loop : tie.InvT-loop
 Inv-loop from n out₀ i₀ out i = (i ≤ n) × Emitted out₀ 0 (wordBytes (take i from)) out (4 * i)
