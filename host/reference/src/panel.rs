@@ -5,38 +5,61 @@ use crate::planner::{effect, Effect};
 use crate::request::Request;
 
 /// A set of resources that follows the words of a list and gives no answers.
+/// It knows no table: any byte is the number of a resource.
 #[derive(Clone, Copy, Debug, PartialEq, Eq)]
 pub struct Panel {
-    on: u32,
+    /// Resource r is on if bit r % 32 of word r / 32 is 1.
+    on: [u32; 8],
 }
 
 impl Panel {
-    /// A panel with these resources on.
+    /// A panel with these of the resources 0 to 31 on, and no other.
     pub fn new(on: u32) -> Self {
-        Self { on }
+        Self {
+            on: [on, 0, 0, 0, 0, 0, 0, 0],
+        }
     }
 
-    /// The resources that are on.
+    /// The resources 0 to 31 that are on; a table has no others.
     pub fn on(self) -> u32 {
-        self.on
+        self.on[0]
     }
 
-    /// Carries out one word. Only `_ON` and `_OFF` change the set; a number
-    /// above 31 is no resource of any table and changes nothing.
+    /// Whether a resource is on.
+    pub fn is_on(self, resource: u8) -> bool {
+        let (word, bit) = place(resource);
+        self.on[word] & bit != 0
+    }
+
+    /// Carries out one word. Only `_ON` and `_OFF` change the set.
     pub fn feed(&mut self, word: u32) {
         match Call::from_word(word) {
-            Some(Call::On { resource }) => self.on |= bit(resource),
-            Some(Call::Off { resource }) => self.on &= !bit(resource),
+            Some(Call::On { resource }) => {
+                let (word, bit) = place(resource);
+                self.on[word] |= bit;
+            }
+            Some(Call::Off { resource }) => {
+                let (word, bit) = place(resource);
+                self.on[word] &= !bit;
+            }
             _ => {}
         }
     }
+
+    /// The lowest resource that is on here and not on there.
+    fn first_not_in(self, other: Self) -> Option<usize> {
+        let extra = |word: usize| self.on[word] & !other.on[word];
+        let word = (0..self.on.len()).find(|&word| extra(word) != 0)?;
+        Some(32 * word + extra(word).trailing_zeros() as usize)
+    }
 }
 
-fn bit(resource: u8) -> u32 {
-    1u32.checked_shl(resource.into()).unwrap_or(0)
+/// The word of a resource, and its bit there.
+fn place(resource: u8) -> (usize, u32) {
+    (usize::from(resource / 32), 1 << (resource % 32))
 }
 
-/// The set of resources that are on after each word of a list.
+/// Which of the resources 0 to 31 are on after each word of a list.
 pub fn execution(on: u32, words: impl IntoIterator<Item = u32>) -> impl Iterator<Item = u32> {
     words.into_iter().scan(Panel::new(on), |panel, word| {
         panel.feed(word);
@@ -96,7 +119,7 @@ fn carry_out(
     if own_calls != usize::from(own_call.is_some()) {
         return Err(format!("the own call is made {own_calls} times"));
     }
-    if panel.on() != effect.needed_after {
+    if panel != Panel::new(effect.needed_after) {
         return Err(format!(
             "at the end {:#010x} is on, not the needed {:#010x}",
             panel.on(),
@@ -113,10 +136,10 @@ fn check_point(effect: &Effect, panel: Panel, calls: usize) -> Result<(), String
             "after {calls} calls {missing:#010x} is off, needed before and after"
         ));
     }
-    let extra = panel.on() & !(effect.on_before | effect.needed_after);
-    if extra != 0 {
+    let allowed = Panel::new(effect.on_before | effect.needed_after);
+    if let Some(extra) = panel.first_not_in(allowed) {
         return Err(format!(
-            "after {calls} calls {extra:#010x} is on, neither on at the start nor needed after"
+            "after {calls} calls r{extra} is on, neither on at the start nor needed after"
         ));
     }
     Ok(())

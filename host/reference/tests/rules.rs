@@ -368,21 +368,38 @@ fn own_call_needs_are_those_before_or_after() {
 fn the_panel_keeps_a_set_and_nothing_else() {
     let mut panel = Panel::new(0b10);
     for (bytes, on) in [
-        ([1, 0, 0, 0], 0b11),
-        ([1, 0, 0, 0], 0b11),
-        ([2, 1, 0, 0], 0b01),
-        ([2, 1, 0, 0], 0b01),
-        ([3, 0, 3, 0], 0b01),
-        ([4, 0, 3, 0x82], 0b01),
-        ([4, 0, 0, 0], 0b01),
-        ([1, 1, 1, 0], 0b01),
-        ([0, 0, 0, 0], 0b01),
-        ([1, 32, 0, 0], 0b01),
-        ([2, 32, 0, 0], 0b01),
-        ([1, 31, 0, 0], 0x8000_0001),
+        ([1, 0, 0, 0], &[0, 1][..]),
+        ([1, 0, 0, 0], &[0, 1]),
+        ([2, 1, 0, 0], &[0]),
+        ([2, 1, 0, 0], &[0]),
+        ([3, 0, 3, 0], &[0]),
+        ([4, 0, 3, 0x82], &[0]),
+        ([4, 0, 0, 0], &[0]),
+        ([1, 1, 1, 0], &[0]),
+        ([0, 0, 0, 0], &[0]),
+        ([1, 31, 0, 0], &[0, 31]),
+        ([1, 32, 0, 0], &[0, 31, 32]),
+        ([2, 0, 0, 0], &[31, 32]),
+        ([1, 255, 0, 0], &[31, 32, 255]),
+        ([2, 32, 0, 0], &[31, 255]),
+        ([2, 255, 0, 0], &[31]),
     ] {
         panel.feed(u32::from_le_bytes(bytes));
-        assert_eq!(panel.on(), on, "{bytes:?}");
+        let found: Vec<u8> = (0..=255).filter(|&r| panel.is_on(r)).collect();
+        assert_eq!(found, on, "{bytes:?}");
+        let of_a_table = on.iter().filter(|&&r| r < 32).map(|r| 1 << r).sum::<u32>();
+        assert_eq!(panel.on(), of_a_table, "{bytes:?}");
+    }
+}
+
+#[test]
+fn any_byte_is_a_resource_of_the_panel() {
+    for r in 0..=255 {
+        let mut panel = Panel::new(0);
+        panel.feed(u32::from_le_bytes([1, r, 0, 0]));
+        assert!((0..=255).all(|other| panel.is_on(other) == (other == r)));
+        panel.feed(u32::from_le_bytes([2, r, 0, 0]));
+        assert_eq!(panel, Panel::new(0));
     }
 }
 
@@ -420,7 +437,14 @@ fn demand3_names_the_point_that_fails() {
     fails(&[own, on2], "at the end 0x00000007 is on");
     fails(&[on2, off1], "made 0 times");
     fails(&[own, own, on2, off1], "made 2 times");
-    fails(&[own, [1, 5, 0, 0]], "neither on at the start nor needed");
+    for r in [5, 32, 255] {
+        let text = format!("after 2 calls r{r} is on, neither on at the start nor needed");
+        fails(&[own, [1, r, 0, 0], on2, off1], &text);
+    }
+    fails(
+        &[own, on2, off1, [1, 200, 0, 0]],
+        "after 4 calls r200 is on",
+    );
     let odd = demand3(&bytes, &state, request, &[3]).unwrap_err();
     assert!(odd.contains("odd bytes"));
     let refused = demand3(&bytes, &state, Request::move_to(9, D0), &[]).unwrap_err();
