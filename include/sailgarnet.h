@@ -30,7 +30,7 @@ extern "C" {
 
 /* Request kinds. */
 #define SAILGARNET_MOVE 1u   /* device to state a; b is 0 */
-#define SAILGARNET_ARM 2u    /* device may wake the system from sleep state a while it is in state b */
+#define SAILGARNET_ARM 2u    /* device may wake the system from sleep state a; while armed it is never deeper than b */
 #define SAILGARNET_DISARM 3u /* device may no longer wake the system; a and b are 0 */
 
 /* Device power states. Larger is deeper. */
@@ -50,7 +50,7 @@ enum sailgarnet_number {
     SAILGARNET_BAD_DEVICE = 5,        /* a device record has a bad field [device] */
     SAILGARNET_BAD_OBJECTS = 6,       /* a device breaks an object rule, such as _PS3 without _PS0 [device] */
     SAILGARNET_BAD_STATE = 7,         /* the state is not 132 bytes, or a value is out of its rules */
-    SAILGARNET_INCONSISTENT = 8,      /* the state is not sound [lowest device that is not] */
+    SAILGARNET_INCONSISTENT = 8,      /* the state is not consistent [lowest device that is not] */
     SAILGARNET_NO_ROOM = 9,           /* planner only: the plan has room for fewer than 33 calls (132 bytes) */
     SAILGARNET_BAD_REQUEST = 10,      /* kind, device or number out of range, or an unused number not zero */
     SAILGARNET_UNSUPPORTED = 11,      /* the device does not support the state */
@@ -61,7 +61,7 @@ enum sailgarnet_number {
     SAILGARNET_NO_WAKE = 16,          /* no _PRW, or the sleep state is above its deepest */
     SAILGARNET_WAKE_UNPOWERED = 17,   /* a _PRW resource has a systemlevel below the sleep state */
     SAILGARNET_BAD_WAKE_STATE = 18,   /* wake state not supported, outside its range, or shallower than the present state */
-    SAILGARNET_NOT_CONFORMING = 19    /* checker only: the list is not lawful for the request */
+    SAILGARNET_NOT_CONFORMING = 19    /* checker only: the list does not conform to the request */
 };
 
 /*
@@ -79,8 +79,8 @@ uint64_t sailgarnet_plan(const uint8_t *table, size_t table_len, uint8_t *state,
                          uint8_t *plan, size_t plan_len);
 
 /*
- * Whether a list of calls, four bytes each, is lawful for a request from a state. Writes nothing. Answers 1 to 8, 10 to
- * 18 as the planner does, then 19 for a list that is not lawful, else 0.
+ * Whether a list of calls, four bytes each, conforms to a request from a state. Writes nothing. Answers 1 to 8, 10 to 18
+ * as the planner does, then 19 for a list that does not conform, else 0.
  */
 uint64_t sailgarnet_check(const uint8_t *table, size_t table_len, const uint8_t *state, size_t state_len,
                           uint32_t kind, uint32_t device, uint32_t a, uint32_t b,
