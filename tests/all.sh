@@ -79,9 +79,10 @@ fence() {
   gcc -std=c99 -O2 -Wall -Wextra -Wpedantic -Werror -Iinclude tests/fence.c target/staticlib/libsailgarnet.a -o target/fence && target/fence
 }
 
-# the pictures in docs are what the command draws today
+# the pictures in docs are what is drawn today, the traces by the command and the crates from crates.txt
 pictures() {
-  bash tests/pictures.sh target > /dev/null && diff docs/trace-w4.svg target/trace-w4.svg && diff docs/trace-w5.svg target/trace-w5.svg
+  bash tests/pictures.sh target > /dev/null && diff docs/trace-w4.svg target/trace-w4.svg && diff docs/trace-w5.svg target/trace-w5.svg &&
+    diff docs/crates.svg target/crates.svg
 }
 
 step rt fmt --check
