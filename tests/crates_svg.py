@@ -4,8 +4,6 @@
 A line leads down to each crate that is not reached through another one, so the picture has the fewest lines that say the same.
 """
 
-import functools
-
 BOX, GAP, TOP, MARGIN, NARROWEST = (116, 28), (28, 20), 64, 20, 400
 
 STYLE = """text { font: 13px system-ui, sans-serif; fill: #222 }
@@ -23,13 +21,19 @@ def crates():
     return {crate: [other for other in others if other in needs] for crate, others in needs.items()}
 
 
+def below(needs, crate):
+    """All crates that a crate stands on, in the order of crates.txt."""
+    found, left = set(), [crate]
+    while left:
+        others = set(needs[left.pop()]) - found
+        found |= others
+        left += others
+    return [other for other in needs if other in found]
+
+
 def direct(needs):
     """For each crate those that it does not reach through another one."""
-    @functools.cache
-    def below(crate):
-        return set(needs[crate]).union(*map(below, needs[crate]))
-
-    return {crate: [c for c in others if not any(c in below(other) for other in others)] for crate, others in needs.items()}
+    return {crate: [c for c in others if not any(c in below(needs, other) for other in others)] for crate, others in needs.items()}
 
 
 def layers(needs):
