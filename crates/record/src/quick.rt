@@ -3,13 +3,13 @@
 ghost use mathlib.Core.Path.{_≡_};
 ghost use Prim.Native.Nat.{_+_, _<_, _≤_};
 ghost use lib.ListN.{length};
-ghost use Rattle.rules.specs.Station.{Wide, limit, recordSize, deviceAt};
+ghost use Rattle.rules.specs.Station.{Wide, limit, recordSize, fieldsSize, deviceAt};
 ghost use Rattle.rules.specs.Table.{headFields, sxdFields, sxwFields, lastFields, deviceFields, objectsGood};
 ghost use Rattle.record.specs.Good.{allGood, setsFit, absentSet, setsAbsent};
 
 // Bytes 0 to 3.
 fn head_good(table: &[u8], at: usize, w: usize, d: usize) -> bool
-    requires { ⌜ Wide w × (at + recordSize w ≤ length (now table)) × (d < 256) ⌝ }
+    requires { ⌜ Wide w × (at + fieldsSize w ≤ length (now table)) × (d < 256) ⌝ }
     ensures { λ b. ⌜ b ≡ allGood (headFields d (deviceAt w (now (table .entry)) at)) ⌝ }
 {
     crate::good::parent_good(table, at, w, d)
@@ -20,7 +20,7 @@ fn head_good(table: &[u8], at: usize, w: usize, d: usize) -> bool
 
 // No set has a bit at or above R: their union has none.
 fn sets_fit(table: &[u8], at: usize, w: usize, resources: usize) -> bool
-    requires { ⌜ Wide w × (at + recordSize w ≤ length (now table)) × (resources ≤ limit w) ⌝ }
+    requires { ⌜ Wide w × (at + fieldsSize w ≤ length (now table)) × (resources ≤ limit w) ⌝ }
     ensures { λ b. ⌜ b ≡ setsFit resources (deviceAt w (now (table .entry)) at) ⌝ }
 {
     let a = crate::read::set(table, at, w, 0);
@@ -33,7 +33,7 @@ fn sets_fit(table: &[u8], at: usize, w: usize, resources: usize) -> bool
 
 // Set k where its object is absent, else none.
 fn absent_set(table: &[u8], at: usize, w: usize, k: usize) -> u64
-    requires { ⌜ Wide w × (at + recordSize w ≤ length (now table)) × (k < 5) ⌝ }
+    requires { ⌜ Wide w × (at + fieldsSize w ≤ length (now table)) × (k < 5) ⌝ }
     ensures { λ s. ⌜ s ≡ absentSet (deviceAt w (now (table .entry)) at) k ⌝ }
 {
     if crate::good::present(table, at, w, k) {
@@ -44,7 +44,7 @@ fn absent_set(table: &[u8], at: usize, w: usize, k: usize) -> u64
 
 // The sets of absent objects are zero: their union is. Where all five objects are there, no set need be looked at.
 fn sets_absent(table: &[u8], at: usize, w: usize) -> bool
-    requires { ⌜ Wide w × (at + recordSize w ≤ length (now table)) ⌝ }
+    requires { ⌜ Wide w × (at + fieldsSize w ≤ length (now table)) ⌝ }
     ensures { λ b. ⌜ b ≡ setsAbsent (deviceAt w (now (table .entry)) at) ⌝ }
 {
     if (crate::read::pr(table, at, w) == 15) & crate::good::present(table, at, w, 4) {
@@ -60,7 +60,7 @@ fn sets_absent(table: &[u8], at: usize, w: usize) -> bool
 
 // `_S1D` to `_S4D`.
 fn states_good(table: &[u8], at: usize, w: usize) -> bool
-    requires { ⌜ Wide w × (at + recordSize w ≤ length (now table)) ⌝ }
+    requires { ⌜ Wide w × (at + fieldsSize w ≤ length (now table)) ⌝ }
     ensures { λ b. ⌜ b ≡ allGood (sxdFields w (deviceAt w (now (table .entry)) at)) ⌝ }
 {
     if !crate::good::sxd_good(table, at, w, 1) {
@@ -77,7 +77,7 @@ fn states_good(table: &[u8], at: usize, w: usize) -> bool
 
 // `_S0W` to `_S4W`.
 fn limits_good(table: &[u8], at: usize, w: usize) -> bool
-    requires { ⌜ Wide w × (at + recordSize w ≤ length (now table)) ⌝ }
+    requires { ⌜ Wide w × (at + fieldsSize w ≤ length (now table)) ⌝ }
     ensures { λ b. ⌜ b ≡ allGood (sxwFields w (deviceAt w (now (table .entry)) at)) ⌝ }
 {
     crate::good::sxw_good(table, at, w, 0)
@@ -126,7 +126,7 @@ pub fn record_good(table: &[u8], at: usize, w: usize, d: usize, resources: usize
 // Whether the objects agree. Where the states with `_PS` are those with `_PR`, D0 and D3hot among them, only `_DSW` is left to ask;
 // any other device is held to the whole rule.
 pub fn objects_agree(table: &[u8], at: usize, w: usize) -> bool
-    requires { ⌜ Wide w × (at + recordSize w ≤ length (now table)) ⌝ }
+    requires { ⌜ Wide w × (at + fieldsSize w ≤ length (now table)) ⌝ }
     ensures { λ b. ⌜ b ≡ objectsGood (deviceAt w (now (table .entry)) at) ⌝ }
 {
     let ps = crate::read::ps(table, at, w);

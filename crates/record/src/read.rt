@@ -2,7 +2,7 @@
 ghost use mathlib.Core.Path.{_≡_};
 ghost use Prim.Native.Nat.{_+_, _*_, _^_, _<_, _≤_};
 ghost use lib.ListN.{length};
-ghost use Rattle.rules.specs.Station.{Wide, recordSize, deviceAt};
+ghost use Rattle.rules.specs.Station.{Wide, recordSize, fieldsSize, deviceAt};
 
 // The bytes of a record.
 pub fn size(w: usize) -> usize
@@ -14,7 +14,7 @@ pub fn size(w: usize) -> usize
 
 // A device's parent, or 255.
 pub fn parent(table: &[u8], at: usize, w: usize) -> u8
-    requires { ⌜ Wide w × (at + recordSize w ≤ length (now table)) ⌝ }
+    requires { ⌜ Wide w × (at + fieldsSize w ≤ length (now table)) ⌝ }
     ensures { λ v. ⌜ v ≡ deviceAt w (now (table .entry)) at .parent ⌝ }
 {
     table[at]
@@ -22,7 +22,7 @@ pub fn parent(table: &[u8], at: usize, w: usize) -> u8
 
 // The `_PS` mask.
 pub fn ps(table: &[u8], at: usize, w: usize) -> u8
-    requires { ⌜ Wide w × (at + recordSize w ≤ length (now table)) ⌝ }
+    requires { ⌜ Wide w × (at + fieldsSize w ≤ length (now table)) ⌝ }
     ensures { λ v. ⌜ v ≡ deviceAt w (now (table .entry)) at .ps ⌝ }
 {
     table[at + 1]
@@ -30,7 +30,7 @@ pub fn ps(table: &[u8], at: usize, w: usize) -> u8
 
 // The `_PR` mask.
 pub fn pr(table: &[u8], at: usize, w: usize) -> u8
-    requires { ⌜ Wide w × (at + recordSize w ≤ length (now table)) ⌝ }
+    requires { ⌜ Wide w × (at + fieldsSize w ≤ length (now table)) ⌝ }
     ensures { λ v. ⌜ v ≡ deviceAt w (now (table .entry)) at .pr ⌝ }
 {
     table[at + 2]
@@ -38,7 +38,7 @@ pub fn pr(table: &[u8], at: usize, w: usize) -> u8
 
 // Bit 0 `_PRW`, bit 1 `_DSW`.
 pub fn flags(table: &[u8], at: usize, w: usize) -> u8
-    requires { ⌜ Wide w × (at + recordSize w ≤ length (now table)) ⌝ }
+    requires { ⌜ Wide w × (at + fieldsSize w ≤ length (now table)) ⌝ }
     ensures { λ v. ⌜ v ≡ deviceAt w (now (table .entry)) at .flags ⌝ }
 {
     table[at + 3]
@@ -57,7 +57,7 @@ pub fn set_start(w: usize, k: usize) -> usize
 
 // Set k: `_PR0` to `_PR3`, and `_PRW` for 4.
 pub fn set(table: &[u8], at: usize, w: usize, k: usize) -> u64
-    requires { ⌜ Wide w × (at + recordSize w ≤ length (now table)) × (k < 5) ⌝ }
+    requires { ⌜ Wide w × (at + fieldsSize w ≤ length (now table)) × (k < 5) ⌝ }
     ensures { λ v. ⌜ (v ≡ deviceAt w (now (table .entry)) at .sets k) × (v < 256 ^ w) ⌝ }
 {
     crate::word::read(table, at + set_start(w, k), w)
@@ -65,7 +65,7 @@ pub fn set(table: &[u8], at: usize, w: usize, k: usize) -> u64
 
 // `_SxD`, or 255; S0 has none.
 pub fn sxd(table: &[u8], at: usize, w: usize, x: usize) -> u8
-    requires { ⌜ Wide w × (at + recordSize w ≤ length (now table)) × (x < 5) ⌝ }
+    requires { ⌜ Wide w × (at + fieldsSize w ≤ length (now table)) × (x < 5) ⌝ }
     ensures { λ v. ⌜ v ≡ deviceAt w (now (table .entry)) at .sxd x ⌝ }
 {
     if x == 0 {
@@ -76,7 +76,7 @@ pub fn sxd(table: &[u8], at: usize, w: usize, x: usize) -> u8
 
 // `_SxW`, or 255.
 pub fn sxw(table: &[u8], at: usize, w: usize, x: usize) -> u8
-    requires { ⌜ Wide w × (at + recordSize w ≤ length (now table)) × (x < 5) ⌝ }
+    requires { ⌜ Wide w × (at + fieldsSize w ≤ length (now table)) × (x < 5) ⌝ }
     ensures { λ v. ⌜ v ≡ deviceAt w (now (table .entry)) at .sxw x ⌝ }
 {
     table[at + 8 + 5 * w + x]
@@ -84,7 +84,7 @@ pub fn sxw(table: &[u8], at: usize, w: usize, x: usize) -> u8
 
 // The deepest sleep state of `_PRW`.
 pub fn deepest(table: &[u8], at: usize, w: usize) -> u8
-    requires { ⌜ Wide w × (at + recordSize w ≤ length (now table)) ⌝ }
+    requires { ⌜ Wide w × (at + fieldsSize w ≤ length (now table)) ⌝ }
     ensures { λ v. ⌜ v ≡ deviceAt w (now (table .entry)) at .deepest ⌝ }
 {
     table[at + 13 + 5 * w]

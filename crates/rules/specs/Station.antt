@@ -61,6 +61,10 @@ limit w = 8 * w
 abbrev pub recordSize : ℕ → ℕ
 recordSize w = 16 + 6 * w
 
+-- a record's fields end here; zeros follow to its end
+abbrev pub fieldsSize : ℕ → ℕ
+fieldsSize w = 14 + 5 * w
+
 abbrev pub countR : List ℕ → ℕ
 countR t = getD t 3 0
 
