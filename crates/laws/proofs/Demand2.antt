@@ -6,9 +6,9 @@ use mathlib.Core.List.{List}
 use mathlib.Core.Logic.{_↔_, inl, inr, ⊎-elim}
 use Prim.Native.Nat.{ℕ, _+_, _*_}
 use native.Mathlib.Omega.{arith}
-use native.Mathlib.Nat.{zero-add}
-use borrow.Author.Tests.{eqb-true, leb-true}
-use lib.Dec.{eqb}
+use native.Mathlib.Nat.{zero-add, one-mul}
+use borrow.Author.Tests.{eqb-true, leb-true, le-leb}
+use lib.Dec.{eqb, leb}
 use lib.ListN.{length, drop, length-map}
 use lib.Seq.{drop-at}
 use Rattle.sets.specs.Sets.{member}
@@ -16,19 +16,21 @@ use Rattle.words.specs.Words.{put, wordBytes}
 use Rattle.words.proofs.Put.{take-put}
 use Rattle.words.proofs.Laws.{word-bytes-length}
 use Rattle.rules.specs.declared.Request.{Request}
+use Rattle.rules.specs.declared.Verdict.the-variants.{Done}
 use Rattle.rules.specs.Answers.{numberOf, countOf, passes}
-use Rattle.rules.specs.Station.{absent, station}
+use Rattle.rules.specs.Station.{absent, width, station}
 use Rattle.rules.specs.Power.{needed}
 use Rattle.rules.specs.Status.{Status, status, parentAllows}
 use Rattle.rules.specs.Calls.{wordOf, calls, endSet, statusAfter}
-use Rattle.rules.specs.Outcomes.{Outcome, outcome, planned, planVerdict, stateAfter, planWords, planBytes}
-use Rattle.rules.proofs.Answers.{done-passes}
-use Rattle.laws.specs.Demand2.{SomeNeeds, NotShallower, EndState, Demand2, Demand2Words, Demand2Bytes}
+use Rattle.rules.specs.Outcomes.{Outcome, outcome, planRoom, planned, planVerdict, stateAfter, planWords, planBytes}
+use Rattle.rules.proofs.Answers.{done-passes, first-both, first-pass, first-none}
+use Rattle.laws.specs.Demand2.{SomeNeeds, NotShallower, LeftState, LeftPlan, Demand2, Demand2Words, Demand2Bytes}
+use Rattle.laws.specs.Demand3.{Permitted}
 use Rattle.laws.proofs.Tests.{or-cases}
 use Rattle.laws.proofs.Needed.{needed-of, needed-by}
 use Rattle.laws.proofs.Consistency.{after-same, after-other}
 use Rattle.laws.proofs.States.{consistent-of, after-reads, after-consistent}
-use Rattle.laws.proofs.Stages.{Stages, plan-stages, plan-done}
+use Rattle.laws.proofs.Stages.{Stages, stages-of, stages-pass, room-passed, plan-stages, plan-done}
 use Rattle.laws.proofs.Demand3.{number-passes}
 
 -- ---- the state afterwards
@@ -48,9 +50,9 @@ unfolding parentAllows
 not-shallower t b′ d e =
     ⊎-elim (λ p. inl (eqb-true _ absent p)) (λ p. inr (leb-true _ _ p)) (or-cases (eqb (station t .device d .parent) absent) _ e)
 
-pub end-state : (t b : List ℕ) (q : Request) → Stages t b q → EndState t b q (stateAfter t b q)
+pub left-state : (t b : List ℕ) (q : Request) → Stages t b q → LeftState t b q (stateAfter t b q)
 unfolding statusAfter endSet
-end-state t b q g =
+left-state t b q g =
     let b′ = stateAfter t b q in
     let reads = after-reads t b q (g .table) (g .state) (g .request) in
     let good = after-consistent t b q (g .table) (g .state) (g .request) in
@@ -60,7 +62,7 @@ end-state t b q g =
       parents = λ d h. not-shallower t b′ d (consistent-of t b′ (ap passes good ∙ done-passes 0) .1 .apart d h .under);
       own = rw entries (after-same (status t b .entries) q);
       others = λ d h. rw entries (after-other (status t b .entries) q d h);
-      consistent = ap numberOf good;
+      good = ap numberOf good;
     }
 
 -- ---- the outcome, for words and for bytes
@@ -68,10 +70,10 @@ drop-put : (d ws : List ℕ) → drop (length ws) (put d 0 ws) ≡ drop (length 
 unfolding put
 drop-put d ws = drop-at ws (drop (0 + length ws) d) (length ws) refl ∙ ap (λ (k : ℕ). drop k d) (zero-add (length ws))
 
-module _ (size : ℕ) (said : List ℕ → List ℕ) (long : (ws : List ℕ) → length (said ws) ≡ size * length ws) (room : Bool) (t b : List ℕ)
+module _ (size : ℕ) (written : List ℕ → List ℕ) (long : (ws : List ℕ) → length (written ws) ≡ size * length ws) (room : Bool) (t b : List ℕ)
     (q : Request) (plan : List ℕ) where
   abbrev o : Outcome
-  o = outcome (planVerdict room t b q) b plan (stateAfter t b q) (put plan 0 (said (planned t b q)))
+  o = outcome (planVerdict room t b q) b plan (stateAfter t b q) (put plan 0 (written (planned t b q)))
 
   -- what an accepted outcome has: its verdict, its state and its plan
   module _ (e : numberOf (o .verdict) ≡ 0) where
@@ -79,36 +81,58 @@ module _ (size : ℕ) (said : List ℕ → List ℕ) (long : (ws : List ℕ) →
     unfolding outcome
     yes = number-passes _ e
 
-    left : o .state ≡ stateAfter t b q
+    state-left : o .state ≡ stateAfter t b q
     unfolding outcome
-    left = rw yes refl
+    state-left = rw yes refl
 
-    written : o .plan ≡ put plan 0 (said (planned t b q))
+    plan-left : o .plan ≡ put plan 0 (written (planned t b q))
     unfolding outcome
-    written = rw yes refl
+    plan-left = rw yes refl
 
     counted : countOf (o .verdict) ≡ length (planned t b q)
     unfolding outcome
     counted = ap countOf (plan-done room t b q yes)
 
-    size-is : length (said (planned t b q)) ≡ size * countOf (o .verdict)
+    size-is : length (written (planned t b q)) ≡ size * countOf (o .verdict)
     size-is = long (planned t b q) ∙ ap (λ (k : ℕ). size * k) (sym counted)
 
-  holds : Demand2 size said t b q plan (numberOf (o .verdict)) (countOf (o .verdict)) (o .state) (o .plan)
-  unfolding planned
-  holds = record {
-    state = λ e. rw (left e) (end-state t b q (plan-stages room t b q (yes e)));
-    count = λ e. counted e ∙ length-map (calls (station t) (status t b) q) wordOf;
-    front = λ e. rw (written e) (take-put plan (said (planned t b q)) _ (size-is e));
-    kept = λ e. rw (written e, ← size-is e) (drop-put plan (said (planned t b q)));
+    left-plan : LeftPlan size written t b q plan (countOf (o .verdict)) (o .plan)
+    unfolding planned
+    left-plan = record {
+      counts = counted ∙ length-map (calls (station t) (status t b) q) wordOf;
+      front = rw plan-left (take-put plan (written (planned t b q)) _ size-is);
+      kept = rw (plan-left, ← size-is) (drop-put plan (written (planned t b q)));
+    }
+
+    allowed : Permitted t b q × (room ≡ true)
+    unfolding planVerdict
+    allowed =
+        let stages = first-both _ _ _ yes .0 in
+        (ap numberOf (stages-pass true t b q (stages-of room t b q stages) refl), room-passed room t b q stages)
+
+  done : Permitted t b q → room ≡ true → numberOf (o .verdict) ≡ 0
+  unfolding outcome planVerdict
+  done p r =
+      let stages = stages-pass room t b q (stages-of true t b q (number-passes _ p)) r in
+      ap numberOf (first-pass _ _ (Done (length (planned t b q))) (ap passes stages ∙ done-passes 0) ∙ first-none _)
+
+  holds : room ≡ leb (size * planRoom (width t)) (length plan)
+      → Demand2 size written t b q plan (numberOf (o .verdict)) (countOf (o .verdict)) (o .state) (o .plan)
+  holds is = record {
+    accepts = (
+      λ e. (allowed e .0, leb-true _ _ (sym is ∙ allowed e .1)),
+      λ x. done (x .0) (is ∙ le-leb _ _ (x .1)),
+    );
+    state = λ e. rw (state-left e) (left-state t b q (plan-stages room t b q (yes e)));
+    calls = left-plan;
   }
 
 pub demand2-words : (t b : List ℕ) (q : Request) (plan : List ℕ) → let o = planWords t b q plan in
     Demand2Words t b q plan (numberOf (o .verdict)) (countOf (o .verdict)) (o .state) (o .plan)
 unfolding planWords
-demand2-words t b q plan = holds 1 (λ ws. ws) (λ ws. omega arith) _ t b q plan
+demand2-words t b q plan = holds 1 (λ ws. ws) (λ ws. omega arith) _ t b q plan (ap (λ (k : ℕ). leb k (length plan)) (sym (one-mul (planRoom (width t)))))
 
 pub demand2-bytes : (t b : List ℕ) (q : Request) (plan : List ℕ) → let o = planBytes t b q plan in
     Demand2Bytes t b q plan (numberOf (o .verdict)) (countOf (o .verdict)) (o .state) (o .plan)
 unfolding planBytes
-demand2-bytes t b q plan = holds 4 wordBytes word-bytes-length _ t b q plan
+demand2-bytes t b q plan = holds 4 wordBytes word-bytes-length _ t b q plan refl

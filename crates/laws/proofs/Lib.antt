@@ -9,7 +9,6 @@ pub mod Consistency
 pub mod Kept
 pub mod States
 pub mod Stages
-pub mod Runs
 pub mod Sort
 pub mod Chain
 pub mod Order
@@ -20,5 +19,6 @@ pub mod Arrange
 pub mod Place
 pub mod Demand3
 pub mod Demand2
+pub mod Runs
 pub mod Bytes
 pub mod Bounds

@@ -1,4 +1,5 @@
--- RULES.md 8.5, demand 2 as one statement, over table bytes, state bytes, a request and any plan: what an accepted request leaves.
+-- RULES.md 8.5, demand 2 as one statement, over table bytes, state bytes, a request and any plan: which requests are accepted, and what an
+-- accepted one leaves. The place of such an answer, 0, is left to the equations with `planWords` and `planBytes`.
 use Prim.Native.Nat.{ℕ, _*_, _<_, _≤_}
 use mathlib.Core.Path.{_≡_}
 use mathlib.Core.Bool.{true}
@@ -9,24 +10,26 @@ use Rattle.sets.specs.Sets.{member}
 use Rattle.words.specs.Words.{wordBytes}
 use Rattle.rules.specs.declared.Request.{Request}
 use Rattle.rules.specs.Answers.{numberOf}
-use Rattle.rules.specs.Station.{absent, station}
+use Rattle.rules.specs.Station.{absent, width, station}
 use Rattle.rules.specs.Power.{needs}
 use Rattle.rules.specs.Status.{status, stateVerdict}
 use Rattle.rules.specs.Request.{newEntry}
 use Rattle.rules.specs.Calls.{wordOf, calls}
+use Rattle.rules.specs.Outcomes.{planRoom}
+use Rattle.laws.specs.Demand3.{Permitted}
 
--- some device below D needs resource r with its entry in the state
+-- some device below D needs resource r with its entry in the state b
 abbrev pub SomeNeeds : List ℕ → List ℕ → ℕ → Type 0
-SomeNeeds t b′ r = (d : ℕ) × (d < station t .devices) × (member (needs (station t) d (status t b′ .entries d)) r ≡ true)
+SomeNeeds t b r = (d : ℕ) × (d < station t .devices) × (member (needs (station t) d (status t b .entries d)) r ≡ true)
 
 -- device d has no parent, or is not shallower than it
 abbrev pub NotShallower : List ℕ → List ℕ → ℕ → Type 0
-NotShallower t b′ d =
+NotShallower t b d =
     let parent = station t .device d .parent in
-    (parent ≡ absent) ⊎ (status t b′ .entries parent .state ≤ status t b′ .entries d .state)
+    (parent ≡ absent) ⊎ (status t b .entries parent .state ≤ status t b .entries d .state)
 
 -- the state b′ that an accepted request leaves of b
-pub record EndState (t b : List ℕ) (q : Request) (b′ : List ℕ) : Type 0 where
+pub record LeftState (t b : List ℕ) (q : Request) (b′ : List ℕ) : Type 0 where
   -- a resource is on exactly if some device needs it with its entry of then
   pub on : (r : ℕ) → (member (status t b′ .on) r ≡ true) ↔ SomeNeeds t b′ r
   -- no device is shallower than its parent
@@ -34,18 +37,26 @@ pub record EndState (t b : List ℕ) (q : Request) (b′ : List ℕ) : Type 0 wh
   -- the device of the request has its new entry, and every other entry is as before
   pub own : status t b′ .entries (q .device) ≡ newEntry (status t b .entries (q .device)) q
   pub others : (d : ℕ) → (d ≡ q .device → ⊥) → status t b′ .entries d ≡ status t b .entries d
-  -- it passes 7 and 8
-  pub consistent : numberOf (stateVerdict t b′) ≡ 0
+  -- it gets neither 7 nor 8
+  pub good : numberOf (stateVerdict t b′) ≡ 0
 
--- what the caller gets: the answer's number and count, the state b′ and the plan plan′. A word of the plan has `size` elements, and `said`
--- turns words into these
-pub record Demand2 (size : ℕ) (said : List ℕ → List ℕ) (t b : List ℕ) (q : Request) (plan : List ℕ)
-    (number n : ℕ) (b′ plan′ : List ℕ) : Type 0 where
-  pub state : number ≡ 0 → EndState t b q b′
-  -- the count is the number of calls; their words are at the front of the plan, and what is past them is as it was lent
-  pub count : number ≡ 0 → n ≡ length (calls (station t) (status t b) q)
-  pub front : number ≡ 0 → take (size * n) plan′ ≡ said (map wordOf (calls (station t) (status t b) q))
-  pub kept : number ≡ 0 → drop (size * n) plan′ ≡ drop (size * n) plan
+-- the plan plan′ that it leaves of plan, and the answer's count. A word of the plan has `size` elements, and `written` turns words into these
+pub record LeftPlan (size : ℕ) (written : List ℕ → List ℕ) (t b : List ℕ) (q : Request) (plan : List ℕ) (count : ℕ) (plan′ : List ℕ)
+    : Type 0 where
+  -- the count is the number of calls
+  pub counts : count ≡ length (calls (station t) (status t b) q)
+  -- their words are at the front of the plan, and what is past them is as it was lent
+  pub front : take (size * count) plan′ ≡ written (map wordOf (calls (station t) (status t b) q))
+  pub kept : drop (size * count) plan′ ≡ drop (size * count) plan
+
+-- number and count are the answer's; b and plan are state and plan as they are lent, b′ and plan′ as they are afterwards
+pub record Demand2 (size : ℕ) (written : List ℕ → List ℕ) (t b : List ℕ) (q : Request) (plan : List ℕ) (number count : ℕ)
+    (b′ plan′ : List ℕ) : Type 0 where
+  -- the answer is 0 exactly if the request is permitted and the plan has room
+  pub accepts : (number ≡ 0) ↔ (Permitted t b q × (size * planRoom (width t) ≤ length plan))
+  -- and then
+  pub state : number ≡ 0 → LeftState t b q b′
+  pub calls : number ≡ 0 → LeftPlan size written t b q plan count plan′
 
 -- of a plan of words, and of one of bytes, four a word
 abbrev pub Demand2Words : List ℕ → List ℕ → Request → List ℕ → ℕ → ℕ → List ℕ → List ℕ → Type 0
