@@ -1,4 +1,4 @@
-//! A list carried out, for the grid and the drawing.
+//! The execution of a list, for the grid and the drawing.
 
 use reference::{execution, Effect, Table};
 use sailgarnet::{calls, Call};
@@ -6,7 +6,7 @@ use sailgarnet::{calls, Call};
 use crate::commands::disagreement;
 use crate::{words, Failure};
 
-/// A list carried out on a panel.
+/// The execution of a list.
 pub struct Trace {
     /// The calls, in order.
     pub steps: Vec<Step>,

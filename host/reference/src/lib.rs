@@ -13,7 +13,7 @@
 
 mod answer;
 mod call;
-mod panel;
+mod execution;
 mod planner;
 mod request;
 mod state;
@@ -21,7 +21,7 @@ mod table;
 
 pub use answer::Answer;
 pub use call::Call;
-pub use panel::{demand3, demand3_words, execution, Panel};
+pub use execution::{demand3, demand3_words, execution, Execution};
 pub use planner::{
     check, check_words, effect, fresh, plan, plan_words, Effect, PLAN_BYTES, PLAN_WORDS,
 };

@@ -4,7 +4,7 @@ mod common;
 
 use common::{state, table, Desk, Record, D0, D2, D3COLD, D3HOT};
 use reference::{
-    check, demand3, effect, wake_range, Answer, Panel, Request, State, Table, PLAN_WORDS,
+    check, demand3, effect, wake_range, Answer, Execution, Request, State, Table, PLAN_WORDS,
 };
 
 /// A device that wakes from S1 with these values, and has all five states.
@@ -365,8 +365,8 @@ fn own_call_needs_are_those_before_or_after() {
 }
 
 #[test]
-fn the_panel_keeps_a_set_and_nothing_else() {
-    let mut panel = Panel::new(0b10);
+fn the_execution_keeps_a_set_and_nothing_else() {
+    let mut execution = Execution::new(0b10);
     for (bytes, on) in [
         ([1, 0, 0, 0], &[0, 1][..]),
         ([1, 0, 0, 0], &[0, 1]),
@@ -384,22 +384,22 @@ fn the_panel_keeps_a_set_and_nothing_else() {
         ([2, 32, 0, 0], &[31, 255]),
         ([2, 255, 0, 0], &[31]),
     ] {
-        panel.feed(u32::from_le_bytes(bytes));
-        let found: Vec<u8> = (0..=255).filter(|&r| panel.is_on(r)).collect();
+        execution.carry_out(u32::from_le_bytes(bytes));
+        let found: Vec<u8> = (0..=255).filter(|&r| execution.is_on(r)).collect();
         assert_eq!(found, on, "{bytes:?}");
         let of_a_table = on.iter().filter(|&&r| r < 32).map(|r| 1 << r).sum::<u32>();
-        assert_eq!(panel.on(), of_a_table, "{bytes:?}");
+        assert_eq!(execution.on(), of_a_table, "{bytes:?}");
     }
 }
 
 #[test]
-fn any_byte_is_a_resource_of_the_panel() {
+fn any_byte_is_a_resource_of_the_execution() {
     for r in 0..=255 {
-        let mut panel = Panel::new(0);
-        panel.feed(u32::from_le_bytes([1, r, 0, 0]));
-        assert!((0..=255).all(|other| panel.is_on(other) == (other == r)));
-        panel.feed(u32::from_le_bytes([2, r, 0, 0]));
-        assert_eq!(panel, Panel::new(0));
+        let mut execution = Execution::new(0);
+        execution.carry_out(u32::from_le_bytes([1, r, 0, 0]));
+        assert!((0..=255).all(|other| execution.is_on(other) == (other == r)));
+        execution.carry_out(u32::from_le_bytes([2, r, 0, 0]));
+        assert_eq!(execution, Execution::new(0));
     }
 }
 

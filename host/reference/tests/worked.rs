@@ -152,7 +152,7 @@ fn w12_s2_has_an_empty_range() {
 }
 
 #[test]
-fn the_panel_follows_w4() {
+fn the_execution_follows_w4() {
     let mut desk = Desk::bench();
     desk.accepts(
         Request::move_to(LAMP, D3COLD),

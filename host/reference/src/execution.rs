@@ -1,19 +1,20 @@
-//! The plain panel on which a list is carried out, and what must hold there.
+//! The execution of a list, and what must hold of it (RULES.md 8).
 
 use crate::call::Call;
 use crate::planner::{effect, Effect};
 use crate::request::Request;
 
-/// A set of resources that follows the words of a list and gives no answers.
-/// It knows no table: any byte is the number of a resource.
+/// What is on while a list is carried out: a set of resources that follows the
+/// words and gives no answers. It knows no table: any byte is the number of a
+/// resource.
 #[derive(Clone, Copy, Debug, PartialEq, Eq)]
-pub struct Panel {
+pub struct Execution {
     /// Resource r is on if bit r % 32 of word r / 32 is 1.
     on: [u32; 8],
 }
 
-impl Panel {
-    /// A panel with these of the resources 0 to 31 on, and no other.
+impl Execution {
+    /// The start, with these of the resources 0 to 31 on, and no other.
     pub fn new(on: u32) -> Self {
         Self {
             on: [on, 0, 0, 0, 0, 0, 0, 0],
@@ -32,7 +33,7 @@ impl Panel {
     }
 
     /// Carries out one word. Only `_ON` and `_OFF` change the set.
-    pub fn feed(&mut self, word: u32) {
+    pub fn carry_out(&mut self, word: u32) {
         match Call::from_word(word) {
             Some(Call::On { resource }) => {
                 let (word, bit) = place(resource);
@@ -46,11 +47,12 @@ impl Panel {
         }
     }
 
-    /// The lowest resource that is on here and not on there.
-    fn first_not_in(self, other: Self) -> Option<usize> {
-        let extra = |word: usize| self.on[word] & !other.on[word];
-        let word = (0..self.on.len()).find(|&word| extra(word) != 0)?;
-        Some(32 * word + extra(word).trailing_zeros() as usize)
+    /// The lowest resource that is on and not in a set.
+    fn first_not_in(self, set: u32) -> Option<usize> {
+        let mut extra = self.on;
+        extra[0] &= !set;
+        let word = extra.iter().position(|&bits| bits != 0)?;
+        Some(32 * word + extra[word].trailing_zeros() as usize)
     }
 }
 
@@ -61,10 +63,12 @@ fn place(resource: u8) -> (usize, u32) {
 
 /// Which of the resources 0 to 31 are on after each word of a list.
 pub fn execution(on: u32, words: impl IntoIterator<Item = u32>) -> impl Iterator<Item = u32> {
-    words.into_iter().scan(Panel::new(on), |panel, word| {
-        panel.feed(word);
-        Some(panel.on())
-    })
+    words
+        .into_iter()
+        .scan(Execution::new(on), |execution, word| {
+            execution.carry_out(word);
+            Some(execution.on())
+        })
 }
 
 /// Carries out a byte list that the checker passed, and checks that
@@ -83,7 +87,7 @@ pub fn demand3(table: &[u8], state: &[u8], request: Request, list: &[u8]) -> Res
         return Err(format!("the list ends with {} odd bytes", rest.len()));
     }
     let words = words.iter().map(|&word| u32::from_le_bytes(word));
-    carry_out(table, state, request, words)
+    check_demand3(table, state, request, words)
 }
 
 /// As [`demand3`], for a list of words.
@@ -93,10 +97,10 @@ pub fn demand3_words(
     request: Request,
     list: &[u32],
 ) -> Result<(), String> {
-    carry_out(table, state, request, list.iter().copied())
+    check_demand3(table, state, request, list.iter().copied())
 }
 
-fn carry_out(
+fn check_demand3(
     table: &[u8],
     state: &[u8],
     request: Request,
@@ -105,39 +109,39 @@ fn carry_out(
     let effect = effect(table, state, request)
         .map_err(|answer| format!("the request is refused with {}", answer.number))?;
     let own_call = effect.own_call.map(Call::word);
-    let mut panel = Panel::new(effect.on_before);
+    let mut execution = Execution::new(effect.on_before);
     let mut own_calls = 0;
-    check_point(&effect, panel, 0)?;
+    check_point(&effect, execution, 0)?;
     for (calls_before, word) in words.enumerate() {
         if own_call == Some(word) {
             own_calls += 1;
-            check_own_call(&effect, panel, calls_before + 1)?;
+            check_own_call(&effect, execution, calls_before + 1)?;
         }
-        panel.feed(word);
-        check_point(&effect, panel, calls_before + 1)?;
+        execution.carry_out(word);
+        check_point(&effect, execution, calls_before + 1)?;
     }
     if own_calls != usize::from(own_call.is_some()) {
         return Err(format!("the own call is made {own_calls} times"));
     }
-    if panel != Panel::new(effect.needed_after) {
+    if execution != Execution::new(effect.needed_after) {
         return Err(format!(
             "at the end {:#010x} is on, not the needed {:#010x}",
-            panel.on(),
+            execution.on(),
             effect.needed_after
         ));
     }
     Ok(())
 }
 
-fn check_point(effect: &Effect, panel: Panel, calls: usize) -> Result<(), String> {
-    let missing = effect.needed_before & effect.needed_after & !panel.on();
+fn check_point(effect: &Effect, execution: Execution, calls: usize) -> Result<(), String> {
+    let missing = effect.needed_before & effect.needed_after & !execution.on();
     if missing != 0 {
         return Err(format!(
             "after {calls} calls {missing:#010x} is off, needed before and after"
         ));
     }
-    let allowed = Panel::new(effect.on_before | effect.needed_after);
-    if let Some(extra) = panel.first_not_in(allowed) {
+    let allowed = effect.on_before | effect.needed_after;
+    if let Some(extra) = execution.first_not_in(allowed) {
         return Err(format!(
             "after {calls} calls r{extra} is on, neither on at the start nor needed after"
         ));
@@ -145,8 +149,8 @@ fn check_point(effect: &Effect, panel: Panel, calls: usize) -> Result<(), String
     Ok(())
 }
 
-fn check_own_call(effect: &Effect, panel: Panel, call: usize) -> Result<(), String> {
-    match effect.own_call_needs & !panel.on() {
+fn check_own_call(effect: &Effect, execution: Execution, call: usize) -> Result<(), String> {
+    match effect.own_call_needs & !execution.on() {
         0 => Ok(()),
         missing => Err(format!(
             "call {call} is the device's own and finds {missing:#010x} off, which it needs"
