@@ -207,7 +207,7 @@ static void refused_tables_and_states(uint8_t *table)
     both("state of 131 bytes", 7);
     in.state_len++;
     in.state[131] = 0x7f;
-    both("soundness, last device", 8);
+    both("consistency, last device", 8);
 }
 
 static void refused_requests_and_lists(const uint8_t *table)

@@ -27,7 +27,7 @@ pub fn any_request(rng: &mut Rng, device_count: usize) -> Request {
 }
 
 /// A request in range, often one that is permitted and changes something.
-/// `table` must be good, and `state` sound for it.
+/// `table` must be good, and `state` consistent for it.
 pub fn likely_request(rng: &mut Rng, table: &[u8], state: &[u8]) -> Request {
     let Ok(view) = Table::read(table) else {
         return any_request(rng, 32);

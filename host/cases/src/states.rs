@@ -1,10 +1,10 @@
-//! Random sound states.
+//! Random consistent states.
 
 use reference::{wake_range, Device, Entry, State, Table, STATE_BYTES};
 
 use crate::rng::Rng;
 
-/// Draws a sound state of a good table, or `None` if the draw failed.
+/// Draws a consistent state of a good table, or `None` if the draw failed.
 pub fn draw_state(rng: &mut Rng, table: &[u8]) -> Option<[u8; STATE_BYTES]> {
     let table = Table::read(table).ok()?;
     let mut state = [0; STATE_BYTES];

@@ -72,7 +72,7 @@ fn accepted() -> Vec<Workload> {
     ]
 }
 
-/// Table, state values and soundness. On the full table the last record is the
+/// Table, state values and consistency. On the full table the last record is the
 /// bad one, so that all others are looked at.
 fn refused_bytes() -> Vec<Workload> {
     let changed = |change: fn(&mut Case)| {
@@ -88,7 +88,7 @@ fn refused_bytes() -> Vec<Workload> {
         Workload::both("state value, last device", 7, {
             changed(|case| case.state[4 * LAST as usize + 1] = 2)
         }),
-        Workload::both("soundness, last device", 8, {
+        Workload::both("consistency, last device", 8, {
             changed(|case| case.state[STATE_BYTES - 1] ^= 128)
         }),
         Workload::planner(

@@ -241,7 +241,7 @@ fn workloads_get_their_answers() {
         planner.extend(workload.planner);
         checker.extend(workload.checker);
     }
-    // Accepted, and refused at each stage: table, state, soundness, room, request, list.
+    // Accepted, and refused at each stage: table, state, consistency, room, request, list.
     assert!([0, 1, 5, 7, 8, 9, 10].iter().all(|n| planner.contains(n)));
     assert!([0, 1, 5, 7, 8, 10, 19].iter().all(|n| checker.contains(n)));
 }

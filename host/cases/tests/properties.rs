@@ -91,7 +91,7 @@ fn an_accepted_request_leaves_the_new_entry_and_the_needed_set() {
         ]);
         expected[128..].copy_from_slice(&effect.needed_after.to_le_bytes());
         assert_eq!(planned.state, expected);
-        // The new state is sound: the next request is looked at.
+        // The new state is consistent: the next request is looked at.
         let next = check(&case.table, &planned.state, Default::default(), &[]);
         assert_eq!(next, Answer::refused(10, 0));
     });

@@ -43,7 +43,7 @@ impl Entry {
     }
 }
 
-/// A state that was found sound for its table.
+/// A state that was found consistent for its table.
 #[derive(Clone, Copy)]
 pub struct State<'a> {
     /// One entry for each device of the table.
@@ -55,7 +55,7 @@ impl<'a> State<'a> {
     /// Reads a state, or refuses it with 7 or 8.
     pub fn read(table: &Table, bytes: &'a [u8]) -> Result<Self, Answer> {
         let state = Self::read_values(table, bytes).ok_or(Answer::refused(7, 0))?;
-        match (0..table.device_count()).find(|&d| !state.is_sound(table, d)) {
+        match (0..table.device_count()).find(|&d| !state.is_consistent(table, d)) {
             Some(d) => Err(Answer::refused(8, d as u64)),
             None => Ok(state),
         }
@@ -72,7 +72,7 @@ impl<'a> State<'a> {
         good.then_some(Self { entries, on })
     }
 
-    fn is_sound(&self, table: &Table, d: usize) -> bool {
+    fn is_consistent(&self, table: &Table, d: usize) -> bool {
         let device = table.device(d);
         let entry = self.entry(d);
         device.supports(entry.state)

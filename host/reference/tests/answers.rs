@@ -237,10 +237,10 @@ fn answer_7_is_a_value_of_the_state() {
 }
 
 #[test]
-fn answer_8_is_a_state_that_is_not_sound() {
+fn answer_8_is_a_state_that_is_not_consistent() {
     // D1 is not supported.
     refuses_state(&state(&[[1, 0, 0, 0]], 7), 8, 0);
-    // The camera is shallower than the bus, and is the one that is not sound.
+    // The camera is shallower than the bus, and is the one that is not consistent.
     refuses_state(&state(&[[3, 0, 0, 0], [0; 4], [4, 0, 0, 0]], 7), 8, 1);
     // Needs that are off.
     refuses_state(&state(&[], 0b101), 8, 1);

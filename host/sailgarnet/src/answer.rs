@@ -96,7 +96,7 @@ pub enum Verdict {
     BadObjects = 6,
     /// The state has the wrong length or a value out of its rules.
     BadState = 7,
-    /// The state is not sound.
+    /// The state is not consistent.
     Inconsistent = 8,
     /// There is too little room for the plan.
     NoRoom = 9,
@@ -200,9 +200,9 @@ impl Verdict {
                 "the state is not 132 bytes long, or a value in it is not allowed."
             }
             Verdict::Inconsistent => {
-                "the state is not sound: this device is in a state it does not have, is shallower \
-                 than its parent, is armed for a wake pair that is not legal or shallower than its \
-                 own state, or needs a resource that is off."
+                "the state is not consistent: this device is in a state it does not have, is \
+                 shallower than its parent, is armed for a wake pair that is not legal or \
+                 shallower than its own state, or needs a resource that is off."
             }
             Verdict::NoRoom => "the buffer for the plan has room for fewer than 33 calls.",
             Verdict::BadRequest => {

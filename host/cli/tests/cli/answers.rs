@@ -49,7 +49,7 @@ fn answers_7_and_8_are_for_states() {
     desk.write("state", &[0; 132]);
     for line in lines {
         let text = desk.run(line).refused(8);
-        assert!(text.contains("device 0: the state is not sound"));
+        assert!(text.contains("device 0: the state is not consistent"));
     }
 }
 
