@@ -326,7 +326,7 @@ static void empty_at(uint8_t *const *address)
     }
 }
 
-/* A request without calls, whose lawful list is empty, so that nothing but the empty buffer decides. */
+/* A request without calls, to which the empty list conforms, so that nothing but the empty buffer decides. */
 static void empties(void)
 {
     uint8_t *addresses[] = {NULL,

@@ -32,7 +32,7 @@ pub fn vary_list(rng: &mut Rng, table: &[u8], earlier: &[u8], list: &mut Vec<u8>
 }
 
 /// Brings the calls of equal resource order, of one kind, into any sequence.
-/// A lawful list stays lawful.
+/// A list that conforms still does so afterwards.
 pub fn permute_equal_orders(rng: &mut Rng, table: &[u8], list: &mut [u8]) {
     let Ok(table) = Table::read(table) else {
         return;

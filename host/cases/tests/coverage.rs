@@ -34,7 +34,7 @@ fn every_size_and_every_shape_is_drawn() {
         devices[station.devices.len()] += 1;
         for device in &station.devices {
             let shape = SHAPES.iter().position(|&s| s == (device.ps, device.pr));
-            shapes[shape.expect("a lawful shape")] += 1;
+            shapes[shape.expect("a shape that keeps the object rules")] += 1;
         }
     }
     let all = resources.iter().chain(&devices).chain(&shapes);
@@ -198,7 +198,7 @@ fn sweeps_reach_their_answers() {
 }
 
 #[test]
-fn changed_lists_are_lawful_only_within_equal_orders() {
+fn changed_lists_conform_only_within_equal_orders() {
     let full = workloads().into_iter().nth(2).expect("the full table").case;
     let (mut passed, mut refused) = (0, 0);
     sweep::each_list(&full.list, |list| {

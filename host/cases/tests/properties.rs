@@ -153,9 +153,9 @@ fn bytes_and_words_agree() {
     });
 }
 
-/// Lawful by the words of RULES.md 7: as a set the list has exactly the calls,
-/// each once, and no call comes before one that must precede it.
-fn is_lawful(table: &Table, effect: &Effect, list: &[u8]) -> bool {
+/// Whether a list conforms, by the words of RULES.md 7: as a set it has exactly
+/// the calls, each once, and no call comes before one that must precede it.
+fn list_conforms(table: &Table, effect: &Effect, list: &[u8]) -> bool {
     let list_words = words(list);
     let mut found = list_words.clone();
     let mut due: Vec<u32> = effect.own_call.map(Call::word).into_iter().collect();
@@ -191,7 +191,7 @@ fn rank(table: &Table, effect: &Effect, word: u32) -> (u8, i32) {
 }
 
 #[test]
-fn the_checker_passes_exactly_the_lawful_lists() {
+fn the_checker_passes_exactly_the_lists_that_conform() {
     let mut passed = 0;
     for_each_case(17, |case| {
         let Ok(effect) = effect(&case.table, &case.state, case.request) else {
@@ -199,10 +199,10 @@ fn the_checker_passes_exactly_the_lawful_lists() {
         };
         let table = Table::read(&case.table).expect("accepted");
         let answer = check(&case.table, &case.state, case.request, &case.list);
-        let lawful = is_lawful(&table, &effect, &case.list);
-        let expected = if lawful { 0 } else { 19 };
+        let conforms = list_conforms(&table, &effect, &case.list);
+        let expected = if conforms { 0 } else { 19 };
         assert_eq!(answer.number, expected, "{case:?}");
-        passed += usize::from(lawful);
+        passed += usize::from(conforms);
     });
     assert!(passed > CASES / 10);
 }

@@ -177,7 +177,7 @@ impl Subject<'_> {
         reference::effect(&self.table, &self.state, request).map_err(|answer| answer.number)
     }
 
-    /// The planner's list, if another one was found not lawful.
+    /// The planner's list, if another one was found not to conform.
     fn planned_instead(&self, answer: Answer) -> String {
         if answer.verdict() != Some(Verdict::NotConforming) {
             return String::new();
@@ -226,7 +226,7 @@ fn check_list(help: &Help, args: &Args) -> Outcome {
     }
     let count = words::count(list.len() / 4, "call");
     Ok(Report::done(format!(
-        "{}The list of {count} is lawful.\n",
+        "{}The list of {count} conforms to the request.\n",
         words::answer_line(answer)
     )))
 }

@@ -66,8 +66,9 @@ pub const CHECK: Help = Help {
     usage: "TABLE STATE REQUEST LIST",
     purpose: "check a list of method calls",
     text: "\
-LIST is a file of calls, four bytes each. It is lawful if it has exactly the
-calls the request needs, in order. STATE is the state before the request.
+LIST is a file of calls, four bytes each. It conforms if it has exactly the
+calls of the request, each once and in order. STATE is the state before the
+request.
 ",
 };
 
@@ -78,7 +79,7 @@ pub const TRACE: Help = Help {
     purpose: "show what is on after each call of a list",
     text: "\
 Without LIST the planner's own list is traced. STATE is the state before the
-request. A list that is not lawful is traced too, and refused.
+request. A list that does not conform is traced too, and refused.
 
 The grid has a row for each resource and a column for the start and for each
 call. It says when some device needs the resource: before or after the request,

@@ -40,7 +40,7 @@ pub fn plan_words(table: &[u8], state: &mut [u8], request: Request, plan: &mut [
     plan_calls(table, state, request, plan.len(), |i, word| plan[i] = word)
 }
 
-/// Says whether `list`, four bytes a call, is a lawful list for the request.
+/// Says whether `list`, four bytes a call, conforms to the request.
 pub fn check(table: &[u8], state: &[u8], request: Request, list: &[u8]) -> Answer {
     let (words, rest) = list.as_chunks::<4>();
     let words = words.iter().map(|&word| u32::from_le_bytes(word));
@@ -92,7 +92,7 @@ fn check_calls(
     list: impl Iterator<Item = u32>,
 ) -> Answer {
     match work_of_check(table, state, request) {
-        Ok((table, work)) if whole_words && work.is_lawful(&table, list) => Answer::done(0),
+        Ok((table, work)) if whole_words && work.list_conforms(&table, list) => Answer::done(0),
         Ok(_) => Answer::refused(19, 0),
         Err(refusal) => refusal,
     }
@@ -169,7 +169,7 @@ impl Work {
 
     /// Whether a list has exactly the calls due, in order, with equal
     /// resource orders in any sequence.
-    fn is_lawful(&self, table: &Table, mut list: impl Iterator<Item = u32>) -> bool {
+    fn list_conforms(&self, table: &Table, mut list: impl Iterator<Item = u32>) -> bool {
         if let Some(own_call) = self.own_call_if(true) {
             if list.next() != Some(own_call) {
                 return false;

@@ -447,7 +447,7 @@ fn answer_18_is_a_wake_state_not_allowed() {
 }
 
 #[test]
-fn answer_19_is_a_list_that_is_not_lawful() {
+fn answer_19_is_a_list_that_does_not_conform() {
     let mut desk = Desk::bench();
     desk.state = state(&[[0; 4], [3, 0, 0, 0], [4, 0, 0, 0]], 1);
     let request = Request::move_to(CAMERA, D0);

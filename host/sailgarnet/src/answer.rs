@@ -118,7 +118,7 @@ pub enum Verdict {
     WakeUnpowered = 17,
     /// The device state is not allowed for wake.
     BadWakeState = 18,
-    /// The list is not lawful.
+    /// The list does not conform.
     NotConforming = 19,
 }
 
@@ -235,7 +235,7 @@ impl Verdict {
                  present state."
             }
             Verdict::NotConforming => {
-                "the list is not lawful: it does not have exactly the calls that are due, each \
+                "the list does not conform: it does not have exactly the calls that are due, each \
                  once and in order."
             }
         }

@@ -112,11 +112,11 @@ pub fn plan(table: &[u8], state: &mut [u8], request: Request, plan: &mut [u8]) -
     Answer::unpack(packed)
 }
 
-/// Says whether `list`, four bytes a call, is a lawful list for a request. It
-/// writes nothing.
+/// Says whether `list`, four bytes a call, conforms to a request. It writes
+/// nothing.
 ///
 /// Gives 0, or a refusal: 1 to 8 and 10 to 18 as the planner gives them, 19 if
-/// the request is permitted and the list is not lawful.
+/// the request is permitted and the list does not conform.
 #[inline]
 pub fn check(table: &[u8], state: &[u8], request: Request, list: &[u8]) -> Answer {
     let Request { kind, device, a, b } = request;

@@ -94,6 +94,6 @@ fn answer_19_is_for_lists() {
     for name in ["check", "trace"] {
         let line = format!("{name} table state move 1 D2 calls");
         let text = desk.run(&line).refused(19);
-        assert!(text.contains("place 0: the list is not lawful"));
+        assert!(text.contains("place 0: the list does not conform"));
     }
 }

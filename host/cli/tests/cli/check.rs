@@ -1,20 +1,20 @@
 use crate::desk::Desk;
 
-const LAWFUL: [u8; 12] = [3, 1, 3, 0, 2, 1, 0, 0, 2, 2, 0, 0];
+const CONFORMING: [u8; 12] = [3, 1, 3, 0, 2, 1, 0, 0, 2, 2, 0, 0];
 
 #[test]
-fn a_lawful_list_passes() {
+fn a_list_that_conforms_passes() {
     let desk = Desk::with_dark_lamp("check_good");
-    desk.write("calls", &LAWFUL);
+    desk.write("calls", &CONFORMING);
     let text = desk.run("check table state move 1 D3hot calls").done();
-    assert!(text.contains("The list of 3 calls is lawful."));
+    assert!(text.contains("The list of 3 calls conforms to the request."));
     let text = desk.run_words(["check", "table", "state", "move 1 D3hot", "calls"]);
     text.done();
     assert_eq!(desk.files(), ["calls", "state", "table"]);
 }
 
 #[test]
-fn an_empty_list_can_be_lawful() {
+fn an_empty_list_can_conform() {
     let desk = Desk::new("check_empty");
     desk.write("calls", &[]);
     desk.run("check table state move 2 D3cold calls").done();
@@ -25,7 +25,7 @@ fn an_empty_list_can_be_lawful() {
 fn other_lists_are_refused_and_the_planners_is_shown() {
     let desk = Desk::with_dark_lamp("check_refused");
     let exchanged = [3, 1, 3, 0, 2, 2, 0, 0, 2, 1, 0, 0];
-    for list in [&exchanged, &LAWFUL[..8], &LAWFUL[..11], &[]] {
+    for list in [&exchanged, &CONFORMING[..8], &CONFORMING[..11], &[]] {
         desk.write("calls", list);
         let text = desk.run("check table state move 1 D3hot calls").refused(19);
         assert!(text.contains("The planner's list has 3 calls:\n"));

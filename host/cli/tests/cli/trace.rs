@@ -37,8 +37,8 @@ fn a_list_from_a_file_is_traced() {
 }
 
 #[test]
-fn a_list_that_is_not_lawful_is_traced_and_refused() {
-    let desk = Desk::with_dark_lamp("trace_unlawful");
+fn a_list_that_does_not_conform_is_traced_and_refused() {
+    let desk = Desk::with_dark_lamp("trace_not_conforming");
     desk.write(
         "calls",
         &[2, 0, 0, 0, 2, 2, 0, 0, 3, 1, 3, 0, 7, 7, 7, 7, 1],
