@@ -223,7 +223,7 @@ def own_call(device, before, q):
 
 
 # the parts of a permitted request's list, in their order, each with the order that its calls must keep; and the image afterwards
-def carry_out(t, image, q):
+def parts_and_image(t, image, q):
     resources, devices = split(t)
     kind, d, a, b = q
     after = bytearray(image)
@@ -236,13 +236,13 @@ def carry_out(t, image, q):
     want, have = needed(devices, after), le(image[128:])
     after[128:] = want.to_bytes(4, "little")
     order = [le(r[2:4]) for r in resources]
-    ons = [(order[r], r) for r in range(len(resources)) if want >> r & 1 and not have >> r & 1]
-    offs = [(-order[r], -r) for r in range(len(resources)) if have >> r & 1 and not want >> r & 1]
-    ons = [(key, bytes([1, r, 0, 0])) for key, r in sorted(ons)]
-    offs = [(key, bytes([2, -r, 0, 0])) for key, r in sorted(offs)]
+    turn_on = [(order[r], r) for r in range(len(resources)) if want >> r & 1 and not have >> r & 1]
+    turn_off = [(-order[r], -r) for r in range(len(resources)) if have >> r & 1 and not want >> r & 1]
+    turn_on = [(key, bytes([1, r, 0, 0])) for key, r in sorted(turn_on)]
+    turn_off = [(key, bytes([2, -r, 0, 0])) for key, r in sorted(turn_off)]
     own = [(0, call) for call in own_call(devices[d], image[4 * d:4 * d + 4], q)]
     own_first = kind == 3 or (kind == 1 and a > image[4 * d])
-    return [own, ons, offs] if own_first else [ons, offs, own], bytes(after)
+    return [own, turn_on, turn_off] if own_first else [turn_on, turn_off, own], bytes(after)
 
 
 # number, place, the calls, the image afterwards; room: whether 33 words fit
@@ -256,7 +256,7 @@ def plan(t, image, q, room):
         number, place = permitted(t, image, q)
     if number:
         return number, place, [], image
-    parts, after = carry_out(t, image, q)
+    parts, after = parts_and_image(t, image, q)
     return 0, 0, [call for part in parts for _, call in part], after
 
 
@@ -268,7 +268,7 @@ def check_list(t, image, q, listed):
     if len(listed) % 4:
         return 19, 0
     left = [listed[i:i + 4] for i in range(0, len(listed), 4)]
-    for part in carry_out(t, image, q)[0]:
+    for part in parts_and_image(t, image, q)[0]:
         # calls of equal orders are taken from the list as a set, since their sequence is free
         while part:
             equal = sorted(call for key, call in part if key == part[0][0])

@@ -51,7 +51,7 @@ const RULES: [&str; 24] = [
     "disarming a device that is not armed",
     "own call before resource calls",
     "own call after resource calls",
-    "ONs and OFFs in one list",
+    "turn-on and turn-off calls in one list",
     "33 calls",
     "no calls",
     "equal orders in one list",

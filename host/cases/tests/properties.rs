@@ -174,7 +174,8 @@ fn list_conforms(table: &Table, effect: &Effect, list: &[u8]) -> bool {
     list.len().is_multiple_of(4) && found == due && ranks.is_sorted()
 }
 
-/// Where a call that is due belongs: own call before or after, ONs, then OFFs.
+/// Where a call that is due belongs: own call first or last, turn-on calls, then
+/// turn-off calls.
 fn rank(table: &Table, effect: &Effect, word: u32) -> (u8, i32) {
     let order = |r: u8| match usize::from(r) < table.resource_count() {
         true => i32::from(table.resource_order(r.into())),

@@ -30,7 +30,7 @@ impl Answer {
         }
     }
 
-    /// Whether the request was carried out.
+    /// Whether nothing was refused.
     pub const fn is_done(self) -> bool {
         self.number == 0
     }

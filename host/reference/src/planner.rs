@@ -115,9 +115,9 @@ struct Work {
     /// The resources needed after the request.
     needed: u32,
     /// Those of them that are off.
-    ons: u32,
+    to_turn_on: u32,
     /// The resources that are on and not needed.
-    offs: u32,
+    to_turn_off: u32,
 }
 
 impl Work {
@@ -126,8 +126,8 @@ impl Work {
         let needed = state.needed_with(table, change.device, change.entry);
         Ok(Self {
             needed,
-            ons: needed & !state.on(),
-            offs: state.on() & !needed,
+            to_turn_on: needed & !state.on(),
+            to_turn_off: state.on() & !needed,
             change,
         })
     }
@@ -147,7 +147,7 @@ impl Work {
         };
         self.own_call_if(true).into_iter().for_each(&mut push);
         let mut keys = [0; MAX_RESOURCES];
-        for &key in rising(table, self.ons, &mut keys) {
+        for &key in rising(table, self.to_turn_on, &mut keys) {
             push(
                 Call::On {
                     resource: key as u8,
@@ -155,7 +155,7 @@ impl Work {
                 .word(),
             );
         }
-        for &key in rising(table, self.offs, &mut keys).iter().rev() {
+        for &key in rising(table, self.to_turn_off, &mut keys).iter().rev() {
             push(
                 Call::Off {
                     resource: key as u8,
@@ -175,7 +175,9 @@ impl Work {
                 return false;
             }
         }
-        if !switches_on(table, self.ons, &mut list) || !switches_off(table, self.offs, &mut list) {
+        if !switches_on(table, self.to_turn_on, &mut list)
+            || !switches_off(table, self.to_turn_off, &mut list)
+        {
             return false;
         }
         if let Some(own_call) = self.own_call_if(false) {

@@ -266,14 +266,14 @@ fn wide() -> Desk {
 }
 
 #[test]
-fn equal_orders_rise_by_number_for_ons_and_fall_for_offs() {
+fn equal_orders_rise_by_number_for_turn_on_calls_and_fall_for_turn_off_calls() {
     let mut desk = wide();
-    let offs: Vec<[u8; 4]> = (0..32).rev().map(|r| [2, r, 0, 0]).collect();
-    let ons: Vec<[u8; 4]> = (0..32).map(|r| [1, r, 0, 0]).collect();
-    let deeper = [vec![[3, 0, 3, 0]], offs].concat();
+    let turn_off: Vec<[u8; 4]> = (0..32).rev().map(|r| [2, r, 0, 0]).collect();
+    let turn_on: Vec<[u8; 4]> = (0..32).map(|r| [1, r, 0, 0]).collect();
+    let deeper = [vec![[3, 0, 3, 0]], turn_off].concat();
     assert_eq!(deeper.len(), PLAN_WORDS);
     desk.accepts(Request::move_to(0, D3COLD), &deeper, &[[4, 0, 0, 0]], 0);
-    let shallower = [ons, vec![[3, 0, 0, 0]]].concat();
+    let shallower = [turn_on, vec![[3, 0, 0, 0]]].concat();
     desk.accepts(Request::move_to(0, D0), &shallower, &[], u32::MAX);
 }
 
@@ -314,7 +314,7 @@ fn orders_are_16_bit_numbers() {
 }
 
 #[test]
-fn ons_come_before_offs() {
+fn turn_on_calls_come_before_turn_off_calls() {
     let device = Record {
         ps: 0x0d,
         pr: 0x0d,

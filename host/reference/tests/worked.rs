@@ -172,7 +172,7 @@ fn the_execution_follows_w4() {
 }
 
 #[test]
-fn w4_with_the_two_offs_exchanged_does_not_conform() {
+fn w4_with_the_two_turn_off_calls_exchanged_does_not_conform() {
     let mut desk = Desk::bench();
     desk.accepts(
         Request::move_to(LAMP, D3COLD),

@@ -32,7 +32,7 @@ impl Answer {
         self.number as u64 | (self.count as u64) << 8 | self.place << 24
     }
 
-    /// Whether the request was carried out.
+    /// Whether nothing was refused.
     pub const fn is_done(self) -> bool {
         self.number == 0
     }
@@ -80,7 +80,7 @@ pub enum Place {
 #[derive(Clone, Copy, Debug, PartialEq, Eq, Hash)]
 #[repr(u8)]
 pub enum Verdict {
-    /// The request was carried out.
+    /// Nothing is refused.
     Done = 0,
     /// The table is too short for a header, or the header is wrong.
     NotATable = 1,
