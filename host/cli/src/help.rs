@@ -85,6 +85,11 @@ The grid has a row for each resource and a column for the start and for each
 call. It says when some device needs the resource: before or after the request,
 or both. The mark ! stands where a resource is off though needed before and after.
 
+Faults are below the grid: words that are no call of the table, resources that
+are off though needed, and resources that are on at the end though not needed.
+A list without a fault may still not conform: a call may be missing, or not in
+its place.
+
   --svg FILE    draw the trace as a timing diagram, for a browser
 ",
 };

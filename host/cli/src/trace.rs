@@ -1,6 +1,6 @@
 //! The execution of a list, for the grid and the drawing.
 
-use reference::{execution, Effect, Table};
+use reference::{numbers, Effect, Execution, Table};
 use sailgarnet::{calls, Call};
 
 use crate::commands::disagreement;
@@ -52,11 +52,14 @@ impl Trace {
     pub fn new(table: &[u8], effect: &Effect, list: &[u8]) -> Result<Self, Failure> {
         let table = Table::read(table).map_err(|answer| disagreement(answer.number))?;
         let steps = steps(effect, list);
-        let sets = sets(effect, list);
+        let points = points(effect, list);
         let rows: Vec<Row> = (0..table.resource_count())
-            .map(|r| row(&table, effect, &sets, r))
+            .map(|r| row(&table, effect, &points, r))
             .collect();
-        let faults = faults(effect, &steps, &rows, &sets, list.len() % 4);
+        let end = points[points.len() - 1];
+        let mut faults = faults_of_words(&table, &steps);
+        faults.extend(faults_on_the_way(effect, &steps, &rows, &points));
+        faults.extend(faults_at_the_end(effect, end, list.len() % 4));
         Ok(Self {
             steps,
             rows,
@@ -78,54 +81,79 @@ fn steps(effect: &Effect, list: &[u8]) -> Vec<Step> {
 }
 
 /// What is on at the start and after each call.
-fn sets(effect: &Effect, list: &[u8]) -> Vec<u32> {
-    let words = list.as_chunks().0.iter();
-    let words = words.map(|&bytes| u32::from_le_bytes(bytes));
-    let mut sets = vec![effect.on_before];
-    sets.extend(execution(effect.on_before, words));
-    sets
+fn points(effect: &Effect, list: &[u8]) -> Vec<Execution> {
+    let mut execution = Execution::new(effect.on_before);
+    let mut points = vec![execution];
+    for &bytes in list.as_chunks().0 {
+        execution.carry_out(u32::from_le_bytes(bytes));
+        points.push(execution);
+    }
+    points
 }
 
-fn row(table: &Table, effect: &Effect, sets: &[u32], r: usize) -> Row {
+fn row(table: &Table, effect: &Effect, points: &[Execution], r: usize) -> Row {
     let holds = |set: u32| set >> r & 1 != 0;
     Row {
         resource: r,
         order: table.resource_order(r),
         needed_before: holds(effect.needed_before),
         needed_after: holds(effect.needed_after),
-        on: sets.iter().map(|&set| holds(set)).collect(),
+        on: points.iter().map(|point| holds(point.on())).collect(),
     }
 }
 
-fn faults(
-    effect: &Effect,
-    steps: &[Step],
-    rows: &[Row],
-    sets: &[u32],
-    odd_bytes: usize,
-) -> Vec<String> {
-    let mut faults = faults_on_the_way(effect, steps, rows, sets);
-    let end = sets[sets.len() - 1];
-    for (set, what) in [
-        (effect.needed_after & !end, "off, though needed"),
-        (end & !effect.needed_after, "on, though not needed"),
-    ] {
-        if set != 0 {
-            faults.push(format!("At the end {what}: {}.", words::resources(set)));
+/// Words that are no call, and calls of what the table does not have.
+fn faults_of_words(table: &Table, steps: &[Step]) -> Vec<String> {
+    let faults = (1..).zip(steps).filter_map(|(number, step)| {
+        let fault = match step.call {
+            None => return Some(format!("Word {number} is no call.")),
+            Some(call) => fault_of_call(table, call)?,
+        };
+        Some(format!("Call {number} {fault}."))
+    });
+    faults.collect()
+}
+
+fn fault_of_call(table: &Table, call: Call) -> Option<String> {
+    let fault_of_device = |device| fault_of_number("device", device, table.device_count());
+    match call {
+        Call::On { resource } | Call::Off { resource } => {
+            fault_of_number("resource", resource, table.resource_count())
         }
+        Call::SetState { device, method } => fault_of_device(device).or_else(|| {
+            let exists = table.device(device.into()).has_set_state_method(method);
+            fault_of_method(device, &format!("_PS{method}"), exists)
+        }),
+        Call::SetWake { device, .. } => fault_of_device(device).or_else(|| {
+            let exists = table.device(device.into()).has_dsw();
+            fault_of_method(device, "_DSW", exists)
+        }),
     }
-    if odd_bytes > 0 {
-        let bytes = words::count(odd_bytes, "odd byte");
-        faults.push(format!("The list ends with {bytes}; a call has four."));
-    }
-    faults
+}
+
+fn fault_of_method(device: u8, method: &str, exists: bool) -> Option<String> {
+    (!exists).then(|| format!("is {method} of device {device}, which has no {method}"))
+}
+
+fn fault_of_number(noun: &str, number: u8, count: usize) -> Option<String> {
+    let has = match count {
+        0 => "none".into(),
+        _ => format!("{count}, numbered from 0"),
+    };
+    (usize::from(number) >= count)
+        .then(|| format!("names {noun} {number}, and the table has {has}"))
 }
 
 /// Resources that go off too early, and an own call that finds its needs off.
-fn faults_on_the_way(effect: &Effect, steps: &[Step], rows: &[Row], sets: &[u32]) -> Vec<String> {
+fn faults_on_the_way(
+    effect: &Effect,
+    steps: &[Step],
+    rows: &[Row],
+    points: &[Execution],
+) -> Vec<String> {
     let mut faults = Vec::new();
     for row in rows {
-        if let Some(point) = (0..sets.len()).find(|&point| row.fails_at(point)) {
+        if let Some(point) = (0..points.len()).find(|&point| row.fails_at(point)) {
             let r = row.resource;
             faults.push(format!(
                 "r{r} is off after call {point}, though it is needed before and after."
@@ -133,7 +161,7 @@ fn faults_on_the_way(effect: &Effect, steps: &[Step], rows: &[Row], sets: &[u32]
         }
     }
     for (i, step) in steps.iter().enumerate() {
-        let missing = effect.own_call_needs & !sets[i];
+        let missing = effect.own_call_needs & !points[i].on();
         if step.own && missing != 0 {
             faults.push(format!(
                 "Call {} is the device's own and finds off what it needs: {}.",
@@ -141,6 +169,23 @@ fn faults_on_the_way(effect: &Effect, steps: &[Step], rows: &[Row], sets: &[u32]
                 words::resources(missing)
             ));
         }
+    }
+    faults
+}
+
+/// Resources that are not as needed, and bytes that are no word.
+fn faults_at_the_end(effect: &Effect, end: Execution, odd_bytes: usize) -> Vec<String> {
+    let off = words::names(numbers(effect.needed_after & !end.on()));
+    let on = words::names(end.on_but_not_in(effect.needed_after));
+    let mut faults = Vec::new();
+    for (names, what) in [(off, "off, though needed"), (on, "on, though not needed")] {
+        if !names.is_empty() {
+            faults.push(format!("At the end {what}: {names}."));
+        }
+    }
+    if odd_bytes > 0 {
+        let bytes = words::count(odd_bytes, "odd byte");
+        faults.push(format!("The list ends with {bytes}; a call has four."));
     }
     faults
 }

@@ -13,12 +13,17 @@ pub fn device_state(state: u8) -> &'static str {
     DEVICE_STATES[usize::from(state)]
 }
 
-/// The resources of a set.
+/// The resources of a set, or that there are none.
 pub fn resources(set: u32) -> String {
-    if set == 0 {
-        return "none".into();
+    match set {
+        0 => "none".into(),
+        _ => names(numbers(set)),
     }
-    let names: Vec<String> = numbers(set).map(|r| format!("r{r}")).collect();
+}
+
+/// The names of resources.
+pub fn names(resources: impl IntoIterator<Item = usize>) -> String {
+    let names: Vec<String> = resources.into_iter().map(|r| format!("r{r}")).collect();
     names.join(" ")
 }
 

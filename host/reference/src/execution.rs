@@ -3,6 +3,7 @@
 use crate::call::Call;
 use crate::planner::{effect, Effect};
 use crate::request::Request;
+use crate::table::numbers;
 
 /// What is on while a list is carried out: a set of resources that follows the
 /// words and gives no answers. It knows no table: any byte is the number of a
@@ -47,12 +48,12 @@ impl Execution {
         }
     }
 
-    /// The lowest resource that is on and not in a set.
-    fn first_not_in(self, set: u32) -> Option<usize> {
+    /// The resources that are on and not in a set, rising.
+    pub fn on_but_not_in(self, set: u32) -> impl Iterator<Item = usize> {
         let mut extra = self.on;
         extra[0] &= !set;
-        let word = extra.iter().position(|&bits| bits != 0)?;
-        Some(32 * word + extra[word].trailing_zeros() as usize)
+        let words = (0..).step_by(32).zip(extra);
+        words.flat_map(|(first, bits)| numbers(bits).map(move |bit| first + bit))
     }
 }
 
@@ -141,7 +142,7 @@ fn check_point(effect: &Effect, execution: Execution, calls: usize) -> Result<()
         ));
     }
     let allowed = effect.on_before | effect.needed_after;
-    if let Some(extra) = execution.first_not_in(allowed) {
+    if let Some(extra) = execution.on_but_not_in(allowed).next() {
         return Err(format!(
             "after {calls} calls r{extra} is on, neither on at the start nor needed after"
         ));

@@ -63,6 +63,7 @@ fn a_list_that_does_not_conform_is_traced_and_refused() {
     );
     for line in [
         "   4  07 07 07 07  no call",
+        "Fault: Word 4 is no call.",
         "Fault: r0 is off after call 1, though it is needed before and after.",
         "Fault: Call 3 is the device's own and finds off what it needs: r0 r2.",
         "Fault: At the end off, though needed: r0.",
@@ -72,6 +73,73 @@ fn a_list_that_does_not_conform_is_traced_and_refused() {
     ] {
         assert!(text.lines().any(|found| found == line), "{line}\n{text}");
     }
+}
+
+/// The faults of a list for W4 on the bench station.
+fn faults(name: &str, list: &[[u8; 4]]) -> Vec<String> {
+    let desk = Desk::with_dark_lamp(name);
+    desk.write("calls", list.as_flattened());
+    let text = desk.run("trace table state move 1 D3hot calls").refused(19);
+    let faults = text.lines().filter_map(|line| line.strip_prefix("Fault: "));
+    faults.map(String::from).collect()
+}
+
+const W4: [[u8; 4]; 3] = [[3, 1, 3, 0], [2, 1, 0, 0], [2, 2, 0, 0]];
+
+#[test]
+fn a_call_of_what_the_table_does_not_have_is_a_fault() {
+    let with = |call| [&W4[..2], &[call], &W4[2..]].concat();
+    for (call, sentence) in [
+        (
+            [1, 3, 0, 0],
+            "names resource 3, and the table has 3, numbered from 0",
+        ),
+        (
+            [1, 40, 0, 0],
+            "names resource 40, and the table has 3, numbered from 0",
+        ),
+        (
+            [2, 31, 0, 0],
+            "names resource 31, and the table has 3, numbered from 0",
+        ),
+        (
+            [2, 255, 0, 0],
+            "names resource 255, and the table has 3, numbered from 0",
+        ),
+        (
+            [3, 3, 0, 0],
+            "names device 3, and the table has 3, numbered from 0",
+        ),
+        (
+            [4, 200, 0, 0],
+            "names device 200, and the table has 3, numbered from 0",
+        ),
+        ([3, 1, 1, 0], "is _PS1 of device 1, which has no _PS1"),
+        ([3, 2, 2, 0], "is _PS2 of device 2, which has no _PS2"),
+        ([4, 0, 3, 0x82], "is _DSW of device 0, which has no _DSW"),
+    ] {
+        let mut expected = vec![format!("Call 3 {sentence}.")];
+        if let [1, r, ..] = call {
+            expected.push(format!("At the end on, though not needed: r{r}."));
+        }
+        assert_eq!(faults("trace_foreign_call", &with(call)), expected);
+    }
+    // Calls of the table have no such fault, and neither has another order.
+    for call in [[1, 2, 0, 0], [2, 0, 0, 0], [3, 1, 2, 0], [4, 1, 0, 0]] {
+        let faults = faults("trace_own_call", &with(call));
+        assert!(faults.iter().all(|fault| !fault.starts_with("Call 3 ")));
+    }
+    let exchanged = [W4[0], W4[2], W4[1]];
+    assert_eq!(faults("trace_exchanged", &exchanged), [""; 0]);
+}
+
+#[test]
+fn resources_beyond_those_of_a_table_are_followed_to_the_end() {
+    let on_and_off = [[1, 40, 0, 0], [1, 7, 0, 0], [1, 255, 0, 0], [2, 40, 0, 0]];
+    let list = [&W4[..], &on_and_off].concat();
+    let faults = faults("trace_beyond", &list);
+    assert_eq!(faults.len(), 5);
+    assert_eq!(faults[4], "At the end on, though not needed: r7 r255.");
 }
 
 #[test]
@@ -170,6 +238,9 @@ fn a_table_without_resources_is_traced_and_drawn() {
     let drawing = String::from_utf8(desk.read("drawing")).expect("text");
     is_well_formed(&drawing);
     assert!(drawing.contains("The table has no resources."));
+    desk.write("calls", &[1, 0, 0, 0]);
+    let text = desk.run("trace table state move 0 D3hot calls").refused(19);
+    assert!(text.contains("Fault: Call 1 names resource 0, and the table has none.\n"));
 }
 
 #[test]
