@@ -94,7 +94,7 @@ module _ (s : Station) (c : Change) (ws : List ℕ) (a : Taken)
   unfolding walked andThen isEnd
   first-refused e = rw (refused-is ws a _ ha e) refl
 
-  module _ (i : ℕ) (ea : a ≡ UpTo i) (b : Taken) (hb : Leaves ws b (takePhases s (c .on) (c .off) (drop i ws))) where
+  module _ (i : ℕ) (ea : a ≡ UpTo i) (b : Taken) (hb : Leaves ws b (takePhases s (c .added) (c .removed) (drop i ws))) where
     pub switches-refused : b ≡ Refused → false ≡ walked s c ws
     unfolding walked andThen isEnd
     switches-refused e = rw (left-is ws a _ i ha ea, refused-is ws b _ hb e) refl

@@ -46,5 +46,5 @@ unfoldable pub walked : Station → Change → List ℕ → Bool
 walked s c ws =
     isEnd
     (andThen (takeWords (ownWords (not (c .last)) (c .own)) ws)
-    λ a. andThen (takePhases s (c .on) (c .off) a)
+    λ a. andThen (takePhases s (c .added) (c .removed) a)
     λ b. takeWords (ownWords (c .last) (c .own)) b)

@@ -64,7 +64,7 @@ pub fn walk(table: &[u8], c: Change, list: &[u32]) -> bool
     let Taken::UpTo(first) = take_own(own, !c.last, list, 0) else {
         return false;
     };
-    let Taken::UpTo(last) = take_phases(table, c.on, c.off, list, first) else {
+    let Taken::UpTo(last) = take_phases(table, c.added, c.removed, list, first) else {
         return false;
     };
     let Taken::UpTo(end) = take_own(own, c.last, list, last) else {

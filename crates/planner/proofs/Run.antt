@@ -113,21 +113,21 @@ module _ (t : List ℕ) (c : Change) where
   own = map wordOf (listOf (c .own))
 
   abbrev phases : List ℕ
-  phases = phaseWords (station t) (c .on) (c .off)
+  phases = phaseWords (station t) (c .added) (c .removed)
 
-  pub own-comes-last : c .last ≡ true → changeWords (station t) c ≡ phaseWords (station t) (c .on) (c .off) ++ map wordOf (listOf (c .own))
+  pub own-comes-last : c .last ≡ true → changeWords (station t) c ≡ phaseWords (station t) (c .added) (c .removed) ++ map wordOf (listOf (c .own))
   unfolding changeWords phaseWords switchWords switchWord inOrder arrange
   own-comes-last h = rw h (simp regroup)
 
   pub own-comes-first : c .last ≡ false → changeWords (station t) c ≡ map wordOf (listOf (c .own)) ++ phaseWords
-      (station t) (c .on) (c .off)
+      (station t) (c .added) (c .removed)
   unfolding changeWords phaseWords switchWords switchWord inOrder arrange
   own-comes-first h = rw h (simp regroup)
 
   -- a plan has at most R + 1 words, so each run has room
   module _ (g : GoodChange t c) where
-    runs-fit : length (phaseWords (station t) (c .on) (c .off)) + length (listOf (c .own)) ≤ countR t + 1
-    runs-fit = omega (arith, phase-fits t (c .on) (c .off) (g .disjoint), own-long (c .own))
+    runs-fit : length (phaseWords (station t) (c .added) (c .removed)) + length (listOf (c .own)) ≤ countR t + 1
+    runs-fit = omega (arith, phase-fits t (c .added) (c .removed) (g .disjoint), own-long (c .own))
 
     change-fits : length (changeWords (station t) c) ≤ countR t + 1
     change-fits =
@@ -144,17 +144,17 @@ module _ (t : List ℕ) (c : Change) where
       pub own-first-room : 0 + length (listOf (c .own)) ≤ length d
       own-first-room = omega (arith, runs-fit, z .resources)
 
-      pub phases-first-room : 0 + length (phaseWords (station t) (c .on) (c .off)) ≤ length d
+      pub phases-first-room : 0 + length (phaseWords (station t) (c .added) (c .removed)) ≤ length d
       phases-first-room = omega (arith, runs-fit, z .resources)
 
       -- l: the plan after the first run, p: the place after it
       module _ (p : ℕ) (l : List ℕ) where
-        pub own-last-room : p ≡ 0 + length (phaseWords (station t) (c .on) (c .off))
-            → l ≡ put d 0 (phaseWords (station t) (c .on) (c .off)) → p + length (listOf (c .own)) ≤ length l
+        pub own-last-room : p ≡ 0 + length (phaseWords (station t) (c .added) (c .removed))
+            → l ≡ put d 0 (phaseWords (station t) (c .added) (c .removed)) → p + length (listOf (c .own)) ≤ length l
         own-last-room e f = rw f (omega (arith, runs-fit, z .resources, length-put d 0 phases phases-first-room))
 
         pub phases-last-room : p ≡ 0 + length (map wordOf (listOf (c .own))) → l ≡ put d 0 (map wordOf (listOf (c .own)))
-            → p + length (phaseWords (station t) (c .on) (c .off)) ≤ length l
+            → p + length (phaseWords (station t) (c .added) (c .removed)) ≤ length l
         phases-last-room e f =
             let m = length-map (listOf (c .own)) wordOf in
             rw f (omega (arith, runs-fit, z .resources, m, length-put d 0 own (omega (arith, own-first-room, m))))

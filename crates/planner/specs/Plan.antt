@@ -14,7 +14,7 @@ use Rattle.status.specs.State.{withEntry}
 
 -- the words of all calls of a change
 unfoldable pub changeWords : Station → Change → List ℕ
-changeWords s c = map wordOf (arrange (c .last) (listOf (c .own)) (rising s (c .on)) (reverse (rising s (c .off))))
+changeWords s c = map wordOf (arrange (c .last) (listOf (c .own)) (rising s (c .added)) (reverse (rising s (c .removed))))
 
 -- the state with the change's entry for device d, and the set that is then needed on
 unfoldable pub changedState : State → ℕ → Change → State

@@ -50,9 +50,9 @@ pub fn write_calls(table: &[u8], c: Change, plan: &mut [u32]) -> usize
 {
     let own = c.own;
     if c.last {
-        let p = write_switches(table, c.on, c.off, plan, 0);
+        let p = write_switches(table, c.added, c.removed, plan, 0);
         return write_own(own, plan, p);
     }
     let p = write_own(own, plan, 0);
-    write_switches(table, c.on, c.off, plan, p)
+    write_switches(table, c.added, c.removed, plan, p)
 }

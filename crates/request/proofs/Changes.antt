@@ -61,7 +61,7 @@ module _ (t b : List ℕ) (q : Request) (g : PermittedRequest t b q) where
   -- ---- the parts together
   module _ (on n u v : ℕ) (e f : Entry) (o : OptionalCall) (l : Bool) (up : u ≡ minus n on) (down : v ≡ minus on n) where
     abbrev made : Change
-    made = record { entry = f; needed = n; on = u; off = v; own = o; last = l }
+    made = record { entry = f; needed = n; added = u; removed = v; own = o; last = l }
 
     module _ (read : e ≡ entryAt b (4 * q .device)) (new : f ≡ newEntry e q)
         (need : n ≡ needed (station t) (replaceEntry (entries t b) (q .device) f)) (own : o ≡ ownCall (station t) e q) where
@@ -83,8 +83,8 @@ module _ (t b : List ℕ) (q : Request) (g : PermittedRequest t b q) where
       pub change-good : on < 2 ^ countR t → GoodChange t made
       change-good h =
           record {
-            on = rw up (minus-lt _ _ _ needed-lt);
-            off = rw down (minus-lt _ _ _ h);
+            added = rw up (minus-lt _ _ _ needed-lt);
+            removed = rw down (minus-lt _ _ _ h);
             disjoint = rw (up, down) (minus-disjoint n on);
             own = own-in-range t e q o own (g .ready .sized) (g .device) (g .first) (g .second);
           }

@@ -29,7 +29,7 @@ Disjoint a b = (r : ℕ) → member a r && member b r ≡ false
 -- what holds of a change, so that its calls can be written or looked for: resources of the table, none switched both ways, a call of
 -- RULES.md 2.9
 pub record GoodChange (t : List ℕ) (c : Change) : Type 0 where
-  pub on : c .on < 2 ^ countR t
-  pub off : c .off < 2 ^ countR t
-  pub disjoint : Disjoint (c .on) (c .off)
+  pub added : c .added < 2 ^ countR t
+  pub removed : c .removed < 2 ^ countR t
+  pub disjoint : Disjoint (c .added) (c .removed)
   pub own : OptionalInRange (c .own)

@@ -18,15 +18,15 @@ pub fn change(table: &[u8], devices: &[u8], on: u32, q: Request) -> Change
     let e = status::image::entry(devices, d);
     let entry = crate::new_entry(e, q);
     let needed = status::needed::needed_with(table, devices, d, entry);
-    let turn_on = sets::minus(needed, on);
-    let turn_off = sets::minus(on, needed);
+    let added = sets::minus(needed, on);
+    let removed = sets::minus(on, needed);
     let own = calls::own::own_call(table, e, q);
     let last = calls::own::own_last(q);
     Change {
         entry,
         needed,
-        on: turn_on,
-        off: turn_off,
+        added,
+        removed,
         own,
         last,
     }

@@ -140,15 +140,15 @@ calls s st q = arrange (ownLast q) (listOf (ownCall s (st .entries (q .device)) 
 unfoldable pub statusAfter : Station → Status → Request → Status
 statusAfter s st q = record { entries = entriesAfter (st .entries) q; on = endSet s (st .entries) q }
 
--- all that a request does as one value: the new entry, the set needed afterwards, what to turn on and off, the own call and whether it
--- comes last
+-- all that a request does as one value: the new entry, the set needed afterwards, what is added to the on-set and what is
+-- removed from it, the own call and whether it comes last
 abbrev pub changeOf : Station → Status → Request → Change
 changeOf s st q =
     record {
       entry = newEntry (st .entries (q .device)) q;
       needed = endSet s (st .entries) q;
-      on = toTurnOn s st q;
-      off = toTurnOff s st q;
+      added = toTurnOn s st q;
+      removed = toTurnOff s st q;
       own = ownCall s (st .entries (q .device)) q;
       last = ownLast q;
     }

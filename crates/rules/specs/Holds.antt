@@ -81,7 +81,7 @@ unfoldable pub changes : Station → Change → ℕ → Answer → Bool
 changes s c d a =
     same (entryBytes (c .entry)) (take 4 (drop (4 * d) (a .entries)))
     && eqb (c .needed) (a .on)
-    && same (map wordOf (arrange (c .last) (listOf (c .own)) (rising s (c .on)) (reverse (rising s (c .off))))) (wordsIn (a .calls))
+    && same (map wordOf (arrange (c .last) (listOf (c .own)) (rising s (c .added)) (reverse (rising s (c .removed))))) (wordsIn (a .calls))
 
 -- the row's words, each a call, carried out from the on-set before: every resource ends as the row's on-set has it
 unfoldable pub carried : List ℕ → List ℕ → Answer → Bool

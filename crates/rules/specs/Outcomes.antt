@@ -35,8 +35,8 @@ unfoldable pub fresh : List ℕ → List ℕ → Outcome
 fresh t b = outcome (freshVerdict t b) b [] (imageOf (width t) (freshStatus (station t))) []
 
 -- 1 to 8 of any bytes: whether they are a table and a consistent state of it
-unfoldable pub statusVerdict : List ℕ → List ℕ → Verdict
-statusVerdict t b = firstOf (tableVerdict t ∷ stateVerdict t b ∷ []) (Done 0)
+unfoldable pub tableAndStateVerdict : List ℕ → List ℕ → Verdict
+tableAndStateVerdict t b = firstOf (tableVerdict t ∷ stateVerdict t b ∷ []) (Done 0)
 
 -- 10 to 18 of the request, on the bytes
 unfoldable pub requestStage : List ℕ → List ℕ → Request → Verdict

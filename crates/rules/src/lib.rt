@@ -43,13 +43,13 @@ pub struct Entry {
     pub wake: u8,
 }
 
-// What a permitted request does: the device's new entry, the set needed afterwards, what is to be turned on and off, the device's own call,
-// and whether that comes last.
+// What a permitted request does: the device's new entry, the set needed afterwards, what is added to the on-set and what is removed from
+// it, the device's own call, and whether that comes last.
 pub struct Change {
     pub entry: Entry,
     pub needed: u32,
-    pub on: u32,
-    pub off: u32,
+    pub added: u32,
+    pub removed: u32,
     pub own: OptionalCall,
     pub last: bool,
 }

@@ -17,7 +17,7 @@ use Rattle.rules.specs.Answers.{passes, firstOf, unless, lowest}
 use Rattle.rules.specs.Station.{width, limit, countR, stationOf, station}
 use Rattle.rules.specs.Table.{tableVerdict}
 use Rattle.rules.specs.Status.{entries, statusOf, status, imageSize, entriesGood, onGood, valuesGood, consistencyVerdict, stateVerdict}
-use Rattle.rules.specs.Outcomes.{outcome, freshVerdict, fresh, statusVerdict}
+use Rattle.rules.specs.Outcomes.{outcome, freshVerdict, fresh, tableAndStateVerdict}
 use Rattle.rules.proofs.Answers.{done-passes, refused-stops, first-pass, first-stop, first-alone, unless-of}
 use Rattle.laws.proofs.Accepted.{accepted}
 use Rattle.table.proofs.Verdicts.{sized-done, sized-told, accepted-is, table-passed}
@@ -87,12 +87,12 @@ unfolding stateVerdict
 state-alone t b = first-alone _
 
 module _ (t b : List ℕ) (v : Verdict) (p : Bool) (e : v ≡ tableVerdict t) (f : p ≡ passes v) where
-  pub table-first : not p ≡ true → v ≡ statusVerdict t b
-  unfolding statusVerdict
+  pub table-first : not p ≡ true → v ≡ tableAndStateVerdict t b
+  unfolding tableAndStateVerdict
   table-first n = rw (← e) (sym (first-stop v _ (Done 0) (sym f ∙ not-true p n)))
 
-  pub state-second : not p ≡ false → (u : Verdict) → u ≡ stateVerdict t b → u ≡ statusVerdict t b
-  unfolding statusVerdict
+  pub state-second : not p ≡ false → (u : Verdict) → u ≡ stateVerdict t b → u ≡ tableAndStateVerdict t b
+  unfolding tableAndStateVerdict
   state-second n u g = g ∙ sym (rw (← e) (first-pass v _ (Done 0) (sym f ∙ not-false p n) ∙ state-alone t b))
 
 pub ruleset both-laws = (table-passed, table-first, state-second)

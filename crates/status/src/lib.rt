@@ -10,7 +10,7 @@ ghost use mathlib.Core.Path.{_≡_};
 ghost use Rattle.rules.specs.declared.Verdict.the-variants.{Done};
 ghost use Rattle.rules.specs.Table.{tableVerdict};
 ghost use Rattle.rules.specs.Status.{stateVerdict};
-ghost use Rattle.rules.specs.Outcomes.{fresh, statusVerdict};
+ghost use Rattle.rules.specs.Outcomes.{fresh, tableAndStateVerdict};
 
 // Whether a state image is good for an accepted table.
 pub fn check_state(table: &[u8], image: &[u8]) -> Verdict
@@ -32,7 +32,7 @@ pub fn check_state(table: &[u8], image: &[u8]) -> Verdict
 
 // Answers 1 to 8 of any bytes: whether they are a power table and a consistent state of it.
 pub fn verdict(table: &[u8], image: &[u8]) -> Verdict
-    ensures { λ r. ⌜ r ≡ statusVerdict (now (table .entry)) (now (image .entry)) ⌝ }
+    ensures { λ r. ⌜ r ≡ tableAndStateVerdict (now (table .entry)) (now (image .entry)) ⌝ }
 {
     let of_table = table::check_table(table);
     if !rules::passes(of_table) {
