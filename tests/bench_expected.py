@@ -145,6 +145,12 @@ def check_state(t, image):
     return 0, 0
 
 
+# whether any bytes are a table and a consistent state of it
+def check_both(t, image):
+    number, place = check_table(t)
+    return (number, place) if number else check_state(t, image)
+
+
 def record(t, d):
     if check_table(t)[0] or d >= t[6]:
         return b""
@@ -202,9 +208,7 @@ def needed(devices, image):
 
 
 def permitted(t, image, q):
-    number, place = check_table(t)
-    if number == 0:
-        number, place = check_state(t, image)
+    number, place = check_both(t, image)
     if number == 0:
         resources, devices = split(t)
         number, place = check_request(devices, [b[0] for b in resources], image, q)
@@ -247,9 +251,7 @@ def parts_and_image(t, image, q):
 
 # number, place, the calls, the image afterwards; room: whether 33 words fit
 def plan(t, image, q, room):
-    number, place = check_table(t)
-    if number == 0:
-        number, place = check_state(t, image)
+    number, place = check_both(t, image)
     if number == 0 and not room:
         number, place = 9, 0
     if number == 0:
@@ -321,10 +323,14 @@ class Script:
             return self.request(asked(args), args[8])
         elif letter == "L":
             return " check %d %d 0" % check_list(self.table, self.state, asked(args[:4]), args[4:])
+        elif letter == "W":
+            return " check %d %d 0" % check_list(self.table, self.state, asked(args[:4]), args[4:len(args) // 4 * 4])
         elif letter == "D":
             return " %d %d 0" % fresh(damaged(self.table, *args[:3]), blank(args[3]))[:2]
         elif letter == "S":
             return " check %d %d 0" % check_list(self.table, damaged(self.state, *args[4:]), asked(args[:4]), b"")
+        elif letter == "V":
+            return " check %d %d 0" % check_both(self.table, damaged(self.state, *args))
         elif letter == "R":
             return hexed(record(self.table, args[0]))
         return None

@@ -5,9 +5,11 @@ use Prim.Native.Nat.{ℕ, _+_}
 use borrow.Author.Tests.{ne-eqb}
 use lib.ListN.{getD}
 use Rattle.rules.specs.declared.Request.{Request}
+use Rattle.rules.specs.declared.Verdict.{Verdict}
+use Rattle.rules.specs.Answers.{numberOf}
 use Rattle.bench.specs.Script.{byteAt, requestAt}
 use Rattle.bench.specs.Cases.{more, added, sizeBy, sizeAfter, tableBy, tableAfter, started, moved, stateBy, stateThen}
-use Rattle.bench.specs.Cases.{tableAnswer, stateAnswer, listAnswer, recordLength, seenBy, seen}
+use Rattle.bench.specs.Cases.{tableAnswer, stateAnswer, statusGiven, listAnswer, wordsGiven, recordLength, seenBy, seen}
 
 of : {A : Type 0} (f : ℕ → A) (x y : ℕ) → x ≡ y → (n : ℕ) (r : A) → x ≡ n → r ≡ f n → r ≡ f y
 of f x y e n r k h = h ∙ ap f (sym k ∙ e)
@@ -64,17 +66,27 @@ module _ (l : List ℕ) (x : ℕ) (e : x ≡ getD l 0 0) (t whole b : List ℕ) 
   unfolding seenBy
   seen-s k h = of (λ z. seenBy z t whole b l) x _ e 0x53 r k h
 
+  pub seen-v : x ≡ 0x56 → (v : Verdict) → v ≡ statusGiven t b l → r ≡ numberOf v → r ≡ seen t whole b l
+  unfolding seenBy
+  seen-v k v f h = of (λ z. seenBy z t whole b l) x _ e 0x56 r k (h ∙ ap numberOf f)
+
   pub seen-l : x ≡ 0x4c → r ≡ listAnswer t b l → r ≡ seen t whole b l
   unfolding seenBy
   seen-l k h = of (λ z. seenBy z t whole b l) x _ e 0x4c r k h
+
+  pub seen-w : x ≡ 0x57 → (v : Verdict) → v ≡ wordsGiven t b l → r ≡ numberOf v → r ≡ seen t whole b l
+  unfolding seenBy
+  seen-w k v f h = of (λ z. seenBy z t whole b l) x _ e 0x57 r k (h ∙ ap numberOf f)
 
   pub seen-r : x ≡ 0x52 → r ≡ recordLength t l → r ≡ seen t whole b l
   unfolding seenBy
   seen-r k h = of (λ z. seenBy z t whole b l) x _ e 0x52 r k h
 
-  pub not-seen : (x ≡ 0x44 → ⊥) → (x ≡ 0x53 → ⊥) → (x ≡ 0x4c → ⊥) → (x ≡ 0x52 → ⊥) → r ≡ 0 → r ≡ seen t whole b l
+  pub not-seen : (x ≡ 0x44 → ⊥) → (x ≡ 0x53 → ⊥) → (x ≡ 0x56 → ⊥) → (x ≡ 0x4c → ⊥) → (x ≡ 0x57 → ⊥) → (x ≡ 0x52 → ⊥) → r ≡ 0
+      → r ≡ seen t whole b l
   unfolding seenBy
-  not-seen d s i o h = h ∙ rw (← e) (rw (ne-eqb _ _ d, ne-eqb _ _ s, ne-eqb _ _ i, ne-eqb _ _ o) refl)
+  not-seen d s v i w o h =
+      h ∙ rw (← e) (rw (ne-eqb _ _ d, ne-eqb _ _ s, ne-eqb _ _ v, ne-eqb _ _ i, ne-eqb _ _ w, ne-eqb _ _ o) refl)
 
 pub ruleset letters = (
   size-t,
@@ -89,7 +101,9 @@ pub ruleset letters = (
   state-same,
   seen-d,
   seen-s,
+  seen-v,
   seen-l,
+  seen-w,
   seen-r,
   not-seen,
 )

@@ -6,13 +6,19 @@ use Prim.Native.Nat.{ℕ, _+_, _*_, _/_, _%_, _-_, _≤_, _<_, min}
 use native.Mathlib.Nat.{mod-lt, mod-le, mod-zero, mul-le-mul}
 use native.Mathlib.Omega.{arith}
 use native.Mathlib.Numerals.{add-one}
-use lib.ListN.{length, getD, set, take, List·getD-eq-default}
+use lib.ListN.{length, getD, set, take, replicate, List·getD-eq-default}
 use lib.Seq.{length-take-le}
 use borrow.Author.Tests.{eq-eqb, ne-eqb}
+use Rattle.words.specs.Words.{put, byteWords}
+use Rattle.words.proofs.Laws.{byte-words-length}
+use Rattle.words.proofs.Put.{take-put}
+use Rattle.rules.specs.declared.Request.{Request}
+use Rattle.rules.specs.declared.Verdict.{Verdict}
 use Rattle.rules.specs.Index.{leastFrom}
+use Rattle.rules.specs.Outcomes.{checkWords}
 use Rattle.rules.proofs.Index.{starts, found, next, done}
 use Rattle.sailgarnet.specs.Packed.{asked}
-use Rattle.bench.specs.Cases.{more, added}
+use Rattle.bench.specs.Cases.{more, added, listLength, listBytes, wordsGiven}
 use Rattle.bench.specs.Script.{endsAt, digitOf, byteAt, numberAt, requestAt, filled}
 
 -- ---- a line
@@ -104,6 +110,22 @@ module _ (t : List ℕ) (i n v : ℕ) (inv : leastFrom (endsAt t) i (n - i) ≡ 
 -- ---- the length of a part
 pub part-long : (n m : ℕ) (l : List ℕ) → length l ≡ m → n ≤ m → n ≡ length (take n l)
 part-long n m l e h = sym (length-take-le n l (omega arith))
+
+-- ---- `W`, and the n bytes that it makes words of
+pub words-fit : (n m : ℕ) (l : List ℕ) → length l ≡ m → n ≤ m → 4 * (n / 4) ≤ length (take n l)
+words-fit n m l e h = omega (arith, part-long n m l e h)
+
+pub words-are :
+    (t b l list d ws : List ℕ) (n : ℕ) (q : Request) (v : Verdict) →
+    n ≡ listLength l →
+    list ≡ listBytes (replicate 1328 0) l →
+    ws ≡ put d 0 (byteWords (n / 4) (take n list)) →
+    q ≡ requestAt l 4096 →
+    v ≡ checkWords t b q (take (n / 4) ws) →
+    v ≡ wordsGiven t b l
+words-are t b l list d ws n q v e f g k h =
+    let read = take-put d (byteWords (n / 4) (take n list)) (n / 4) (byte-words-length (n / 4) (take n list)) in
+    h ∙ rw (g, read, k, f, e) refl
 
 pub ruleset reading = (
   past-end,

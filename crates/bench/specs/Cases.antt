@@ -4,9 +4,12 @@ use mathlib.Core.Bool.{cond}
 use mathlib.Core.List.{List, []}
 use lib.Dec.{eqb}
 use lib.ListN.{length, take, replicate, getD, set}
+use Rattle.words.specs.Words.{byteWords}
 use Rattle.rules.specs.declared.Request.{Request}
+use Rattle.rules.specs.declared.Verdict.{Verdict}
+use Rattle.rules.specs.Answers.{numberOf}
 use Rattle.rules.specs.Rows.{blank}
-use Rattle.rules.specs.Outcomes.{fresh, planBytes, checkBytes, recordPart}
+use Rattle.rules.specs.Outcomes.{fresh, planBytes, checkWords, checkBytes, statusVerdict, recordPart}
 use Rattle.sailgarnet.specs.Packed.{packed}
 use Rattle.bench.specs.Script.{byteAt, requestAt, filled}
 
@@ -52,20 +55,40 @@ stateBy letter t b l =
 abbrev pub stateThen : List ℕ → List ℕ → List ℕ → List ℕ
 stateThen t b l = stateBy (getD l 0 0) t b l
 
--- ---- D, S, L and R: answers
+-- ---- D, S, V, L, W and R: answers
 
 abbrev pub tableAnswer : List ℕ → List ℕ → ℕ
 tableAnswer whole l = packed (fresh (take (byteAt l 0) (set whole (byteAt l 1) (byteAt l 2))) (take (byteAt l 3) (blank 255)) .verdict)
 
-abbrev pub stateAnswer : List ℕ → List ℕ → List ℕ → ℕ
-stateAnswer t b l = packed (checkBytes t (take (min (byteAt l 4) 132) (set b (min (byteAt l 5) 131) (byteAt l 6))) (requestAt l 4096) [])
+-- the state with one byte changed, and its first bytes: the line has from byte `from` on how many, a place, and what is then there
+abbrev pub changedState : List ℕ → List ℕ → ℕ → List ℕ
+changedState b l from = set b (min (byteAt l (from + 1)) 131) (byteAt l (from + 2))
 
--- the bytes of a line past the request
+abbrev pub stateGiven : List ℕ → List ℕ → ℕ → List ℕ
+stateGiven b l from = take (min (byteAt l from) 132) (changedState b l from)
+
+abbrev pub stateAnswer : List ℕ → List ℕ → List ℕ → ℕ
+stateAnswer t b l = packed (checkBytes t (stateGiven b l 4) (requestAt l 4096) [])
+
+abbrev pub statusGiven : List ℕ → List ℕ → List ℕ → Verdict
+statusGiven t b l = statusVerdict t (stateGiven b l 0)
+
+-- the bytes of a line past the request, 1328 at most
+abbrev pub listLength : List ℕ → ℕ
+listLength l = min (length l / 3 - 4) 1328
+
+abbrev pub listBytes : List ℕ → List ℕ → List ℕ
+listBytes b l = filled b 0 l 4 0 (listLength l)
+
 abbrev pub listGiven : List ℕ → List ℕ
-listGiven l = let n = min (length l / 3 - 4) 1328 in take n (filled (replicate 1328 0) 0 l 4 0 n)
+listGiven l = take (listLength l) (listBytes (replicate 1328 0) l)
 
 abbrev pub listAnswer : List ℕ → List ℕ → List ℕ → ℕ
 listAnswer t b l = packed (checkBytes t b (requestAt l 4096) (listGiven l))
+
+-- the same with the list as words; bytes past a multiple of four are in none
+abbrev pub wordsGiven : List ℕ → List ℕ → List ℕ → Verdict
+wordsGiven t b l = checkWords t b (requestAt l 4096) (byteWords (listLength l / 4) (listGiven l))
 
 abbrev pub recordLength : List ℕ → List ℕ → ℕ
 recordLength t l = length (recordPart t (byteAt l 0))
@@ -73,7 +96,10 @@ recordLength t l = length (recordPart t (byteAt l 0))
 unfoldable pub seenBy : ℕ → List ℕ → List ℕ → List ℕ → List ℕ → ℕ
 seenBy letter t whole b l =
     cond (eqb letter 0x44) (tableAnswer whole l)
-    (cond (eqb letter 0x53) (stateAnswer t b l) (cond (eqb letter 0x4c) (listAnswer t b l) (cond (eqb letter 0x52) (recordLength t l) 0)))
+    (cond (eqb letter 0x53) (stateAnswer t b l)
+    (cond (eqb letter 0x56) (numberOf (statusGiven t b l))
+    (cond (eqb letter 0x4c) (listAnswer t b l)
+    (cond (eqb letter 0x57) (numberOf (wordsGiven t b l)) (cond (eqb letter 0x52) (recordLength t l) 0)))))
 
 abbrev pub seen : List ℕ → List ℕ → List ℕ → List ℕ → ℕ
 seen t whole b l = seenBy (getD l 0 0) t whole b l

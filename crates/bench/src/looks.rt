@@ -3,9 +3,12 @@ use crate::print;
 use crate::script;
 use crate::states;
 use crate::states::Image;
+use rules::Verdict;
 ghost use mathlib.Core.Path.{_≡_};
+ghost use Prim.Native.Nat.{_≤_};
 ghost use lib.ListN.{length};
 ghost use Rattle.bench.specs.Cases.{tableAnswer, stateAnswer, listAnswer, recordLength, seen};
+ghost use Rattle.bench.specs.Cases.{changedState, statusGiven, listLength, listBytes, wordsGiven};
 
 // `D`: the table's first bytes, with one of them changed, and a fresh state in as many bytes as the line says last.
 fn damaged_table(table: [u8; 1328], line: &[u8]) -> u64
@@ -21,26 +24,67 @@ fn damaged_table(table: [u8; 1328], line: &[u8]) -> u64
     states::fresh(&bytes[..n], &mut state[..room])
 }
 
+// A state with one byte changed, by the two bytes of a line past byte `from`: a place, and what is then there.
+fn changed(state: Image, line: &[u8], from: usize) -> Image
+    requires { ⌜ (length state ≡ 132) × (from ≤ 64) ⌝ }
+    ensures { λ r. ⌜ (length r ≡ 132) × (r ≡ changedState state (now (line .entry)) from) ⌝ }
+{
+    let mut bytes = state;
+    let at = script::within(script::size(line, from + 1), 131);
+    bytes[at] = script::byte(line, from + 2);
+    bytes
+}
+
 // `S`: a request with no calls, for the state's first bytes with one of them changed.
 fn damaged_state(table: &[u8], state: Image, line: &[u8]) -> u64
     requires { ⌜ length state ≡ 132 ⌝ }
     ensures { λ r. ⌜ r ≡ stateAnswer (now (table .entry)) state (now (line .entry)) ⌝ }
 {
-    let mut bytes = state;
+    let bytes = changed(state, line, 4);
     let n = script::within(script::size(line, 4), 132);
-    let at = script::within(script::size(line, 5), 131);
-    bytes[at] = script::byte(line, 6);
     states::check(table, &bytes[..n], script::request(line, 4096), b"")
+}
+
+// `V`: whether the table and the state's first bytes, with one of them changed, are a table and a consistent state of it.
+fn status_verdict(table: &[u8], state: Image, line: &[u8]) -> Verdict
+    requires { ⌜ length state ≡ 132 ⌝ }
+    ensures { λ r. ⌜ r ≡ statusGiven (now (table .entry)) state (now (line .entry)) ⌝ }
+{
+    let bytes = changed(state, line, 0);
+    let n = script::within(script::size(line, 0), 132);
+    status::verdict(table, &bytes[..n])
+}
+
+// Stores the bytes of a line past the request, as many as there is room for, and answers how many.
+fn store_list(list: &mut [u8], line: &[u8]) -> usize
+    requires { ⌜ length (now list) ≡ 1328 ⌝ }
+    ensures { λ r. ⌜ (r ≡ listLength (now (line .entry))) × (r ≤ 1328) ⌝ }
+    ensures list { λ _. ⌜ now (list .exit) ≡ listBytes (now (list .entry)) (now (line .entry)) ⌝ }
+{
+    let n = script::within(script::past(line.len() / 3, 4), 1328);
+    script::fill(list, 0, line, 4, 0, n);
+    n
 }
 
 // `L`: a request, and a list for it.
 fn list(table: &[u8], state: &[u8], line: &[u8]) -> u64
     ensures { λ r. ⌜ r ≡ listAnswer (now (table .entry)) (now (state .entry)) (now (line .entry)) ⌝ }
 {
-    let n = script::within(script::past(line.len() / 3, 4), 1328);
     let mut list = [0u8; 1328];
-    script::fill(&mut list, 0, line, 4, 0, n);
+    let n = store_list(&mut list, line);
     states::check(table, state, script::request(line, 4096), &list[..n])
+}
+
+// `W`: the same with the list as words; bytes past a multiple of four are left out.
+fn words_verdict(table: &[u8], state: &[u8], line: &[u8]) -> Verdict
+    ensures { λ r. ⌜ r ≡ wordsGiven (now (table .entry)) (now (state .entry)) (now (line .entry)) ⌝ }
+{
+    let mut list = [0u8; 1328];
+    let size = store_list(&mut list, line);
+    let n = size / 4;
+    let mut calls = [0u32; 332];
+    words::read_words(&list[..size], n, &mut calls);
+    checker::check::check_words(table, state, script::request(line, 4096), &calls[..n])
 }
 
 // `R`: the record of a device; answers how many bytes it has.
@@ -58,7 +102,9 @@ pub fn look(table: &[u8], whole: [u8; 1328], state: Image, line: &[u8]) -> u64
     match script::letter(line, 0) {
         b'D' => damaged_table(whole, line),
         b'S' => damaged_state(table, state, line),
+        b'V' => print::verdict(status_verdict(table, state, line)),
         b'L' => list(table, &state, line),
+        b'W' => print::verdict(words_verdict(table, &state, line)),
         b'R' => record(table, line) as u64,
         _ => 0,
     }

@@ -1,5 +1,5 @@
-// Runs the cases of the file `stdin`, a line each, through the exported functions. It prints each line as it stands, and after it what was
-// answered.
+// Runs the cases of the file `stdin`, a line each, through the exported functions and some below them. It prints each line as it stands,
+// and after it what was answered.
 mod looks;
 mod print;
 mod script;

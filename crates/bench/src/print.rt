@@ -1,8 +1,10 @@
 // Parts of a printed line.
 use libc::STDOUT_FILENO;
+use rules::Verdict;
 ghost use mathlib.Core.Path.{_≡_};
 ghost use Prim.Native.Nat.{_/_, _%_, _<_};
 ghost use lib.ListN.{length};
+ghost use Rattle.rules.specs.Answers.{numberOf};
 
 // Prints a text, and answers its length.
 pub fn text(text: &[u8]) -> usize
@@ -29,6 +31,17 @@ pub fn answer(before: &[u8], answer: u64) -> u64
     number(answer % 0x100);
     number(answer / 0x100_0000);
     number(answer / 0x100 % 0x1_0000)
+}
+
+// Prints number, place and count of an answer that is a verdict; gives its number.
+pub fn verdict(v: Verdict) -> u64
+    ensures { λ r. ⌜ r ≡ numberOf v ⌝ }
+{
+    text(b": check");
+    let answer = number(rules::number(v) as u64);
+    number(rules::place(v) as u64);
+    number(rules::count(v) as u64);
+    answer
 }
 
 // Prints a text, and bytes as the script has them; answers how many.

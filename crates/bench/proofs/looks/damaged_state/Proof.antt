@@ -1,5 +1,4 @@
 -- The part that is lent has the length that its slice says.
-use lib.ListN.{length-set}
 use Rattle.bench.proofs.Reading.{part-long}
 use borrow.Author.Needs.{needs}
 use Rattle.bench.proofs.looks.damaged_state.Statement.{statement}
@@ -12,6 +11,5 @@ returns : tie.Need-returns
 returns c = cc
 
 pub damaged-state-spec : {M : Type 1} → statement M
-damaged-state-spec = tie.close (tie.spec (λ c κs. search needs) (λ c κs. search needs) (λ c κs. search needs) (λ c κs. search needs)
-    (λ c κs. search needs) (λ c. search needs) (λ c. simp length-set (search needs)) slice-aggregate-check (λ c κs. search needs)
-    (λ c. search needs) (λ c κs. search needs) returns)
+damaged-state-spec = tie.close (tie.spec (λ c κs. search needs) (λ c κs. search needs) (λ c κs. search needs) (λ c. search needs)
+    slice-aggregate-check (λ c κs. search needs) (λ c. search needs) (λ c κs. search needs) returns)
