@@ -9,7 +9,7 @@ use Rattle.rules.specs.declared.Request.{Request}
 use Rattle.rules.specs.declared.Verdict.{Verdict}
 use Rattle.rules.specs.Answers.{numberOf}
 use Rattle.rules.specs.Rows.{blank}
-use Rattle.rules.specs.Outcomes.{fresh, planBytes, checkWords, checkBytes, statusVerdict, recordPart}
+use Rattle.rules.specs.Outcomes.{fresh, planBytes, checkWords, checkBytes, tableAndStateVerdict, recordPart}
 use Rattle.sailgarnet.specs.Packed.{packed}
 use Rattle.bench.specs.Script.{byteAt, requestAt, filled}
 
@@ -61,17 +61,17 @@ abbrev pub tableAnswer : List ℕ → List ℕ → ℕ
 tableAnswer whole l = packed (fresh (take (byteAt l 0) (set whole (byteAt l 1) (byteAt l 2))) (take (byteAt l 3) (blank 255)) .verdict)
 
 -- the state with one byte changed, and its first bytes: the line has from byte `from` on how many, a place, and what is then there
-abbrev pub changedState : List ℕ → List ℕ → ℕ → List ℕ
-changedState b l from = set b (min (byteAt l (from + 1)) 131) (byteAt l (from + 2))
+abbrev pub damagedState : List ℕ → List ℕ → ℕ → List ℕ
+damagedState b l from = set b (min (byteAt l (from + 1)) 131) (byteAt l (from + 2))
 
 abbrev pub stateGiven : List ℕ → List ℕ → ℕ → List ℕ
-stateGiven b l from = take (min (byteAt l from) 132) (changedState b l from)
+stateGiven b l from = take (min (byteAt l from) 132) (damagedState b l from)
 
 abbrev pub stateAnswer : List ℕ → List ℕ → List ℕ → ℕ
 stateAnswer t b l = packed (checkBytes t (stateGiven b l 4) (requestAt l 4096) [])
 
 abbrev pub statusGiven : List ℕ → List ℕ → List ℕ → Verdict
-statusGiven t b l = statusVerdict t (stateGiven b l 0)
+statusGiven t b l = tableAndStateVerdict t (stateGiven b l 0)
 
 -- the bytes of a line past the request, 1328 at most
 abbrev pub listLength : List ℕ → ℕ

@@ -8,7 +8,7 @@ ghost use mathlib.Core.Path.{_≡_};
 ghost use Prim.Native.Nat.{_≤_};
 ghost use lib.ListN.{length};
 ghost use Rattle.bench.specs.Cases.{tableAnswer, stateAnswer, listAnswer, recordLength, seen};
-ghost use Rattle.bench.specs.Cases.{changedState, statusGiven, listLength, listBytes, wordsGiven};
+ghost use Rattle.bench.specs.Cases.{damagedState, statusGiven, listLength, listBytes, wordsGiven};
 
 // `D`: the table's first bytes, with one of them changed, and a fresh state in as many bytes as the line says last.
 fn damaged_table(table: [u8; 1328], line: &[u8]) -> u64
@@ -27,7 +27,7 @@ fn damaged_table(table: [u8; 1328], line: &[u8]) -> u64
 // A state with one byte changed, by the two bytes of a line past byte `from`: a place, and what is then there.
 fn changed(state: Image, line: &[u8], from: usize) -> Image
     requires { ⌜ (length state ≡ 132) × (from ≤ 64) ⌝ }
-    ensures { λ r. ⌜ (length r ≡ 132) × (r ≡ changedState state (now (line .entry)) from) ⌝ }
+    ensures { λ r. ⌜ (length r ≡ 132) × (r ≡ damagedState state (now (line .entry)) from) ⌝ }
 {
     let mut bytes = state;
     let at = script::within(script::size(line, from + 1), 131);

@@ -35,7 +35,8 @@ pub fn check(table: &[u8], state: &[u8], q: Request, list: &[u8]) -> u64
 // as it was before. Answers the state afterwards.
 fn request(table: &[u8], before: Image, q: Request, plan: &mut [u8]) -> Image
     requires { ⌜ length before ≡ 132 ⌝ }
-    ensures { λ r. ⌜ (length r ≡ 132) × (r ≡ planBytes (now (table .entry)) before q (now (plan .entry)) .state) ⌝ }
+    ensures state { λ r. ⌜ (length r ≡ 132) × (r ≡ planBytes (now (table .entry)) before q (now (plan .entry)) .state) ⌝ }
+    ensures plan { λ _. ⌜ now (plan .exit) ≡ planBytes (now (table .entry)) before q (now (plan .entry)) .plan ⌝ }
 {
     let mut state = before;
     let answer = sailgarnet::sailgarnet_plan(table, &mut state, q.kind, q.device, q.a, q.b, plan);

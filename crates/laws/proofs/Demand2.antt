@@ -130,7 +130,8 @@ module _ (size : ℕ) (written : List ℕ → List ℕ) (long : (ws : List ℕ) 
 pub demand2-words : (t b : List ℕ) (q : Request) (plan : List ℕ) → let o = planWords t b q plan in
     Demand2Words t b q plan (numberOf (o .verdict)) (countOf (o .verdict)) (o .state) (o .plan)
 unfolding planWords
-demand2-words t b q plan = holds 1 (λ ws. ws) (λ ws. omega arith) _ t b q plan (ap (λ (k : ℕ). leb k (length plan)) (sym (one-mul (planRoom (width t)))))
+demand2-words t b q plan = holds 1 (λ ws. ws) (λ ws. omega arith) _ t b q plan (ap (λ (k : ℕ). leb k (length plan))
+    (sym (one-mul (planRoom (width t)))))
 
 pub demand2-bytes : (t b : List ℕ) (q : Request) (plan : List ℕ) → let o = planBytes t b q plan in
     Demand2Bytes t b q plan (numberOf (o .verdict)) (countOf (o .verdict)) (o .state) (o .plan)

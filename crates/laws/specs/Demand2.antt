@@ -40,7 +40,8 @@ pub record LeftState (t b : List ℕ) (q : Request) (b′ : List ℕ) : Type 0 w
   -- it gets neither 7 nor 8
   pub good : numberOf (stateVerdict t b′) ≡ 0
 
--- the plan plan′ that it leaves of plan, and the answer's count. A word of the plan has `size` elements, and `written` turns words into these
+-- the plan plan′ that it leaves of plan, and the answer's count. A word of the plan has `size` elements, and `written` turns words into
+-- these
 pub record LeftPlan (size : ℕ) (written : List ℕ → List ℕ) (t b : List ℕ) (q : Request) (plan : List ℕ) (count : ℕ) (plan′ : List ℕ)
     : Type 0 where
   -- the count is the number of calls

@@ -115,7 +115,8 @@ module _ (t : List ℕ) (c : Change) where
   abbrev phases : List ℕ
   phases = phaseWords (station t) (c .added) (c .removed)
 
-  pub own-comes-last : c .last ≡ true → changeWords (station t) c ≡ phaseWords (station t) (c .added) (c .removed) ++ map wordOf (listOf (c .own))
+  pub own-comes-last : c .last ≡ true → changeWords (station t) c ≡ phaseWords (station t) (c .added) (c .removed)
+      ++ map wordOf (listOf (c .own))
   unfolding changeWords phaseWords switchWords switchWord inOrder arrange
   own-comes-last h = rw h (simp regroup)
 
