@@ -11,7 +11,8 @@ make --no-print-directory bench > target/bench.md
 cat > docs/BENCHMARKS.md <<PAGE
 # Benchmarks
 
-Planner and checker of the library, beside the independent reference in \`host/reference\` on the same inputs. This page is written by \`make benchmarks\`; each table is what the command
+Planner and checker of the library, beside the independent reference in \`host/reference\` on the same inputs. This page
+is written by \`make benchmarks\`; each table is what the command
 above it prints.
 
 | | |
@@ -25,8 +26,11 @@ above it prints.
 
 ## Inputs
 
-*bench* is the bench station, W4 and W5 from the states before them. *full* is a table of 32 resources and 32 devices, each device below the one before, each with every object and five sets that are
-not empty; seven devices are armed; the last device moves between D0 and D3cold, its own call and 24 resources to switch; *arming again* gives an armed device another wake pair. The other rows are refusals of the full table, each at the last place that can be bad
+*bench* is the bench station, W4 and W5 from the states before them. *full* is a table of 32 resources and 32 devices,
+each device below the one before, each with every object and five sets that are
+not empty; seven devices are armed; the last device moves between D0 and D3cold, its own call and 24 resources to
+switch; *arming again* gives an armed device another wake pair. The other rows are refusals of the full table, each at
+the last place that can be bad
 where there is one: the answer number says at which stage. The inputs are in \`host/cases/src/workload.rs\`.
 
 ## Time
@@ -35,13 +39,17 @@ where there is one: the answer number says at which stage. The inputs are in \`h
 
 $(cat target/bench.md)
 
-Requests with 25 calls have the highest ratios of the full table, about 0.8: the planner sorts 24 keys by insertion, with a branch for each key that the processor cannot foresee, and the checker looks at each
-word. On the bench station the table is small, and the call itself, the state, the change by value and
-the decoding of each word weigh more: the checker's rows there take fewer instructions than the reference and about the same time.
+Requests with 25 calls have the highest ratios of the full table, about 0.8: the planner sorts 24 keys by insertion, with a
+branch for each key that the processor cannot foresee, and the checker looks at each word. On the bench station the table
+is small, and the call itself, the state, the change by value and the decoding of each word weigh more. There a value that
+is stored in parts and read as one soon after shows in the time and not in the instructions: the read waits until the
+parts have been stored. Where a list of words or a slice was handed on so, it is handed on so no longer; the own call in
+a change, two bytes, still is.
 
 ## Instructions
 
-\`make instructions\`: instructions of one call, counted, so other programs on the machine do not change them. In each count are those of the benchmark's own call,
+\`make instructions\`: instructions of one call, counted, so other programs on the machine do not change them. In each
+count are those of the benchmark's own call,
 about thirty on either side.
 
 $(cat target/instructions.md)
