@@ -5,9 +5,10 @@ use mathlib.Core.Bool.{true, false}
 use mathlib.Core.List.{List, [], _∷_, _++_}
 use Prim.Native.Nat.{ℕ, _+_, _*_, _≤_, _<_}
 use native.Mathlib.Omega.{arith}
-use native.Mathlib.Nat.{lt-irrefl}
+use native.Mathlib.Nat.{lt-irrefl, mul-suc, mul-le-mul-left}
 use borrow.Author.Tests.{eqb-true, leb-true, ltb-true, not-false}
-use lib.ListN.{length}
+use lib.Dec.{eqb}
+use lib.ListN.{length, getD}
 use Rattle.sets.proofs.Laws.{decide}
 use Rattle.rules.specs.declared.Verdict.the-variants.{Refused}
 use Rattle.rules.specs.declared.Reason.the-variants.{BadResource}
@@ -15,7 +16,7 @@ use Rattle.rules.specs.Index.{eachFrom}
 use Rattle.rules.specs.Answers.{passes}
 use Rattle.rules.specs.Station.{Device, width, limit, station, recordSize, countR, countD, resourceStart, deviceStart, resourceAt}
 use Rattle.rules.specs.Station.{deviceAt, stationOf}
-use Rattle.rules.specs.Table.{countsGood, lengthGood, Field, field, firstBad, resourceFields, resourceGood, parentGood, setGood}
+use Rattle.rules.specs.Table.{headerGood, countsGood, lengthGood, Field, field, firstBad, resourceFields, resourceGood, parentGood, setGood}
 use Rattle.rules.specs.Table.{sxdGood, sxwGood, deepestGood, headFields, setFields, sxdFields, sxwFields, lastFields, deviceFields}
 use Rattle.rules.specs.Table.{badField, fieldsGood, objectsGood, deviceRefusal, deviceGood, tableVerdict}
 use Rattle.rules.proofs.Index.{below-in}
@@ -97,14 +98,37 @@ module _ (w resources : ℕ) (t : List ℕ) (d at : ℕ) where
         deepest = all-right Good (headFields d v ++ setFields w resources v ++ sxdFields w v ++ sxwFields w v) (lastFields w t at v) all .0;
       }
 
+  -- and its last bytes are zero
+  fields-zeros : firstBad (recordSize w) (deviceFields w resources t d at) ≡ recordSize w → (k : ℕ) → k < 2 + w
+      → getD t (at + 14 + 5 * w + k) 0 ≡ 0
+  unfolding deviceFields lastFields All
+  fields-zeros e k h =
+      let v = deviceAt w t at in
+      let Good : Field → Type 0 = λ f. f .good ≡ true in
+      let zero : ℕ → Field = λ j. field (14 + 5 * w + j) (eqb (getD t (at + 14 + 5 * w + j) 0) 0) in
+      let last = all-right Good (headFields d v ++ setFields w resources v ++ sxdFields w v ++ sxwFields w v) (lastFields w t at v)
+      (no-bad (recordSize w) (deviceFields w resources t d at) inside e) in
+      eqb-true _ 0 (each-at Good zero 0 (2 + w) (last .1) k (omega arith) (omega arith))
+
 -- ---- what an accepted table gives
 pub record Accepted (t : List ℕ) : Type 0 where
+  pub header : headerGood t ≡ true
   pub resources : countR t ≤ limit (width t)
   pub devices : countD t ≤ limit (width t)
   pub long : length t ≡ deviceStart (width t) t (countD t)
   pub resource : (r : ℕ) → r < countR t → station t .resource r .level ≤ 4
   pub device : (d : ℕ) → d < countD t → DeviceRules (countR t) d (station t .device d)
+  pub zeros : (d : ℕ) → d < countD t → (k : ℕ) → k < 2 + width t
+      → getD t (deviceStart (width t) t d + 14 + 5 * width t + k) 0 ≡ 0
   pub objects : (d : ℕ) → d < countD t → objectsGood (station t .device d) ≡ true
+
+-- a device's record ends inside a table of the right length
+pub record-inside : (t : List ℕ) (d : ℕ) → length t ≡ deviceStart (width t) t (countD t) → d < countD t
+    → deviceStart (width t) t d + recordSize (width t) ≤ length t
+unfolding deviceStart
+record-inside t d l h =
+    let size = recordSize (width t) in
+    omega (arith, mul-suc size d, mul-le-mul-left size h, l)
 
 -- the station's resource and device at a number below R and D
 pub resource-at : (w : ℕ) (t : List ℕ) (r : ℕ) → r < countR t → stationOf w t .resource r ≡ resourceAt t (resourceStart r)
@@ -136,6 +160,7 @@ accepted t e =
     let each : (d : ℕ) → d < countD t → (fieldsGood t d ≡ true) × (objectsGood (deviceAt (width t) t (deviceStart (width t) t d)) ≡ true) =
     λ d h. both-true _ _ (not-false (deviceGood t d) (lowest-at _ (countD t) (deviceRefusal t) (refuses t) (g .0) d h)) in
     record {
+      header = unless-at _ _ _ (a .0);
       resources = leb-true _ _ (counts .0);
       devices = leb-true _ _ (counts .1);
       long = eqb-true _ _ (unless-at _ _ _ (c .0));
@@ -143,5 +168,6 @@ accepted t e =
           (level-good t r (not-false _ (lowest-at _ (countR t) (Refused BadResource) (refused-stops BadResource) (f .0) r h)));
       device = λ d h. rw (device-at (width t) t d h) (fields-rules (width t) (countR t) t d (deviceStart (width t) t d)
           (eqb-true _ _ (each d h .0)));
+      zeros = λ d h. fields-zeros (width t) (countR t) t d (deviceStart (width t) t d) (eqb-true _ _ (each d h .0));
       objects = λ d h. rw (device-at (width t) t d h) (each d h .1);
     }

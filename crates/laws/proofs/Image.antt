@@ -1,7 +1,7 @@
 -- The state image and the status are two views of one thing: what is written is read back, entry by entry and the on-set.
 use mathlib.Core.Path.{_≡_, refl, sym, ap, _∙_, fun-ext}
 use mathlib.Core.List.{List, [], _∷_, _++_, append-nil, append-assoc}
-use Prim.Native.Nat.{ℕ, zero, suc, _+_, _*_, _^_, _≤_, _<_}
+use Prim.Native.Nat.{ℕ, zero, suc, _+_, _*_, _-_, _^_, _≤_, _<_}
 use native.Mathlib.Nat.{add-assoc, mod-eq-of-lt, pow-suc}
 use native.Mathlib.Omega.{arith}
 use borrow.Author.Tests.{ltb-true, ltb-false}
@@ -15,6 +15,7 @@ use Rattle.words.proofs.Laws.{bytes-length, read-bytes-at}
 use Rattle.rules.specs.declared.Entry.{Entry}
 use Rattle.rules.specs.Status.{Status, noEntry, entryAt, entryBytes, entriesOf, statusOf, entriesBytes, imageOf, imageSize}
 use Rattle.rules.proofs.Index.{below-in, below-out}
+use Rattle.laws.proofs.Parts.{join-length, join-at}
 
 -- 256 ^ w is 2 ^ 8w: w bytes have 8w bits
 pub bytes-bits : (w : ℕ) → 256 ^ w ≡ 2 ^ (8 * w)
@@ -42,29 +43,21 @@ entry-here : (e : Entry) (ys : List ℕ) → entryAt (entryBytes e ++ ys) 0 ≡ 
 unfolding entryAt entryBytes
 entry-here e ys = refl
 
-entry-skip : (e : Entry) (ys : List ℕ) (n : ℕ) → entryAt (entryBytes e ++ ys) (4 + n) ≡ entryAt ys n
-unfolding entryBytes
-entry-skip e ys n = entry-past (e .state ∷ e .armed ∷ e .sleep ∷ e .wake ∷ []) ys n
-
 -- ---- all entries
 pub entries-length : (entries : ℕ → Entry) (i k : ℕ) → length (entriesBytes entries i k) ≡ 4 * k
-unfolding entriesBytes entryBytes
-entries-length entries i zero = refl
-entries-length entries i (suc k) = omega (arith, entries-length entries (suc i) k)
+unfolding entryBytes
+entries-length entries i k = join-length (λ d. entryBytes (entries d)) 4 (λ d. refl) i k
 
 pub entry-back : (entries : ℕ → Entry) (ys : List ℕ) (i k j : ℕ) → j < k → entryAt (entriesBytes entries i k ++ ys)
     (4 * j) ≡ entries (i + j)
-unfolding entriesBytes
-entry-back entries ys i zero j h = absurd (omega arith)
-entry-back entries ys i (suc k) zero h =
-    let z : i + 0 ≡ i = omega arith in
-    rw (append-assoc (entryBytes (entries i)) (entriesBytes entries (suc i) k) ys, z)
-    (entry-here (entries i) (entriesBytes entries (suc i) k ++ ys))
-entry-back entries ys i (suc k) (suc j) h =
-    let a : 4 * suc j ≡ 4 + 4 * j = omega arith in
-    let b : i + suc j ≡ suc i + j = omega arith in
-    rw (append-assoc (entryBytes (entries i)) (entriesBytes entries (suc i) k) ys, a, b)
-    (entry-skip (entries i) (entriesBytes entries (suc i) k ++ ys) (4 * j) ∙ entry-back entries ys (suc i) k j (omega arith))
+entry-back entries ys i k j h =
+    let here = entryBytes (entries (i + j)) in
+    let before = entriesBytes entries i j in
+    let after = entriesBytes entries (suc (i + j)) (k - suc j) in
+    let place : 4 * j ≡ length before + 0 = omega (arith, entries-length entries i j) in
+    ap (λ (l : List ℕ). entryAt (l ++ ys) (4 * j)) (join-at (λ d. entryBytes (entries d)) i k j h)
+    ∙ rw (append-assoc before (here ++ after) ys, append-assoc here after ys, place)
+    (entry-past before (here ++ (after ++ ys)) 0 ∙ entry-here (entries (i + j)) (after ++ ys))
 
 -- ---- the image
 pub image-length : (w : ℕ) (st : Status) → length (imageOf w st) ≡ imageSize w

@@ -1,6 +1,9 @@
 pub mod Tests
 pub mod Every
 pub mod All
+pub mod Parts
+pub mod Fields
+pub mod Describe
 pub mod Execution
 pub mod Accepted
 pub mod Needed

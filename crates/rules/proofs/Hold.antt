@@ -4,15 +4,16 @@ use mathlib.Core.Bool.{true, false}
 use mathlib.Core.List.{[], _∷_}
 use Rattle.sets.specs.Sets.{member, union, minus, single, firstN, subset}
 use Rattle.words.specs.Words.{readLE, bytesLE, put, wordBytes, byteWords}
-use Rattle.rules.specs.Index.{leastFrom, every, below, eachFrom, each}
+use Rattle.rules.specs.Index.{leastFrom, every, below, eachFrom, each, joinFrom}
 use Rattle.rules.specs.Answers.{passes, firstOf, unless, lowest}
-use Rattle.rules.specs.Station.{width, deviceStart, resourceAt, deviceAt, stationOf}
+use Rattle.rules.specs.Station.{width, deviceStart, resourceAt, deviceAt, stationOf, fieldBytes}
+use Rattle.rules.specs.Describe.{resourcesOf, devicesOf, headerBytes, recordBytes, tableBytes}
 use Rattle.rules.specs.Table.{headerGood, countsGood, lengthGood, firstBad, resourceGood, parentGood, present, setGood, sxdGood}
 use Rattle.rules.specs.Table.{sxwGood, deepestGood, headFields, setFields, sxdFields, sxwFields, lastFields, deviceFields}
 use Rattle.rules.specs.Table.{badField, fieldsGood, objectsGood, deviceRefusal, deviceGood, tableVerdict}
 use Rattle.rules.specs.Power.{supported, ownSet, listedSet, stateNeeds, wakeNeeds, needs, neededBelow, needed, wakeRange}
 use Rattle.rules.specs.Power.{wakeFrom, wakePowered, wakeState, wakePair}
-use Rattle.rules.specs.Status.{entryAt, entryBytes, entriesOf, statusOf, entriesBytes, imageOf, freshStatus, entryGood}
+use Rattle.rules.specs.Status.{entryAt, entryBytes, entriesOf, statusOf, imageOf, freshStatus, entryGood}
 use Rattle.rules.specs.Status.{entryZero, entriesGood, onGood, parentAllows, wakeConsistent, consistentButPower, powered}
 use Rattle.rules.specs.Status.{consistent, valuesGood, consistencyVerdict, stateVerdict}
 use Rattle.rules.specs.Request.{numbersGood, formGood, notShallowerOrD0, childBars, wakeAllows, moveVerdict, armVerdict}
@@ -24,7 +25,7 @@ use Rattle.rules.specs.Check.{onWord, offWord, andThen, takeWords, mayCo
 use Rattle.rules.specs.Outcomes.{outcome, freshVerdict, fresh, requestStage, stagesVerdict, planned, planVerdict, stateAfter}
 use Rattle.rules.specs.Outcomes.{planWords, planBytes, checkWords, checkBytes, recordPart}
 use Rattle.rules.specs.Execution.{carryOut, execution}
-use Rattle.rules.specs.Rows.{rows}
+use Rattle.rules.specs.Rows.{rows, benchTable, benchDevices}
 use Rattle.rules.specs.OwnStation.{ownTable, ownState, wideTable}
 use Rattle.rules.specs.OwnRows.{ownRows, callWords, otherWords}
 use Rattle.rules.specs.Holds.{same, answers, freshAnswers, startOf, stateOf, endState, leaves, wordRead, wordsRead, agree}
@@ -35,7 +36,7 @@ unfolding member union minus single firstN subset readLE bytesLE put wordBytes b
     unless lowest width deviceStart resourceAt deviceAt stationOf headerGood countsGood lengthGood firstBad resourceGood parentGood
     present setGood sxdGood sxwGood deepestGood headFields setFields sxdFields sxwFields lastFields deviceFields badField fieldsGood
     objectsGood deviceRefusal deviceGood tableVerdict supported ownSet listedSet stateNeeds wakeNeeds needs neededBelow needed wakeRange
-    wakeFrom wakePowered wakeState wakePair entryAt entryBytes entriesOf statusOf entriesBytes imageOf freshStatus entryGood entryZero
+    wakeFrom wakePowered wakeState wakePair entryAt entryBytes entriesOf statusOf joinFrom imageOf freshStatus entryGood entryZero
     entriesGood onGood parentAllows wakeConsistent consistentButPower powered consistent valuesGood consistencyVerdict stateVerdict
     numbersGood formGood notShallowerOrD0 childBars wakeAllows moveVerdict armVerdict kindVerdict requestVerdict newEntry replaceEntry
     listOf only methodFor callsMethod moveCall wakeCall ownCall ownLast endSet toTurnOn toTurnOff membersFrom earlier insert sort rising
@@ -58,3 +59,12 @@ codes-hold = (refl, refl, refl, refl)
 pub in-order : (execution (member 0) (onWord 5 ∷ offWord 5 ∷ []) 5 ≡ false) × (execution (member 0) (offWord 5 ∷ onWord 5 ∷ []) 5 ≡ true)
 unfolding member carryOut execution
 in-order = (refl, refl)
+
+-- the bench station is described byte for byte, and the descriptions of it and of the station of our own make their tables
+pub described-holds :
+    (devicesOf benchTable ≡ benchDevices)
+    × (tableBytes 1 4 (resourcesOf benchTable) benchDevices ≡ benchTable)
+    × (tableBytes 1 4 (resourcesOf ownTable) (devicesOf ownTable) ≡ ownTable)
+unfolding readLE bytesLE below eachFrom joinFrom width deviceStart deviceAt fieldBytes resourcesOf devicesOf headerBytes recordBytes
+    tableBytes ownTable
+described-holds = (refl, refl, refl)

@@ -1,7 +1,7 @@
 -- What the rules say of numbered things, such as resources, devices and bytes: the lowest with a property, all of them, a list of them.
 use Prim.Native.Nat.{ℕ, zero, suc}
 use mathlib.Core.Bool.{Bool, true, false, not, cond}
-use mathlib.Core.List.{List, [], _∷_}
+use mathlib.Core.List.{List, [], _∷_, _++_}
 use lib.Dec.{leb, ltb}
 
 -- the lowest of the k numbers from i on with a property, else their end
@@ -30,3 +30,12 @@ eachFrom f i (suc k) = f i ∷ eachFrom f (suc i) k
 -- f's values at the numbers below n
 abbrev pub each : {A : Type 0} → (ℕ → A) → ℕ → List A
 each f n = eachFrom f 0 n
+
+-- f's lists at the k numbers from i on, one after the other
+unfoldable pub joinFrom : {A : Type 0} → (ℕ → List A) → ℕ → ℕ → List A
+joinFrom f i zero = []
+joinFrom f i (suc k) = f i ++ joinFrom f (suc i) k
+
+-- f's lists at the numbers below n
+abbrev pub join : {A : Type 0} → (ℕ → List A) → ℕ → List A
+join f n = joinFrom f 0 n

@@ -2,6 +2,7 @@ pub mod Index
 pub mod Answers
 pub mod Station
 pub mod Table
+pub mod Describe
 pub mod Power
 pub mod Status
 pub mod Request

@@ -27,6 +27,13 @@ lamp = bytes 40 0x00000900_02000000_00000000_00000000_00000000_00000000_ffffffff
 abbrev pub benchTable : List ℕ
 benchTable = bytes 20 0x5057540301000300_03000100_00000200_03000100 ++ bus ++ camera ++ lamp
 
+-- RULES.md 11.1: the bench station's devices described, 54 bytes each, its sets of 8 bytes
+abbrev pub benchDevices : List ℕ
+benchDevices =
+    bytes 54 0xff090900_0100000000000000_0000000000000000_0000000000000000_0100000000000000_0000000000000000_ffffffff_ffffffffff_00
+    ++ bytes 54 0x000d0d03_0700000000000000_0000000000000000_0500000000000000_0100000000000000_0400000000000000_ffff02ff_ffffff03ff_03
+    ++ bytes 54 0x00000900_0200000000000000_0000000000000000_0000000000000000_0000000000000000_0000000000000000_ffffffff_ffffffffff_00
+
 -- a request by its four numbers; a device to state x, armed for S and D, disarmed
 abbrev pub request : ℕ → ℕ → ℕ → ℕ → Request
 request kind device a b = record { kind = kind; device = device; a = a; b = b }

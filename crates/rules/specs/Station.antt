@@ -4,12 +4,12 @@
 use Prim.Native.Nat.{ℕ, _+_, _*_, _%_, _≤_}
 use mathlib.Core.Path.{_≡_}
 use mathlib.Core.Bool.{Bool, cond}
-use mathlib.Core.List.{List}
+use mathlib.Core.List.{List, [], _∷_, _++_}
 use lib.ListN.{getD}
 use lib.Dec.{eqb}
 use Rattle.sets.specs.Sets.{member}
-use Rattle.words.specs.Words.{readLE}
-use Rattle.rules.specs.Index.{below}
+use Rattle.words.specs.Words.{readLE, bytesLE}
+use Rattle.rules.specs.Index.{below, each, join}
 
 -- a power resource: its systemlevel and its resourceorder
 pub record Resource : Type 0 where
@@ -93,6 +93,15 @@ deviceAt w t at =
       sxw = below 5 absent (λ x. getD t (at + 8 + 5 * w + x) 0);
       deepest = getD t (at + 13 + 5 * w) 0;
     }
+
+-- the other way: a device's fields as bytes, each set as w of them
+unfoldable pub fieldBytes : ℕ → Device → List ℕ
+fieldBytes w v =
+    (v .parent ∷ v .ps ∷ v .pr ∷ v .flags ∷ [])
+    ++ join (λ k. bytesLE w (v .sets k)) 5
+    ++ each (λ k. v .sxd (k + 1)) 4
+    ++ each (v .sxw) 5
+    ++ v .deepest ∷ []
 
 -- values for numbers that stand for nothing
 abbrev pub noResource : Resource

@@ -9,7 +9,7 @@ use Rattle.words.specs.Words.{readLE, bytesLE}
 use Rattle.rules.specs.declared.Verdict.{Verdict}
 use Rattle.rules.specs.declared.Verdict.the-variants.{Done, Refused}
 use Rattle.rules.specs.declared.Reason.the-variants.{BadState, Inconsistent}
-use Rattle.rules.specs.Index.{every, below}
+use Rattle.rules.specs.Index.{every, below, joinFrom}
 use Rattle.rules.specs.Answers.{firstOf, unless, lowest}
 use Rattle.rules.specs.Station.{Station, absent, width, limit, station}
 use Rattle.rules.specs.declared.Entry.{Entry}
@@ -52,9 +52,8 @@ abbrev pub status : List ℕ → List ℕ → Status
 status t b = statusOf (width t) b
 
 -- the bytes of the k entries from i on
-unfoldable pub entriesBytes : (ℕ → Entry) → ℕ → ℕ → List ℕ
-entriesBytes entries i zero = []
-entriesBytes entries i (suc k) = entryBytes (entries i) ++ entriesBytes entries (suc i) k
+abbrev pub entriesBytes : (ℕ → Entry) → ℕ → ℕ → List ℕ
+entriesBytes entries i k = joinFrom (λ d. entryBytes (entries d)) i k
 
 -- the image of a status
 unfoldable pub imageOf : ℕ → Status → List ℕ

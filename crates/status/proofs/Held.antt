@@ -17,6 +17,7 @@ use Rattle.words.proofs.Put.{Emitted, emitted-run, put-all}
 use Rattle.rules.specs.declared.State.{State}
 use Rattle.rules.specs.declared.Entry.{Entry}
 use Rattle.rules.specs.Station.{Station, width, limit, countD, station}
+use Rattle.rules.specs.Index.{joinFrom}
 use Rattle.rules.specs.Status.{noEntry, entryAt, entryBytes, entriesSize, entriesOf, entries, statusOf, status, entriesBytes, imageOf}
 use Rattle.rules.specs.Status.{imageSize, freshStatus}
 use Rattle.rules.proofs.Index.{below-in, below-out}
@@ -123,7 +124,7 @@ entry-cut ds n h =
 
 entries-drop : (f : ℕ → Entry) (ds : List ℕ) (i k : ℕ) → ((j : ℕ) → j < i + k → f j ≡ entryAt ds (4 * j)) → length ds ≡ 4 * (i + k)
     → entriesBytes f i k ≡ drop (4 * i) ds
-unfolding entriesBytes
+unfolding joinFrom
 entries-drop f ds i zero h l = sym (drop-of-length-le ds {i = 4 * i} (omega arith))
 entries-drop f ds i (suc k) h l =
     let n : 4 * suc i ≡ 4 * i + 4 = omega arith in

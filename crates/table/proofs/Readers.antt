@@ -3,13 +3,12 @@
 use mathlib.Core.Path.{_≡_, refl}
 use mathlib.Core.List.{List}
 use Prim.Native.Nat.{ℕ, _+_, _*_, _^_, _<_, _≤_}
-use native.Mathlib.Nat.{mul-suc, mul-le-mul-left}
 use native.Mathlib.Omega.{arith}
 use lib.ListN.{length, getD}
 use Rattle.words.specs.Words.{readLE}
 use Rattle.rules.specs.Station.{Device, width, Wide, recordSize, countR, countD, deviceStart, resourceAt, deviceAt, station}
 use Rattle.rules.proofs.Width.{width-is}
-use Rattle.laws.proofs.Accepted.{resource-at, device-at}
+use Rattle.laws.proofs.Accepted.{record-inside, resource-at, device-at}
 use Rattle.table.specs.Layout.{WellSized}
 
 -- ---- the only laws that say what the width is: it is 4, so that the counts are at most 32 and a set has 32 bits
@@ -36,12 +35,7 @@ module _ (t : List ℕ) (d r w : ℕ) (e : r ≡ countR t) (f : w ≡ width t) w
   start-4 h n = let g : w ≡ 4 = omega arith in rw (← f, g, e) (omega arith)
 
 pub inside : (t : List ℕ) (d s : ℕ) → s ≡ deviceStart (width t) t d → WellSized t → d < countD t → s + recordSize (width t) ≤ length t
-unfolding deviceStart
-inside t d s e z h =
-    let size = recordSize (width t) in
-    let one = mul-suc size d in
-    let more = mul-le-mul-left size h in
-    omega (arith, one, more, z .long)
+inside t d s e z h = rw e (record-inside t d (z .long) h)
 
 -- ---- a resource's two fields
 pub level-is : (t : List ℕ) (r : ℕ) → r < countR t → getD t (8 + 4 * r) 0 ≡ station t .resource r .level

@@ -1,0 +1,287 @@
+-- A device's fields and the bytes of its record are two views of one thing, for every width: what is read is written back as the same bytes.
+use mathlib.Core.Path.{_≡_, refl, sym, ap, _∙_, fun-ext}
+use mathlib.Core.Bool.{cond}
+use mathlib.Core.List.{List, [], _∷_, _++_, append-assoc}
+use Prim.Native.Nat.{ℕ, zero, suc, _+_, _*_, _-_, _^_, _≤_, _<_}
+use native.Mathlib.Nat.{add-zero, mul-zero, mul-suc, mul-comm, mul-le-mul, mod-eq-of-lt, lt-of-lt-of-le}
+use lib.Pow.{pow-mono}
+use native.Mathlib.Omega.{arith}
+use borrow.Author.Tests.{ltb-true, ltb-false, ne-eqb}
+use lib.Dec.{eqb, ltb}
+use lib.ListN.{length, getD, take, drop, length-append, length-take, length-drop, take-append-drop, List·getD-eq-default}
+use lib.Seq.{length-take-le, getD-take, getD-drop}
+use Rattle.sets.proofs.Laws.{decide}
+use Rattle.words.specs.Words.{readLE, bytesLE}
+use Rattle.words.proofs.Laws.{read-drop, read-append, read-lt, bytes-length, read-bytes-at, bytes-read}
+use Rattle.rules.specs.Index.{below, eachFrom, each, joinFrom, join}
+use Rattle.rules.specs.Station.{Device, absent, fieldsSize, deviceAt, fieldBytes}
+use Rattle.rules.proofs.Index.{below-in, below-out}
+use Rattle.laws.proofs.Image.{bytes-bits}
+use Rattle.laws.proofs.Parts.{parts-meet, each-part, join-part, join-same, join-length, join-at, get-each, each-length, get-past}
+
+-- every element is a byte
+abbrev pub Bytes : List ℕ → Type 0
+Bytes t = (i : ℕ) → getD t i 0 < 256
+
+part-bytes : (t : List ℕ) → Bytes t → (x n : ℕ) → Bytes (take n (drop x t))
+part-bytes t h x n i =
+    decide (ltb i n)
+    (λ e. rw (getD-take n (drop x t) i 0 (ltb-true _ _ e), getD-drop x t i 0) (h (x + i)))
+    (λ e. rw (List·getD-eq-default (take n (drop x t)) 0 {n = i} (omega (arith, length-take n (drop x t), ltb-false i n e))) (omega arith))
+
+-- a number is written as the bytes that it was read from
+pub number-part : (w : ℕ) (t : List ℕ) → Bytes t → (x : ℕ) → x + w ≤ length t → bytesLE w (readLE w t x) ≡ take w (drop x t)
+number-part w t h x l =
+    let p = take w (drop x t) in
+    let long : length p ≡ w = length-take-le w (drop x t) (omega (arith, length-drop x t)) in
+    let same : readLE w p 0 ≡ readLE w t x =
+    sym (read-append w p (drop w (drop x t)) 0 (omega (arith, long)))
+    ∙ ap (λ (s : List ℕ). readLE w s 0) (take-append-drop w (drop x t)) ∙ read-drop w t x 0 ∙ ap (readLE w t) (add-zero x) in
+    rw (← same) (bytes-read w p long (part-bytes t h x w))
+
+-- set k ends before the fields do
+set-inside : (w k : ℕ) → k < 5 → w * k + w ≤ 5 * w
+set-inside w k h =
+    let m : w * suc k ≤ w * 5 = mul-le-mul {n₁ = w} {m₁ = suc k} {n₂ = w} {m₂ = 5} (omega arith) (omega arith) in
+    omega (arith, m, mul-suc w k)
+
+module _ (w : ℕ) (t : List ℕ) (h : Bytes t) (at : ℕ) (l : at + fieldsSize w ≤ length t) where
+  abbrev v : Device
+  v = deviceAt w t at
+
+  head-part : (v .parent ∷ v .ps ∷ v .pr ∷ v .flags ∷ []) ≡ take 4 (drop at t)
+  unfolding deviceAt eachFrom
+  head-part = rw (add-zero at) at (each-part t at 0 4 (omega arith))
+
+  sets-part : joinFrom (λ k. bytesLE w (v .sets k)) 0 5 ≡ take (5 * w) (drop (at + 4) t)
+  unfolding deviceAt
+  sets-part =
+      join-same _ (λ k. take w (drop (at + 4 + w * k) t)) 0 5
+      (λ k i u. ap (bytesLE w) (below-in 5 0 (λ j. readLE w t (at + 4 + w * j)) k (omega arith)) ∙ number-part w t h (at + 4 + w * k) (omega (arith, set-inside w k (omega arith))))
+      ∙ join-part t (at + 4) w 0 5 ∙ rw (mul-zero w, add-zero (at + 4), mul-comm w 5) refl
+
+  sxd-part : eachFrom (λ k. v .sxd (k + 1)) 0 4 ≡ take 4 (drop (at + 4 + 5 * w) t)
+  unfolding deviceAt eachFrom below
+  sxd-part =
+      let e : at + 3 + 5 * w + 1 ≡ at + 4 + 5 * w = omega arith in
+      each-part t (at + 3 + 5 * w) 1 4 (omega arith) ∙ ap (λ (n : ℕ). take 4 (drop n t)) e
+
+  sxw-part : eachFrom (v .sxw) 0 5 ≡ take 5 (drop (at + 8 + 5 * w) t)
+  unfolding deviceAt eachFrom below
+  sxw-part = each-part t (at + 8 + 5 * w) 0 5 (omega arith) ∙ ap (λ (n : ℕ). take 5 (drop n t)) (add-zero (at + 8 + 5 * w))
+
+  deepest-part : (v .deepest ∷ []) ≡ take 1 (drop (at + 13 + 5 * w) t)
+  unfolding deviceAt eachFrom
+  deepest-part = rw (add-zero (at + 13 + 5 * w)) at (each-part t (at + 13 + 5 * w) 0 1 (omega arith))
+
+  -- m elements from y on, where n from x on end
+  meet : (x n m y k : ℕ) → y ≡ x + n → k ≡ n + m → take n (drop x t) ++ take m (drop y t) ≡ take k (drop x t)
+  meet x n m y k e f = rw (e, f) (parts-meet t x n m)
+
+  pub fields-back : fieldBytes w v ≡ take (fieldsSize w) (drop at t)
+  unfolding fieldBytes
+  fields-back =
+      let sxd = each (λ k. v .sxd (k + 1)) 4 in
+      let sxw = each (v .sxw) 5 in
+      let last = v .deepest ∷ [] in
+      let a : (v .parent ∷ v .ps ∷ v .pr ∷ v .flags ∷ []) ++ join (λ k. bytesLE w (v .sets k)) 5 ≡ take (4 + 5 * w) (drop at t) =
+      ap (λ (p : List ℕ). p ++ join (λ k. bytesLE w (v .sets k)) 5) head-part ∙ ap (λ (p : List ℕ). take 4 (drop at t) ++ p) sets-part
+      ∙ meet at 4 (5 * w) (at + 4) (4 + 5 * w) refl refl in
+      let b : take (4 + 5 * w) (drop at t) ++ sxd ≡ take (8 + 5 * w) (drop at t) =
+      rw sxd-part (meet at (4 + 5 * w) 4 (at + 4 + 5 * w) (8 + 5 * w) (omega arith) (omega arith)) in
+      let c : take (8 + 5 * w) (drop at t) ++ sxw ≡ take (13 + 5 * w) (drop at t) =
+      rw sxw-part (meet at (8 + 5 * w) 5 (at + 8 + 5 * w) (13 + 5 * w) (omega arith) (omega arith)) in
+      let d : take (13 + 5 * w) (drop at t) ++ last ≡ take (14 + 5 * w) (drop at t) =
+      rw deepest-part (meet at (13 + 5 * w) 1 (at + 13 + 5 * w) (14 + 5 * w) (omega arith) (omega arith)) in
+      ap (λ (p : List ℕ). p ++ sxd ++ sxw ++ last) a ∙ ap (λ (p : List ℕ). p ++ sxw ++ last) b ∙ ap (λ (p : List ℕ). p ++ last) c ∙ d
+
+-- ---- what is written is read back as the same fields
+
+regroup : (h a s j x y z : List ℕ) → h ++ (a ++ (s ++ j)) ++ x ++ y ++ z ≡ h ++ a ++ s ++ (j ++ x ++ y ++ z)
+regroup h a s j x y z = simp append-assoc
+
+pub fields-long : (w : ℕ) (v : Device) → length (fieldBytes w v) ≡ fieldsSize w
+unfolding fieldBytes
+fields-long w v =
+    let head = v .parent ∷ v .ps ∷ v .pr ∷ v .flags ∷ [] in
+    let sets = join (λ k. bytesLE w (v .sets k)) 5 in
+    let sxd = each (λ k. v .sxd (k + 1)) 4 in
+    let sxw = each (v .sxw) 5 in
+    length-append (head ++ sets ++ sxd ++ sxw) (v .deepest ∷ [])
+    ∙ omega (
+      arith,
+      length-append (head ++ sets ++ sxd) sxw,
+      length-append (head ++ sets) sxd,
+      length-append head sets,
+      join-length (λ k. bytesLE w (v .sets k)) w (λ j. bytes-length w (v .sets j)) 0 5,
+      each-length (λ k. v .sxd (k + 1)) 0 4,
+      each-length (v .sxw) 0 5,
+      mul-comm w 5,
+    )
+
+-- a device whose numbers outside their ranges stand for nothing, as they do in one that was read, and whose sets have w bytes
+pub record Described (w : ℕ) (v : Device) : Type 0 where
+  pub sets : (k : ℕ) → k < 5 → v .sets k < 256 ^ w
+  pub noSet : (k : ℕ) → 5 ≤ k → v .sets k ≡ 0
+  pub noS0D : v .sxd 0 ≡ absent
+  pub noSxD : (x : ℕ) → 5 ≤ x → v .sxd x ≡ absent
+  pub noSxW : (x : ℕ) → 5 ≤ x → v .sxw x ≡ absent
+
+module _ (w : ℕ) (v : Device) (g : Described w v) where
+  abbrev head : List ℕ
+  head = v .parent ∷ v .ps ∷ v .pr ∷ v .flags ∷ []
+
+  abbrev set : ℕ → List ℕ
+  set k = bytesLE w (v .sets k)
+
+  abbrev sxd : List ℕ
+  sxd = each (λ k. v .sxd (k + 1)) 4
+
+  abbrev sxw : List ℕ
+  sxw = each (v .sxw) 5
+
+  sets-long : (k : ℕ) → length (head ++ joinFrom set 0 k) ≡ 4 + w * k
+  sets-long k = length-append head (joinFrom set 0 k) ∙ ap (λ (n : ℕ). 4 + n) (join-length set w (λ j. bytes-length w (v .sets j)) 0 k)
+
+  set-back : (k : ℕ) → k < 5 → readLE w (fieldBytes w v) (4 + w * k) ≡ v .sets k
+  unfolding fieldBytes
+  set-back k h =
+      let z : 0 + k ≡ k = omega arith in
+      let rest = joinFrom set (suc k) (5 - suc k) ++ sxd ++ sxw ++ v .deepest ∷ [] in
+      let same : head ++ join set 5 ++ sxd ++ sxw ++ v .deepest ∷ [] ≡ head ++ joinFrom set 0 k ++ bytesLE w (v .sets k) ++ rest =
+      ap (λ (l : List ℕ). head ++ l ++ sxd ++ sxw ++ v .deepest ∷ []) (rw z at (join-at set 0 5 k h))
+      ∙ regroup head (joinFrom set 0 k) (set k) (joinFrom set (suc k) (5 - suc k)) sxd sxw (v .deepest ∷ []) in
+      ap (λ (l : List ℕ). readLE w l (4 + w * k)) same
+      ∙ read-bytes-at w (v .sets k) (head ++ joinFrom set 0 k) rest (4 + w * k) (sets-long k) ∙ mod-eq-of-lt (g .sets k h)
+
+  -- the bytes before `_S1D`, before `_S0W` and before the last
+  abbrev front : List ℕ
+  front = head ++ join set 5
+
+  front-long : length front ≡ 4 + 5 * w
+  front-long = sets-long 5 ∙ ap (λ (n : ℕ). 4 + n) (mul-comm w 5)
+
+  sxd-long : length (front ++ sxd) ≡ 8 + 5 * w
+  sxd-long = length-append front sxd ∙ omega (arith, front-long, each-length (λ k. v .sxd (k + 1)) 0 4)
+
+  sxw-long : length (front ++ sxd ++ sxw) ≡ 13 + 5 * w
+  sxw-long = length-append (front ++ sxd) sxw ∙ omega (arith, sxd-long, each-length (v .sxw) 0 5)
+
+  sxd-back : (x : ℕ) → x < 4 → getD (fieldBytes w v) (4 + 5 * w + x) 0 ≡ v .sxd (x + 1)
+  unfolding fieldBytes
+  sxd-back x h =
+      let rest = sxw ++ v .deepest ∷ [] in
+      let z : 0 + x ≡ x = omega arith in
+      ap (λ (l : List ℕ). getD l (4 + 5 * w + x) 0) (append-assoc (front ++ sxd) sxw (v .deepest ∷ []) ∙ append-assoc front sxd rest)
+      ∙ get-past front (sxd ++ rest) (4 + 5 * w) x front-long ∙ get-each (λ k. v .sxd (k + 1)) rest 0 4 x h
+      ∙ ap (λ (k : ℕ). v .sxd (k + 1)) z
+
+  state-back : (x : ℕ) → x < 5 → cond (eqb x 0) absent (getD (fieldBytes w v) (3 + 5 * w + x) 0) ≡ v .sxd x
+  state-back zero h = sym (g .noS0D)
+  state-back (suc x) h =
+      let a : 3 + 5 * w + suc x ≡ 4 + 5 * w + x = omega arith in
+      let b : x + 1 ≡ suc x = omega arith in
+      rw (ne-eqb (suc x) 0 (λ z. omega arith), a, sxd-back x (omega arith), b) refl
+
+  sxw-back : (x : ℕ) → x < 5 → getD (fieldBytes w v) (8 + 5 * w + x) 0 ≡ v .sxw x
+  unfolding fieldBytes
+  sxw-back x h =
+      let z : 0 + x ≡ x = omega arith in
+      ap (λ (l : List ℕ). getD l (8 + 5 * w + x) 0) (append-assoc (front ++ sxd) sxw (v .deepest ∷ []))
+      ∙ get-past (front ++ sxd) (sxw ++ v .deepest ∷ []) (8 + 5 * w) x sxd-long ∙ get-each (v .sxw) (v .deepest ∷ []) 0 5 x h
+      ∙ ap (v .sxw) z
+
+  deepest-back : getD (fieldBytes w v) (13 + 5 * w) 0 ≡ v .deepest
+  unfolding fieldBytes
+  deepest-back = rw (add-zero (13 + 5 * w)) at (get-past (front ++ sxd ++ sxw) (v .deepest ∷ []) (13 + 5 * w) 0 sxw-long)
+
+  head-back : (getD (fieldBytes w v) 0 0 ≡ v .parent) × (getD (fieldBytes w v) 1 0 ≡ v .ps) × (getD (fieldBytes w v) 2 0 ≡ v .pr)
+      × (getD (fieldBytes w v) 3 0 ≡ v .flags)
+  unfolding fieldBytes
+  head-back = (refl, refl, refl, refl)
+
+  pub device-back : deviceAt w (fieldBytes w v) 0 ≡ v
+  unfolding deviceAt
+  device-back =
+      let sets : below 5 0 (λ k. readLE w (fieldBytes w v) (4 + w * k)) ≡ v .sets =
+      fun-ext (λ k. decide (ltb k 5) (λ e. below-in 5 0 _ k (ltb-true k 5 e) ∙ set-back k (ltb-true k 5 e))
+      (λ e. below-out 5 0 _ k (ltb-false k 5 e) ∙ sym (g .noSet k (ltb-false k 5 e)))) in
+      let limits : below 5 absent (λ x. getD (fieldBytes w v) (8 + 5 * w + x) 0) ≡ v .sxw =
+      fun-ext (λ x. decide (ltb x 5) (λ e. below-in 5 absent _ x (ltb-true x 5 e) ∙ sxw-back x (ltb-true x 5 e))
+      (λ e. below-out 5 absent _ x (ltb-false x 5 e) ∙ sym (g .noSxW x (ltb-false x 5 e)))) in
+      let states : below 5 absent (λ x. cond (eqb x 0) absent (getD (fieldBytes w v) (3 + 5 * w + x) 0)) ≡ v .sxd =
+      fun-ext (λ x. decide (ltb x 5) (λ e. below-in 5 absent _ x (ltb-true x 5 e) ∙ state-back x (ltb-true x 5 e))
+      (λ e. below-out 5 absent _ x (ltb-false x 5 e) ∙ sym (g .noSxD x (ltb-false x 5 e)))) in
+      let h = head-back in
+      rw (sets, states, limits, deepest-back, h .0, h .1, h .2, h .3) refl
+
+-- what was read is described
+pub read-described : (w : ℕ) (t : List ℕ) (at : ℕ) → Bytes t → Described w (deviceAt w t at)
+unfolding deviceAt below
+read-described w t at h =
+    let set : ℕ → ℕ = λ k. readLE w t (at + 4 + w * k) in
+    let state : ℕ → ℕ = λ x. cond (eqb x 0) absent (getD t (at + 3 + 5 * w + x) 0) in
+    let limit : ℕ → ℕ = λ x. getD t (at + 8 + 5 * w + x) 0 in
+    record {
+      sets = λ k l. rw (below-in 5 0 set k l) (read-lt w t (at + 4 + w * k) h);
+      noSet = λ k l. below-out 5 0 set k l;
+      noS0D = refl;
+      noSxD = λ x l. below-out 5 absent state x l;
+      noSxW = λ x l. below-out 5 absent limit x l;
+    }
+
+-- a wider set has room for it too
+pub widen : (w u : ℕ) (x : Device) → w ≤ u → Described w x → Described u x
+widen w u x h g = record {
+  sets = λ k l. rw (bytes-bits u) (lt-of-lt-of-le (rw (bytes-bits w) at (g .sets k l)) (pow-mono (omega arith)));
+  noSet = g .noSet;
+  noS0D = g .noS0D;
+  noSxD = g .noSxD;
+  noSxW = g .noSxW;
+}
+
+-- ---- two places with the same bytes have the same device
+
+read-same : (k : ℕ) (s t : List ℕ) (x y : ℕ) → ((i : ℕ) → i < k → getD s (x + i) 0 ≡ getD t (y + i) 0) → readLE k s x ≡ readLE k t y
+unfolding readLE
+read-same zero s t x y h = refl
+read-same (suc k) s t x y h =
+    let first : getD s x 0 ≡ getD t y 0 = rw (add-zero x, add-zero y) at (h 0 (omega arith)) in
+    let rest = read-same k s t (x + 1) (y + 1)
+    (λ i l.
+    let a : x + 1 + i ≡ x + (i + 1) = omega arith in
+    let b : y + 1 + i ≡ y + (i + 1) = omega arith in
+    rw (a, b) (h (i + 1) (omega arith))) in
+    rw (first, rest) refl
+
+below-same : (n other : ℕ) (f g : ℕ → ℕ) → ((i : ℕ) → i < n → f i ≡ g i) → below n other f ≡ below n other g
+below-same n other f g h =
+    fun-ext (λ i. decide (ltb i n)
+    (λ e. let l = ltb-true i n e in below-in n other f i l ∙ h i l ∙ sym (below-in n other g i l))
+    (λ e. let l = ltb-false i n e in below-out n other f i l ∙ sym (below-out n other g i l)))
+
+module _ (w : ℕ) (s t : List ℕ) (a b : ℕ) (byte : (i : ℕ) → i < fieldsSize w → getD s (a + i) 0 ≡ getD t (b + i) 0) where
+  byte-at : (i x y : ℕ) → x ≡ a + i → y ≡ b + i → i < fieldsSize w → getD s x 0 ≡ getD t y 0
+  byte-at i x y e f h = rw (e, f) (byte i h)
+
+  pub same-device : deviceAt w s a ≡ deviceAt w t b
+  unfolding deviceAt
+  same-device =
+      let sets = below-same 5 0 (λ k. readLE w s (a + 4 + w * k)) (λ k. readLE w t (b + 4 + w * k))
+      (λ k h. read-same w s t (a + 4 + w * k) (b + 4 + w * k)
+      (λ i u. byte-at (4 + w * k + i) _ _ (omega arith) (omega arith) (omega (arith, set-inside w k h)))) in
+      let states = below-same 5 absent (λ x. cond (eqb x 0) absent (getD s (a + 3 + 5 * w + x) 0))
+      (λ x. cond (eqb x 0) absent (getD t (b + 3 + 5 * w + x) 0))
+      (λ x h. ap (cond (eqb x 0) absent) (byte-at (3 + 5 * w + x) _ _ (omega arith) (omega arith) (omega arith))) in
+      let limits = below-same 5 absent (λ x. getD s (a + 8 + 5 * w + x) 0) (λ x. getD t (b + 8 + 5 * w + x) 0)
+      (λ x h. byte-at (8 + 5 * w + x) _ _ (omega arith) (omega arith) (omega arith)) in
+      rw (
+        byte-at 0 a b (omega arith) (omega arith) (omega arith),
+        byte-at 1 (a + 1) (b + 1) refl refl (omega arith),
+        byte-at 2 (a + 2) (b + 2) refl refl (omega arith),
+        byte-at 3 (a + 3) (b + 3) refl refl (omega arith),
+        sets,
+        states,
+        limits,
+        byte-at (13 + 5 * w) (a + 13 + 5 * w) (b + 13 + 5 * w) (omega arith) (omega arith) (omega arith),
+      ) refl
