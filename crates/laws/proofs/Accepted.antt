@@ -1,5 +1,5 @@
--- What an accepted table gives: its counts and length, and of each resource and device every rule of RULES.md 2.3 to 2.5, read off the
--- station.
+-- What an accepted table gives: header, counts and length, and of each resource and device the rules of RULES.md 2.3 to 2.5, most of them
+-- read off the station.
 use mathlib.Core.Path.{_≡_, refl, sym, _∙_}
 use mathlib.Core.Bool.{true, false}
 use mathlib.Core.List.{List, [], _∷_, _++_}

@@ -1,8 +1,8 @@
--- Describing and writing are inverse, for every width: the table that descriptions make is described as them, and a table's descriptions make
--- the table.
+-- Describing and writing are inverse, for every width: the table that whole records make, their sets fitting in it, describes these
+-- records; and what a good table describes makes the table.
 use mathlib.Core.Path.{_≡_, refl, sym, ap, _∙_}
 use mathlib.Core.List.{List, [], _∷_, _++_}
-use Prim.Native.Nat.{ℕ, _+_, _*_, _-_, _≤_, _<_}
+use Prim.Native.Nat.{ℕ, _+_, _*_, _-_, _^_, _<_}
 use native.Mathlib.Nat.{add-zero, zero-add, mul-zero}
 use native.Mathlib.Omega.{arith}
 use borrow.Author.Tests.{eqb-true, leb-true}
@@ -18,7 +18,8 @@ use Rattle.rules.proofs.Width.{width-wide}
 use Rattle.laws.proofs.Tests.{both-true}
 use Rattle.laws.proofs.Accepted.{Accepted, record-inside}
 use Rattle.laws.proofs.Parts.{parts-meet, each-part, zeros-part, join-part, join-same, join-length, join-at, get-past}
-use Rattle.laws.proofs.Fields.{Bytes, Described, number-part, fields-back, fields-long, device-back, read-described, widen, same-device}
+use Rattle.laws.proofs.Fields.{AllBytes, FieldsFit, number-part, fields-back, fields-long, device-back, read-fits, fit-again}
+use Rattle.laws.proofs.Fields.{widen, same-device}
 
 -- element i of the list at number d, in the whole that is put together
 get-join : (f : ℕ → List ℕ) (n : ℕ) → ((j : ℕ) → length (f j) ≡ n) → (k d i : ℕ) → d < k → i < n
@@ -61,7 +62,7 @@ module _ (version w : ℕ) (rs ds : List ℕ) where
   unfolding resourcesOf tableBytes headerBytes bytesLE
   resources-back h = take-at rs (join written (describedD ds)) (4 * describedR rs) h
 
-  -- device d's record stands at its start
+  -- where the records begin
   front-long : length rs ≡ 4 * describedR rs → length (headerBytes version (describedR rs) (describedD ds) ++ rs) ≡ 8 + 4 * describedR rs
   unfolding headerBytes bytesLE
   front-long h = omega (arith, h)
@@ -70,6 +71,7 @@ module _ (version w : ℕ) (rs ds : List ℕ) where
   unfolding deviceStart
   start-is d = rw count-r refl
 
+  -- device d's record stands at its start
   byte-there : (d i : ℕ) → length rs ≡ 4 * describedR rs → d < describedD ds → i < recordSize w
       → getD t (deviceStart w t d + i) 0 ≡ getD (written d) i 0
   unfolding tableBytes
@@ -81,15 +83,15 @@ module _ (version w : ℕ) (rs ds : List ℕ) where
       ∙ get-join written (recordSize w) record-long (describedD ds) d i l u
 
   -- the device that is read there is the described one
-  device-there : (d : ℕ) → length rs ≡ 4 * describedR rs → d < describedD ds → Described w (describedDevice ds d)
+  device-there : (d : ℕ) → length rs ≡ 4 * describedR rs → d < describedD ds → FieldsFit w (describedDevice ds d)
       → deviceAt w t (deviceStart w t d) ≡ describedDevice ds d
   device-there d h l g =
       let v = describedDevice ds d in
       same-device w t (fieldBytes w v) (deviceStart w t d) 0
       (λ i u. byte-there d i h l (omega arith) ∙ front-byte d i u) ∙ device-back w v g
 
-  pub devices-back : width t ≡ w → Bytes ds → length rs ≡ 4 * describedR rs → length ds ≡ 54 * describedD ds
-      → ((d : ℕ) → d < describedD ds → Described w (describedDevice ds d)) → devicesOf t ≡ ds
+  pub devices-back : width t ≡ w → AllBytes ds → length rs ≡ 4 * describedR rs → length ds ≡ describedSize * describedD ds
+      → ((d : ℕ) → d < describedD ds → (k : ℕ) → k < 5 → describedDevice ds d .sets k < 256 ^ w) → devicesOf t ≡ ds
   unfolding devicesOf
   devices-back e b h l g =
       let n = describedD ds in
@@ -97,16 +99,17 @@ module _ (version w : ℕ) (rs ds : List ℕ) where
       (drop (0 + describedSize * d) ds) =
       λ d u.
       let z : 0 + describedSize * d ≡ describedSize * d = omega arith in
-      rw (z, device-there d h u (g d u)) (fields-back describedWidth ds b (describedSize * d) (omega (arith, l))) in
+      rw (z, device-there d h u (fit-again describedWidth w _ (read-fits describedWidth ds (describedSize * d) b) (g d u)))
+      (fields-back describedWidth ds b (describedSize * d) (omega (arith, l))) in
       let whole : take (describedSize * n) (drop (0 + describedSize * 0) ds) ≡ ds = take-all (describedSize * n) ds (omega (arith, l)) in
       rw (e, count-d) (join-same _ _ 0 n (λ d i u. each d (omega arith)) ∙ join-part ds 0 describedSize 0 n ∙ whole)
 
 -- ---- written after described
-module _ (t : List ℕ) (b : Bytes t) (a : Accepted t) where
+module _ (t : List ℕ) (b : AllBytes t) (a : Accepted t) where
   abbrev w : ℕ
   w = width t
 
-  -- device d of the table, and the byte at which its record starts
+  -- the byte at which device d's record starts
   abbrev start : ℕ → ℕ
   start d = deviceStart w t d
 
@@ -135,7 +138,7 @@ module _ (t : List ℕ) (b : Bytes t) (a : Accepted t) where
       same-device describedWidth (devicesOf t) (fieldBytes describedWidth v) (describedSize * d) 0
       (λ i u. let z : 0 + i ≡ i = omega arith in
       rw z (get-join described describedSize (λ j. fields-long describedWidth (deviceAt w t (start j))) (countD t) d i h u))
-      ∙ device-back describedWidth v (widen w describedWidth v (width-wide t .high) (read-described w t (start d) b))
+      ∙ device-back describedWidth v (widen w describedWidth v (width-wide t .high) (read-fits w t (start d) b))
 
   record-back : (d : ℕ) → d < countD t → recordBytes w (describedDevice (devicesOf t) d) ≡ take (recordSize w) (drop (start d) t)
   unfolding recordBytes

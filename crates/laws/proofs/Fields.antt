@@ -1,4 +1,5 @@
--- A device's fields and the bytes of its record are two views of one thing, for every width: what is read is written back as the same bytes.
+-- A device's fields and the bytes of its record are two views of one thing, for every width: what is read is written back as the same
+-- bytes, and what is written is read back as the same fields.
 use mathlib.Core.Path.{_≡_, refl, sym, ap, _∙_, fun-ext}
 use mathlib.Core.Bool.{cond}
 use mathlib.Core.List.{List, [], _∷_, _++_, append-assoc}
@@ -20,17 +21,17 @@ use Rattle.laws.proofs.Image.{bytes-bits}
 use Rattle.laws.proofs.Parts.{parts-meet, each-part, join-part, join-same, join-length, join-at, get-each, each-length, get-past}
 
 -- every element is a byte
-abbrev pub Bytes : List ℕ → Type 0
-Bytes t = (i : ℕ) → getD t i 0 < 256
+abbrev pub AllBytes : List ℕ → Type 0
+AllBytes t = (i : ℕ) → getD t i 0 < 256
 
-part-bytes : (t : List ℕ) → Bytes t → (x n : ℕ) → Bytes (take n (drop x t))
+part-bytes : (t : List ℕ) → AllBytes t → (x n : ℕ) → AllBytes (take n (drop x t))
 part-bytes t h x n i =
     decide (ltb i n)
     (λ e. rw (getD-take n (drop x t) i 0 (ltb-true _ _ e), getD-drop x t i 0) (h (x + i)))
     (λ e. rw (List·getD-eq-default (take n (drop x t)) 0 {n = i} (omega (arith, length-take n (drop x t), ltb-false i n e))) (omega arith))
 
 -- a number is written as the bytes that it was read from
-pub number-part : (w : ℕ) (t : List ℕ) → Bytes t → (x : ℕ) → x + w ≤ length t → bytesLE w (readLE w t x) ≡ take w (drop x t)
+pub number-part : (w : ℕ) (t : List ℕ) → AllBytes t → (x : ℕ) → x + w ≤ length t → bytesLE w (readLE w t x) ≡ take w (drop x t)
 number-part w t h x l =
     let p = take w (drop x t) in
     let long : length p ≡ w = length-take-le w (drop x t) (omega (arith, length-drop x t)) in
@@ -45,7 +46,7 @@ set-inside w k h =
     let m : w * suc k ≤ w * 5 = mul-le-mul {n₁ = w} {m₁ = suc k} {n₂ = w} {m₂ = 5} (omega arith) (omega arith) in
     omega (arith, m, mul-suc w k)
 
-module _ (w : ℕ) (t : List ℕ) (h : Bytes t) (at : ℕ) (l : at + fieldsSize w ≤ length t) where
+module _ (w : ℕ) (t : List ℕ) (h : AllBytes t) (at : ℕ) (l : at + fieldsSize w ≤ length t) where
   abbrev v : Device
   v = deviceAt w t at
 
@@ -57,7 +58,8 @@ module _ (w : ℕ) (t : List ℕ) (h : Bytes t) (at : ℕ) (l : at + fieldsSize 
   unfolding deviceAt
   sets-part =
       join-same _ (λ k. take w (drop (at + 4 + w * k) t)) 0 5
-      (λ k i u. ap (bytesLE w) (below-in 5 0 (λ j. readLE w t (at + 4 + w * j)) k (omega arith)) ∙ number-part w t h (at + 4 + w * k) (omega (arith, set-inside w k (omega arith))))
+      (λ k i u. ap (bytesLE w) (below-in 5 0 (λ j. readLE w t (at + 4 + w * j)) k (omega arith)) ∙ number-part w t h (at + 4 + w * k)
+      (omega (arith, set-inside w k (omega arith))))
       ∙ join-part t (at + 4) w 0 5 ∙ rw (mul-zero w, add-zero (at + 4), mul-comm w 5) refl
 
   sxd-part : eachFrom (λ k. v .sxd (k + 1)) 0 4 ≡ take 4 (drop (at + 4 + 5 * w) t)
@@ -119,15 +121,15 @@ fields-long w v =
       mul-comm w 5,
     )
 
--- a device whose numbers outside their ranges stand for nothing, as they do in one that was read, and whose sets have w bytes
-pub record Described (w : ℕ) (v : Device) : Type 0 where
+-- a device whose numbers outside their ranges stand for nothing, as they do in one that was read, and whose sets fit in w bytes
+pub record FieldsFit (w : ℕ) (v : Device) : Type 0 where
   pub sets : (k : ℕ) → k < 5 → v .sets k < 256 ^ w
   pub noSet : (k : ℕ) → 5 ≤ k → v .sets k ≡ 0
   pub noS0D : v .sxd 0 ≡ absent
   pub noSxD : (x : ℕ) → 5 ≤ x → v .sxd x ≡ absent
   pub noSxW : (x : ℕ) → 5 ≤ x → v .sxw x ≡ absent
 
-module _ (w : ℕ) (v : Device) (g : Described w v) where
+module _ (w : ℕ) (v : Device) (g : FieldsFit w v) where
   abbrev head : List ℕ
   head = v .parent ∷ v .ps ∷ v .pr ∷ v .flags ∷ []
 
@@ -215,10 +217,10 @@ module _ (w : ℕ) (v : Device) (g : Described w v) where
       let h = head-back in
       rw (sets, states, limits, deepest-back, h .0, h .1, h .2, h .3) refl
 
--- what was read is described
-pub read-described : (w : ℕ) (t : List ℕ) (at : ℕ) → Bytes t → Described w (deviceAt w t at)
+-- the fields that were read fit
+pub read-fits : (w : ℕ) (t : List ℕ) (at : ℕ) → AllBytes t → FieldsFit w (deviceAt w t at)
 unfolding deviceAt below
-read-described w t at h =
+read-fits w t at h =
     let set : ℕ → ℕ = λ k. readLE w t (at + 4 + w * k) in
     let state : ℕ → ℕ = λ x. cond (eqb x 0) absent (getD t (at + 3 + 5 * w + x) 0) in
     let limit : ℕ → ℕ = λ x. getD t (at + 8 + 5 * w + x) 0 in
@@ -230,15 +232,14 @@ read-described w t at h =
       noSxW = λ x l. below-out 5 absent limit x l;
     }
 
--- a wider set has room for it too
-pub widen : (w u : ℕ) (x : Device) → w ≤ u → Described w x → Described u x
-widen w u x h g = record {
-  sets = λ k l. rw (bytes-bits u) (lt-of-lt-of-le (rw (bytes-bits w) at (g .sets k l)) (pow-mono (omega arith)));
-  noSet = g .noSet;
-  noS0D = g .noS0D;
-  noSxD = g .noSxD;
-  noSxW = g .noSxW;
-}
+-- where the sets fit in u bytes, a device fits that was read with another width
+pub fit-again : (w u : ℕ) (x : Device) → FieldsFit w x → ((k : ℕ) → k < 5 → x .sets k < 256 ^ u) → FieldsFit u x
+fit-again w u x g h = record { sets = h; noSet = g .noSet; noS0D = g .noS0D; noSxD = g .noSxD; noSxW = g .noSxW }
+
+-- wider sets have room for it too
+pub widen : (w u : ℕ) (x : Device) → w ≤ u → FieldsFit w x → FieldsFit u x
+widen w u x h g = fit-again w u x g
+    (λ k l. rw (bytes-bits u) (lt-of-lt-of-le (rw (bytes-bits w) at (g .sets k l)) (pow-mono (omega arith))))
 
 -- ---- two places with the same bytes have the same device
 

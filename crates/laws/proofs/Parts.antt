@@ -26,7 +26,8 @@ pub zeros-part : (t : List ℕ) (x k : ℕ) → x + k ≤ length t → ((i : ℕ
 zeros-part t x zero h e = refl
 zeros-part t x (suc k) h e =
     let first : getD t x 0 ≡ 0 = rw (add-zero x) at (e 0 (omega arith)) in
-    let rest = zeros-part t (suc x) k (omega arith) (λ i l. let a : suc x + i ≡ x + suc i = omega arith in rw a (e (suc i) (omega arith))) in
+    let rest = zeros-part t (suc x) k (omega arith) (λ i l. let a : suc x + i ≡ x + suc i = omega arith in
+    rw a (e (suc i) (omega arith))) in
     rw (drop-cons t x 0 (omega arith), first) (ap (λ (l : List ℕ). 0 ∷ l) rest)
 
 -- n elements at a time

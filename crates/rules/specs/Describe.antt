@@ -1,6 +1,6 @@
--- RULES.md 11: a station as two lists of records, which an editor works on, and the table that they make. A description is the same for every
--- version of table.
-use Prim.Native.Nat.{ℕ, _+_, _*_, _/_}
+-- RULES.md 11: a station as two lists of records, which an editor works on, and the table that they make. A description is the same for
+-- every version of table.
+use Prim.Native.Nat.{ℕ, _+_, _*_, _/_, _-_}
 use mathlib.Core.List.{List, [], _∷_, _++_}
 use lib.ListN.{length, take, drop, replicate}
 use Rattle.words.specs.Words.{bytesLE}
@@ -19,13 +19,13 @@ abbrev pub describedR : List ℕ → ℕ
 describedR rs = (length rs + 3) / 4
 
 abbrev pub describedD : List ℕ → ℕ
-describedD ds = (length ds + 53) / 54
+describedD ds = (length ds + (describedSize - 1)) / describedSize
 
--- device d of a description
+-- device d of a description; a byte that a record cut short has not reads as zero
 abbrev pub describedDevice : List ℕ → ℕ → Device
 describedDevice ds d = deviceAt describedWidth ds (describedSize * d)
 
--- 11.2: a table's resources as they stand in it, and its devices
+-- 11.2: a table's resources as they stand in it, and its devices, each as its 54 bytes
 unfoldable pub resourcesOf : List ℕ → List ℕ
 resourcesOf t = take (4 * countR t) (drop 8 t)
 
@@ -40,7 +40,7 @@ headerBytes version resources devices = (0x50 ∷ 0x57 ∷ 0x54 ∷ resources �
 unfoldable pub recordBytes : ℕ → Device → List ℕ
 recordBytes w v = fieldBytes w v ++ replicate (2 + w) 0
 
--- the table that descriptions make, of a version whose sets have w bytes
+-- the table that whole records make whose sets fit in it, of a version whose sets have w bytes
 unfoldable pub tableBytes : ℕ → ℕ → List ℕ → List ℕ → List ℕ
 tableBytes version w rs ds =
     headerBytes version (describedR rs) (describedD ds) ++ rs ++ join (λ d. recordBytes w (describedDevice ds d)) (describedD ds)
