@@ -133,8 +133,8 @@ module _ (w : ℕ) (v : Device) (g : FieldsFit w v) where
   abbrev head : List ℕ
   head = v .parent ∷ v .ps ∷ v .pr ∷ v .flags ∷ []
 
-  abbrev set : ℕ → List ℕ
-  set k = bytesLE w (v .sets k)
+  abbrev setBytes : ℕ → List ℕ
+  setBytes k = bytesLE w (v .sets k)
 
   abbrev sxd : List ℕ
   sxd = each (λ k. v .sxd (k + 1)) 4
@@ -142,23 +142,24 @@ module _ (w : ℕ) (v : Device) (g : FieldsFit w v) where
   abbrev sxw : List ℕ
   sxw = each (v .sxw) 5
 
-  sets-long : (k : ℕ) → length (head ++ joinFrom set 0 k) ≡ 4 + w * k
-  sets-long k = length-append head (joinFrom set 0 k) ∙ ap (λ (n : ℕ). 4 + n) (join-length set w (λ j. bytes-length w (v .sets j)) 0 k)
+  sets-long : (k : ℕ) → length (head ++ joinFrom setBytes 0 k) ≡ 4 + w * k
+  sets-long k = length-append head (joinFrom setBytes 0 k) ∙ ap (λ (n : ℕ). 4 + n)
+      (join-length setBytes w (λ j. bytes-length w (v .sets j)) 0 k)
 
   set-back : (k : ℕ) → k < 5 → readLE w (fieldBytes w v) (4 + w * k) ≡ v .sets k
   unfolding fieldBytes
   set-back k h =
       let z : 0 + k ≡ k = omega arith in
-      let rest = joinFrom set (suc k) (5 - suc k) ++ sxd ++ sxw ++ v .deepest ∷ [] in
-      let same : head ++ join set 5 ++ sxd ++ sxw ++ v .deepest ∷ [] ≡ head ++ joinFrom set 0 k ++ bytesLE w (v .sets k) ++ rest =
-      ap (λ (l : List ℕ). head ++ l ++ sxd ++ sxw ++ v .deepest ∷ []) (rw z at (join-at set 0 5 k h))
-      ∙ regroup head (joinFrom set 0 k) (set k) (joinFrom set (suc k) (5 - suc k)) sxd sxw (v .deepest ∷ []) in
+      let rest = joinFrom setBytes (suc k) (5 - suc k) ++ sxd ++ sxw ++ v .deepest ∷ [] in
+      let same : head ++ join setBytes 5 ++ sxd ++ sxw ++ v .deepest ∷ [] ≡ head ++ joinFrom setBytes 0 k ++ bytesLE w (v .sets k) ++ rest =
+      ap (λ (l : List ℕ). head ++ l ++ sxd ++ sxw ++ v .deepest ∷ []) (rw z at (join-at setBytes 0 5 k h))
+      ∙ regroup head (joinFrom setBytes 0 k) (setBytes k) (joinFrom setBytes (suc k) (5 - suc k)) sxd sxw (v .deepest ∷ []) in
       ap (λ (l : List ℕ). readLE w l (4 + w * k)) same
-      ∙ read-bytes-at w (v .sets k) (head ++ joinFrom set 0 k) rest (4 + w * k) (sets-long k) ∙ mod-eq-of-lt (g .sets k h)
+      ∙ read-bytes-at w (v .sets k) (head ++ joinFrom setBytes 0 k) rest (4 + w * k) (sets-long k) ∙ mod-eq-of-lt (g .sets k h)
 
   -- the bytes before `_S1D`, before `_S0W` and before the last
   abbrev front : List ℕ
-  front = head ++ join set 5
+  front = head ++ join setBytes 5
 
   front-long : length front ≡ 4 + 5 * w
   front-long = sets-long 5 ∙ ap (λ (n : ℕ). 4 + n) (mul-comm w 5)
@@ -221,12 +222,12 @@ module _ (w : ℕ) (v : Device) (g : FieldsFit w v) where
 pub read-fits : (w : ℕ) (t : List ℕ) (at : ℕ) → AllBytes t → FieldsFit w (deviceAt w t at)
 unfolding deviceAt below
 read-fits w t at h =
-    let set : ℕ → ℕ = λ k. readLE w t (at + 4 + w * k) in
+    let number : ℕ → ℕ = λ k. readLE w t (at + 4 + w * k) in
     let state : ℕ → ℕ = λ x. cond (eqb x 0) absent (getD t (at + 3 + 5 * w + x) 0) in
     let limit : ℕ → ℕ = λ x. getD t (at + 8 + 5 * w + x) 0 in
     record {
-      sets = λ k l. rw (below-in 5 0 set k l) (read-lt w t (at + 4 + w * k) h);
-      noSet = λ k l. below-out 5 0 set k l;
+      sets = λ k l. rw (below-in 5 0 number k l) (read-lt w t (at + 4 + w * k) h);
+      noSet = λ k l. below-out 5 0 number k l;
       noS0D = refl;
       noSxD = λ x l. below-out 5 absent state x l;
       noSxW = λ x l. below-out 5 absent limit x l;
