@@ -1,4 +1,4 @@
--- Describing and writing are inverse, for every width: the table that whole records make, their sets fitting in it, describes these
+-- Describing and writing are inverse, once over the width: the table that whole records make, their sets fitting in it, describes these
 -- records; and what a good table describes makes the table.
 use mathlib.Core.Path.{_≡_, refl, sym, ap, _∙_}
 use mathlib.Core.List.{List, [], _∷_, _++_}
