@@ -17,12 +17,9 @@ use Rattle.words.proofs.Laws.{read-drop, read-append, read-lt, bytes-length, re
 use Rattle.rules.specs.Index.{below, eachFrom, each, joinFrom, join}
 use Rattle.rules.specs.Station.{Device, absent, fieldsSize, deviceAt, fieldBytes}
 use Rattle.rules.proofs.Index.{below-in, below-out}
+use Rattle.laws.specs.Inverse.{AllBytes}
 use Rattle.laws.proofs.Image.{bytes-bits}
 use Rattle.laws.proofs.Parts.{parts-meet, each-part, join-part, join-same, join-length, join-at, get-each, each-length, get-past}
-
--- every element is a byte
-abbrev pub AllBytes : List ℕ → Type 0
-AllBytes t = (i : ℕ) → getD t i 0 < 256
 
 part-bytes : (t : List ℕ) → AllBytes t → (x n : ℕ) → AllBytes (take n (drop x t))
 part-bytes t h x n i =

@@ -3,6 +3,7 @@ pub mod Every
 pub mod All
 pub mod Parts
 pub mod Fields
+pub mod Write
 pub mod Describe
 pub mod Execution
 pub mod Accepted
