@@ -7,6 +7,7 @@ pub mod Write
 pub mod Describe
 pub mod Execution
 pub mod Accepted
+pub mod Good
 pub mod Needed
 pub mod Image
 pub mod Consistency
