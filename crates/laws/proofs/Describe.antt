@@ -1,7 +1,7 @@
 -- What a good table describes makes this table, once over the width.
 use mathlib.Core.Path.{_≡_, refl, sym, ap, _∙_}
 use mathlib.Core.List.{List, [], _∷_, _++_}
-use Prim.Native.Nat.{ℕ, _+_, _*_, _-_, _<_}
+use Prim.Native.Nat.{ℕ, _+_, _*_, _<_}
 use native.Mathlib.Nat.{add-zero, zero-add, mul-zero}
 use native.Mathlib.Omega.{arith}
 use borrow.Author.Tests.{eqb-true, leb-true}
@@ -18,8 +18,7 @@ use Rattle.laws.proofs.Tests.{both-true}
 use Rattle.laws.proofs.Accepted.{Accepted, record-inside}
 use Rattle.laws.specs.Inverse.{AllBytes}
 use Rattle.laws.proofs.Parts.{parts-meet, each-part, zeros-part, join-part, join-same, join-length, get-join}
-use Rattle.laws.proofs.Fields.{number-part, fields-back, fields-long, device-back, read-fits}
-use Rattle.laws.proofs.Fields.{widen, same-device}
+use Rattle.laws.proofs.Fields.{number-part, fields-back, fields-long, device-back, wider-fits, same-device}
 
 -- ---- written after described
 module _ (t : List ℕ) (b : AllBytes t) (a : Accepted t) where
@@ -55,7 +54,7 @@ module _ (t : List ℕ) (b : AllBytes t) (a : Accepted t) where
       same-device describedWidth (devicesOf t) (fieldBytes describedWidth v) (describedSize * d) 0
       (λ i u. let z : 0 + i ≡ i = omega arith in
       rw z (get-join described describedSize (λ j. fields-long describedWidth (deviceAt w t (start j))) (countD t) d i h u))
-      ∙ device-back describedWidth v (widen w describedWidth v (width-wide t .high) (read-fits w t (start d) b))
+      ∙ device-back describedWidth v (wider-fits w describedWidth t (start d) b (width-wide t .high))
 
   record-back : (d : ℕ) → d < countD t → recordBytes w (describedDevice (devicesOf t) d) ≡ take (recordSize w) (drop (start d) t)
   unfolding recordBytes

@@ -1,13 +1,17 @@
--- A loop that asks whether every number below n has a property, and stops at the first that has not; and what `every` is by its parts.
+-- A loop that asks whether every number below n has a property, and stops at the first that has not; what `every` is by its parts; and
+-- that `least`, `every` and `lowest` are the same of what is the same below n.
 use mathlib.Core.Path.{_≡_, refl, sym, ap, _∙_}
 use mathlib.Core.Bool.{Bool, true, false, not, _&&_}
 use mathlib.Core.Logic.{⊎-elim}
-use Prim.Native.Nat.{ℕ, _+_, _-_, _≤_, _<_}
+use Prim.Native.Nat.{ℕ, zero, suc, _+_, _-_, _≤_, _<_}
 use native.Mathlib.Nat.{eq-or-lt-of-le}
 use native.Mathlib.Omega.{arith}
-use borrow.Author.Tests.{le-leb, lt-leb}
-use lib.Dec.{leb}
-use Rattle.rules.specs.Index.{leastFrom, every}
+use borrow.Author.Tests.{le-leb, lt-leb, ltb-true}
+use lib.Dec.{leb, ltb}
+use Rattle.sets.proofs.Laws.{decide}
+use Rattle.rules.specs.declared.Verdict.{Verdict}
+use Rattle.rules.specs.Index.{leastFrom, least, every}
+use Rattle.rules.specs.Answers.{lowest}
 use Rattle.laws.proofs.Tests.{both-true, and-true}
 use Rattle.rules.proofs.Index.{starts, found, next, done, every-at, every-of}
 
@@ -48,10 +52,25 @@ every-suc f n =
     (λ e. let a = both-true (every f n) (f n) e in
     every-of f (n + 1) (λ i l. ⊎-elim (λ q. rw q (a .1)) (λ m. every-at f n i (a .0) m) (eq-or-lt-of-le {n = i} {m = n} (omega arith))))
 
--- what is the same below n
+-- ---- what is the same below n
+least-ext : (f g : ℕ → Bool) (i k : ℕ) → ((j : ℕ) → i ≤ j → j < i + k → f j ≡ g j) → leastFrom f i k ≡ leastFrom g i k
+unfolding leastFrom
+least-ext f g i zero h = refl
+least-ext f g i (suc k) h =
+    let rest = least-ext f g (suc i) k (λ j a b. h j (omega arith) (omega arith)) in
+    let same = h i (omega arith) (omega arith) in
+    decide (g i) (λ e. rw (same ∙ e, e, leastFrom) refl) (λ e. rw (same ∙ e, e, leastFrom) rest)
+
 pub every-ext : (f g : ℕ → Bool) (n : ℕ) → ((i : ℕ) → i < n → f i ≡ g i) → every f n ≡ every g n
-every-ext f g n h =
-    same-test (every f n) (every g n) (λ e. every-of g n (λ i l. sym (h i l) ∙ every-at f n i e l))
-    (λ e. every-of f n (λ i l. h i l ∙ every-at g n i e l))
+unfolding every
+every-ext f g n h = ap (leb n) (least-ext (λ i. not (f i)) (λ i. not (g i)) 0 n (λ i a b. ap not (h i (omega arith))))
+
+pub lowest-ext : (f g : ℕ → Bool) (n : ℕ) (p q : ℕ → Verdict) → ((i : ℕ) → i < n → f i ≡ g i) → ((i : ℕ) → i < n → p i ≡ q i)
+    → lowest f n p ≡ lowest g n q
+unfolding lowest
+lowest-ext f g n p q h k =
+    let i = least g n in
+    rw (least-ext f g 0 n (λ j a b. h j (omega arith)))
+    (decide (ltb i n) (λ e. rw e (k i (ltb-true i n e))) (λ e. rw e refl))
 
 pub ruleset everyOf = (every-starts, every-next, every-stops, every-done)

@@ -215,29 +215,25 @@ module _ (w : ℕ) (v : Device) (g : FieldsFit w v) where
       let h = head-back in
       rw (sets, states, limits, deepest-back, h .0, h .1, h .2, h .3) refl
 
--- the fields that were read fit
-pub read-fits : (w : ℕ) (t : List ℕ) (at : ℕ) → AllBytes t → FieldsFit w (deviceAt w t at)
+-- the fields that were read with some width fit where their sets do, since what stands for nothing was read so
+pub read-fits : (w u : ℕ) (t : List ℕ) (at : ℕ) → ((k : ℕ) → k < 5 → deviceAt w t at .sets k < 256 ^ u) → FieldsFit u (deviceAt w t at)
 unfolding deviceAt below
-read-fits w t at h =
-    let number : ℕ → ℕ = λ k. readLE w t (at + 4 + w * k) in
-    let state : ℕ → ℕ = λ x. cond (eqb x 0) absent (getD t (at + 3 + 5 * w + x) 0) in
-    let limit : ℕ → ℕ = λ x. getD t (at + 8 + 5 * w + x) 0 in
+read-fits w u t at h =
     record {
-      sets = λ k l. rw (below-in 5 0 number k l) (read-lt w t (at + 4 + w * k) h);
-      noSet = λ k l. below-out 5 0 number k l;
+      sets = h;
+      noSet = λ k l. below-out 5 0 (λ j. readLE w t (at + 4 + w * j)) k l;
       noS0D = refl;
-      noSxD = λ x l. below-out 5 absent state x l;
-      noSxW = λ x l. below-out 5 absent limit x l;
+      noSxD = λ x l. below-out 5 absent (λ y. cond (eqb y 0) absent (getD t (at + 3 + 5 * w + y) 0)) x l;
+      noSxW = λ x l. below-out 5 absent (λ y. getD t (at + 8 + 5 * w + y) 0) x l;
     }
 
--- where the sets fit in u bytes, a device fits that was read with another width
-pub fit-again : (w u : ℕ) (x : Device) → FieldsFit w x → ((k : ℕ) → k < 5 → x .sets k < 256 ^ u) → FieldsFit u x
-fit-again w u x g h = record { sets = h; noSet = g .noSet; noS0D = g .noS0D; noSxD = g .noSxD; noSxW = g .noSxW }
-
--- wider sets have room for it too
-pub widen : (w u : ℕ) (x : Device) → w ≤ u → FieldsFit w x → FieldsFit u x
-widen w u x h g = fit-again w u x g
-    (λ k l. rw (bytes-bits u) (lt-of-lt-of-le (rw (bytes-bits w) at (g .sets k l)) (pow-mono (omega arith))))
+-- what was read from bytes fits where sets are as wide or wider
+pub wider-fits : (w u : ℕ) (t : List ℕ) (at : ℕ) → AllBytes t → w ≤ u → FieldsFit u (deviceAt w t at)
+unfolding deviceAt
+wider-fits w u t at b h =
+    read-fits w u t at
+    (λ k l. rw (below-in 5 0 (λ j. readLE w t (at + 4 + w * j)) k l, bytes-bits u)
+    (lt-of-lt-of-le (rw (bytes-bits w) at (read-lt w t (at + 4 + w * k) b)) (pow-mono (omega arith))))
 
 -- ---- two places with the same bytes have the same device
 

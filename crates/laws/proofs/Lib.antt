@@ -8,6 +8,7 @@ pub mod Describe
 pub mod Execution
 pub mod Accepted
 pub mod Good
+pub mod Verdict
 pub mod Needed
 pub mod Image
 pub mod Consistency
