@@ -9,6 +9,7 @@ pub mod Execution
 pub mod Accepted
 pub mod Good
 pub mod Verdict
+pub mod Inverse
 pub mod Needed
 pub mod Image
 pub mod Consistency
