@@ -1,6 +1,6 @@
 -- RULES.md 11.7: what was written describes the records that it was written from, and what a good table describes is written as that table,
 -- for all buffers with room.
-use mathlib.Core.Path.{_≡_, refl, sym, _∙_}
+use mathlib.Core.Path.{_≡_, refl, sym, ap, _∙_}
 use mathlib.Core.Bool.{true}
 use mathlib.Core.List.{List}
 use Prim.Native.Nat.{ℕ, zero, suc, _+_, _*_, _≤_, _<_}
@@ -13,18 +13,20 @@ use lib.ListN.{length}
 use Rattle.rules.specs.declared.Verdict.the-variants.{Done}
 use Rattle.rules.specs.declared.Reason.the-variants.{BadResource}
 use Rattle.rules.specs.Answers.{passes, firstOf, unless}
-use Rattle.rules.specs.Station.{versionWidth, limit}
+use Rattle.rules.specs.Station.{versionWidth, versionOf, limit}
 use Rattle.rules.specs.Table.{allGood, setGood, valueFields, tableVerdict}
-use Rattle.rules.specs.Describe.{describedWidth, describedSize, describedR, describedD, describedDevice, tableBytes}
+use Rattle.rules.specs.Describe.{describedWidth, describedSize, describedR, describedD, describedDevice, resourcesOf, devicesOf}
+use Rattle.rules.specs.Describe.{tableBytes}
 use Rattle.rules.specs.Write.{describedResourceGood, describedFieldsGood, describedDeviceGood, recordsVerdict, describedCountsGood}
-use Rattle.rules.specs.Write.{writtenSize, writeVerdict, describeVerdict, describe}
+use Rattle.rules.specs.Write.{writtenSize, writeVerdict, write, describeVerdict, describe}
 use Rattle.rules.proofs.Answers.{first-both, first-through, unless-at, refused-stops, lowest-at}
-use Rattle.laws.specs.Inverse.{AllBytes, Describes, Sayable}
+use Rattle.laws.specs.Inverse.{AllBytes, Describes, Makes, Sayable}
 use Rattle.laws.proofs.Tests.{both-true}
 use Rattle.laws.proofs.Image.{bytes-bits}
-use Rattle.laws.proofs.Accepted.{DeviceRules, values-rules, refuses}
+use Rattle.laws.proofs.Accepted.{DeviceRules, values-rules, refuses, accepted}
 use Rattle.laws.proofs.Good.{good-each}
 use Rattle.laws.proofs.Write.{count-r, count-d, table-long, resources-back, devices-back}
+use Rattle.laws.proofs.Describe.{described-sayable, table-back}
 use Rattle.laws.proofs.Verdict.{same-verdict}
 
 -- records that are each whole are all of a list that has no more than them
@@ -100,3 +102,18 @@ written-describes version rs ds room bytes e a b l u =
       le-leb (length ds) (length b) u,
     ) (unfold firstOf unless passes in refl) in
     rw (done, resources-back version rs ds s, devices-back version rs ds s bytes) (unfold passes in refl)
+
+-- ---- written after described
+pub described-makes : (t : List ℕ) → AllBytes t → passes (tableVerdict t) ≡ true → Makes (versionOf t) (resourcesOf t) (devicesOf t) t
+unfolding tableVerdict write writeVerdict
+described-makes t bytes e a l =
+    let version = versionOf t in
+    let rs = resourcesOf t in
+    let ds = devicesOf t in
+    let s = described-sayable t bytes (accepted t e) in
+    let back = table-back t bytes (accepted t e) in
+    let long : writtenSize version rs ds ≡ length t = sym (table-long version rs ds s) ∙ ap length back in
+    let records : recordsVerdict rs ds ≡ Done 0 = same-verdict version rs ds s ∙ ap tableVerdict back ∙ first-through _ (Done 0) e in
+    let done : writeVerdict version rs ds (length a) ≡ Done (length t) =
+    rw (s .known, s .counts, long, le-leb (length t) (length a) l, records) (unfold firstOf unless passes in refl) in
+    rw (done, back) (unfold passes in refl)
