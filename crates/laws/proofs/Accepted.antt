@@ -2,15 +2,13 @@
 -- read off the station.
 use mathlib.Core.Path.{_≡_, refl, sym, _∙_}
 use mathlib.Core.Bool.{Bool, true, false}
-use mathlib.Core.List.{List, [], _∷_, _++_}
+use mathlib.Core.List.{List, _∷_, _++_}
 use Prim.Native.Nat.{ℕ, _+_, _*_, _≤_, _<_}
 use native.Mathlib.Omega.{arith}
-use native.Mathlib.Nat.{lt-irrefl, mul-suc, mul-le-mul-left}
-use borrow.Author.Tests.{eqb-true, leb-true, ltb-true, not-false}
+use native.Mathlib.Nat.{mul-suc, mul-le-mul-left}
+use borrow.Author.Tests.{eqb-true, eq-eqb, leb-true, ltb-true, not-false}
 use lib.Dec.{eqb}
 use lib.ListN.{length, getD}
-use Rattle.sets.proofs.Laws.{decide}
-use Rattle.rules.specs.declared.Verdict.the-variants.{Refused}
 use Rattle.rules.specs.declared.Reason.the-variants.{BadResource}
 use Rattle.rules.specs.Index.{eachFrom}
 use Rattle.rules.specs.Answers.{passes}
@@ -18,12 +16,13 @@ use Rattle.rules.specs.Station.{Device, width, limit, station, recordSize, coun
 use Rattle.rules.specs.Station.{deviceAt, stationOf}
 use Rattle.rules.specs.Table.{headerGood, countsGood, lengthGood, Field, field, firstBad, resourceFields, resourceGood, parentGood, setGood}
 use Rattle.rules.specs.Table.{sxdGood, sxwGood, deepestGood, headFields, setFields, sxdFields, sxwFields, deepestFields, valueFields}
-use Rattle.rules.specs.Table.{zeroFields, deviceFields, badField, fieldsGood, objectsGood, fieldsOrObjects, deviceRefusal, deviceGood}
+use Rattle.rules.specs.Table.{zeroFields, deviceFields, badField, fieldsGood, objectsGood, fieldsOrObjects, deviceGood}
 use Rattle.rules.specs.Table.{tableVerdict}
 use Rattle.rules.proofs.Index.{below-in}
 use Rattle.rules.proofs.Answers.{first-both, unless-at, refused-stops, lowest-at}
 use Rattle.laws.specs.Carried.{All}
 use Rattle.laws.proofs.Tests.{both-true}
+use Rattle.laws.proofs.Good.{none-bad, Good, good-each}
 use Rattle.laws.proofs.All.{all-append, all-left, all-right, all-each, each-at}
 
 -- ---- a good field is passed over, and the first bad one is the answer
@@ -36,13 +35,8 @@ unfolding firstBad
 field-bad end f fs e = rw (e, firstBad) refl
 
 -- no bad field: every field is good, since each starts inside the record
-pub no-bad : (end : ℕ) (fs : List Field) → All (λ f. f .at < end) fs → firstBad end fs ≡ end → All (λ f. f .good ≡ true) fs
-unfolding All
-no-bad end [] a e = tt
-no-bad end (f ∷ fs) a e =
-    let rest = no-bad end fs (a .1) in
-    decide (f .good) (λ g. (g, rest (sym (field-good end f fs g) ∙ e)))
-    (λ g. let same : f .at ≡ end = sym (field-bad end f fs g) ∙ e in absurd (lt-irrefl end (rw same at (a .0))))
+no-bad : (end : ℕ) (fs : List Field) → All (λ f. f .at < end) fs → firstBad end fs ≡ end → All Good fs
+no-bad end fs a e = good-each fs (sym (none-bad end fs a) ∙ eq-eqb (firstBad end fs) end e)
 
 -- ---- what the table's checks say of a device's record
 pub record DeviceRules (resources d : ℕ) (v : Device) : Type 0 where
@@ -73,10 +67,9 @@ module _ (w resources d : ℕ) (v : Device) where
       (all-append In (headFields d v) (setFields w resources v) a b) c) e) f
 
   -- where all of them are good, the device keeps every rule
-  pub values-rules : All (λ f. f .good ≡ true) (valueFields w resources d v) → DeviceRules resources d v
+  pub values-rules : All Good (valueFields w resources d v) → DeviceRules resources d v
   unfolding valueFields headFields setFields sxdFields sxwFields deepestFields All
   values-rules all =
-      let Good : Field → Type 0 = λ f. f .good ≡ true in
       let front3 = all-left Good (headFields d v ++ setFields w resources v ++ sxdFields w v ++ sxwFields w v) (deepestFields w v) all in
       let front2 = all-left Good (headFields d v ++ setFields w resources v ++ sxdFields w v) (sxwFields w v) front3 in
       let front1 = all-left Good (headFields d v ++ setFields w resources v) (sxdFields w v) front2 in
@@ -109,10 +102,9 @@ module _ (w resources : ℕ) (t : List ℕ) (d at : ℕ) where
       (all-each In zeroField 0 (2 + w) (λ k x y. omega arith))
 
   good-fields : firstBad (recordSize w) (deviceFields w resources t d at) ≡ recordSize w
-      → All (λ f. f .good ≡ true) (valueFields w resources d (deviceAt w t at)) × All (λ f. f .good ≡ true) (zeroFields w t at)
+      → All Good (valueFields w resources d (deviceAt w t at)) × All Good (zeroFields w t at)
   unfolding deviceFields
   good-fields e =
-      let Good : Field → Type 0 = λ f. f .good ≡ true in
       let all = no-bad (recordSize w) (deviceFields w resources t d at) fields-inside e in (
         all-left Good (valueFields w resources d (deviceAt w t at)) (zeroFields w t at) all,
         all-right Good (valueFields w resources d (deviceAt w t at)) (zeroFields w t at) all,
@@ -126,7 +118,7 @@ module _ (w resources : ℕ) (t : List ℕ) (d at : ℕ) where
       → getD t (at + 14 + 5 * w + k) 0 ≡ 0
   unfolding zeroFields
   fields-zeros e k h =
-      eqb-true _ 0 (each-at (λ (f : Field). f .good ≡ true) zeroField 0 (2 + w) (good-fields e .1) k (omega arith) (omega arith))
+      eqb-true _ 0 (each-at Good zeroField 0 (2 + w) (good-fields e .1) k (omega arith) (omega arith))
 
 -- ---- what an accepted table gives
 pub record Accepted (t : List ℕ) : Type 0 where
@@ -175,14 +167,14 @@ accepted t e =
     let g = first-both _ _ _ (f .1) in
     let counts = both-true _ _ (unless-at _ _ _ (b .0)) in
     let each : (d : ℕ) → d < countD t → (fieldsGood t d ≡ true) × (objectsGood (deviceAt (width t) t (deviceStart (width t) t d)) ≡ true) =
-    λ d h. both-true _ _ (not-false (deviceGood t d) (lowest-at _ (countD t) (deviceRefusal t) (λ i. refuses (fieldsGood t i) i) (g .0) d h)) in
+    λ d h. both-true _ _ (not-false (deviceGood t d) (lowest-at _ (countD t) _ (λ i. refuses (fieldsGood t i) i) (g .0) d h)) in
     record {
       header = unless-at _ _ _ (a .0);
       resources = leb-true _ _ (counts .0);
       devices = leb-true _ _ (counts .1);
       long = eqb-true _ _ (unless-at _ _ _ (c .0));
       resource = λ r h. rw (resource-at (width t) t r h)
-          (level-good t (resourceStart r) (not-false _ (lowest-at _ (countR t) (Refused BadResource) (refused-stops BadResource) (f .0) r h)));
+          (level-good t (resourceStart r) (not-false _ (lowest-at _ (countR t) _ (refused-stops BadResource) (f .0) r h)));
       device = λ d h. rw (device-at (width t) t d h) (fields-rules (width t) (countR t) t d (deviceStart (width t) t d)
           (eqb-true _ _ (each d h .0)));
       zeros = λ d h. fields-zeros (width t) (countR t) t d (deviceStart (width t) t d) (eqb-true _ _ (each d h .0));

@@ -20,7 +20,8 @@ use Rattle.laws.proofs.Tests.{both-true, and-true}
 use Rattle.laws.proofs.Accepted.{Accepted, record-inside}
 use Rattle.laws.specs.Inverse.{AllBytes, Sayable}
 use Rattle.laws.proofs.Parts.{parts-meet, each-part, zeros-part, join-part, join-same, join-length, get-join}
-use Rattle.laws.proofs.Fields.{number-part, fields-back, fields-long, device-back, wider-fits, same-device}
+use Rattle.laws.proofs.Fields.{number-part, fields-back, fields-long, device-back, wider-fits}
+use Rattle.laws.proofs.Same.{same-device}
 
 -- what a good header says
 header-says : (t : List ℕ) → headerGood t ≡ true

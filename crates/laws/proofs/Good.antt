@@ -13,7 +13,6 @@ use Rattle.rules.specs.Station.{Device}
 use Rattle.rules.specs.Table.{Field, firstBad, allGood, headFields, setFields, sxdFields, sxwFields, deepestFields, valueFields}
 use Rattle.laws.specs.Carried.{All}
 use Rattle.laws.proofs.Tests.{both-true, and-true}
-use Rattle.laws.proofs.Accepted.{field-good, field-bad}
 
 -- no bad field: all are good, since each starts before the end
 pub none-bad : (end : ℕ) (fs : List Field) → All (λ f. f .at < end) fs → eqb (firstBad end fs) end ≡ allGood fs
@@ -23,8 +22,8 @@ none-bad end (f ∷ fs) a =
     let rest = none-bad end fs (a .1) in
     let h = a .0 in
     decide (f .good)
-    (λ g. rw (field-good end f fs g, g) rest)
-    (λ g. rw (field-bad end f fs g, g) (ne-eqb (f .at) end (omega arith)))
+    (λ g. rw (g, firstBad) rest)
+    (λ g. rw (g, firstBad) (ne-eqb (f .at) end (omega arith)))
 
 pub joined : (l r : List Field) → allGood (l ++ r) ≡ allGood l && allGood r
 unfolding allGood

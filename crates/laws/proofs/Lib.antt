@@ -3,13 +3,14 @@ pub mod Every
 pub mod All
 pub mod Parts
 pub mod Fields
+pub mod Same
 pub mod Write
 pub mod Describe
-pub mod Execution
-pub mod Accepted
-pub mod Good
 pub mod Verdict
 pub mod Inverse
+pub mod Execution
+pub mod Good
+pub mod Accepted
 pub mod Needed
 pub mod Image
 pub mod Consistency

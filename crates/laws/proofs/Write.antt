@@ -20,7 +20,8 @@ use Rattle.rules.specs.Describe.{headerBytes, recordBytes, tableBytes}
 use Rattle.rules.specs.Write.{writtenSize}
 use Rattle.laws.specs.Inverse.{AllBytes, Sayable}
 use Rattle.laws.proofs.Parts.{join-part, join-same, join-length, get-join, get-past}
-use Rattle.laws.proofs.Fields.{fields-back, fields-long, device-back, read-fits, same-device}
+use Rattle.laws.proofs.Fields.{fields-back, fields-long, device-back, read-fits}
+use Rattle.laws.proofs.Same.{same-device}
 
 -- a version that there is fits in its two bytes
 known-version : (version : ℕ) → versionGood version ≡ true → version < 256 ^ 2
