@@ -55,6 +55,7 @@ module _ (version : ℕ) (rs ds : List ℕ) where
       let z : 0 + i ≡ i = omega arith in
       rw z (List·getD-append (fieldBytes w v) (replicate (2 + w) 0) 0 i (omega (arith, fields-long w v)))
 
+  -- the header states the counts
   pub count-r : countR t ≡ describedR rs
   unfolding tableBytes headerBytes bytesLE
   count-r = refl
@@ -63,7 +64,7 @@ module _ (version : ℕ) (rs ds : List ℕ) where
   unfolding tableBytes headerBytes bytesLE
   count-d = refl
 
-  -- resource r's record stands at 8 + 4r
+  -- the resources follow it
   pub resource-byte : (i : ℕ) → i < length rs → getD t (8 + i) 0 ≡ getD rs i 0
   unfolding tableBytes headerBytes bytesLE
   resource-byte i h = get-past (headerBytes version (describedR rs) (describedD ds)) (rs ++ join written (describedD ds)) 8 i refl
@@ -71,6 +72,7 @@ module _ (version : ℕ) (rs ds : List ℕ) where
 
   -- ---- of those that a table of the version can say
   module _ (s : Sayable version rs ds) where
+    -- the header states the version
     pub version-there : versionOf t ≡ version
     unfolding tableBytes headerBytes bytesLE
     version-there = read-bytes-at 2 version (mark ++ describedR rs ∷ []) (describedD ds ∷ 0 ∷ rs ++ join written (describedD ds)) 4 refl
