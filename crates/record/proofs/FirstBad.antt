@@ -14,7 +14,7 @@ use Rattle.sets.proofs.Laws.{decide}
 use Rattle.rules.specs.Index.{eachFrom}
 use Rattle.rules.specs.Station.{Device, recordSize, deviceAt}
 use Rattle.rules.specs.Table.{Field, field, firstBad, resourceFields, parentGood, setGood, sxdGood, sxwGood, deepestGood, headFields}
-use Rattle.rules.specs.Table.{setFields, sxdFields, sxwFields, lastFields, deviceFields}
+use Rattle.rules.specs.Table.{setFields, sxdFields, sxwFields, deepestFields, valueFields, zeroFields, deviceFields}
 use Rattle.laws.specs.Carried.{All}
 use Rattle.laws.proofs.All.{all-each}
 use Rattle.laws.proofs.Accepted.{field-good, field-bad}
@@ -122,12 +122,13 @@ zeroField w t at k = field (14 + 5 * w + k) (eqb (getD t (at + 14 + 5 * w + k) 0
 
 -- deepest, before the zeros
 module _ (end w : ℕ) (t : List ℕ) (at : ℕ) (v : Device) (b : Bool) (e : b ≡ deepestGood v) where
-  pub deepest-bad : not b ≡ true → 13 + 5 * w ≡ firstBad end (lastFields w t at v)
-  unfolding lastFields
+  pub deepest-bad : not b ≡ true → 13 + 5 * w ≡ firstBad end (deepestFields w v ++ zeroFields w t at)
+  unfolding deepestFields
   deepest-bad p = sym (field-bad end _ _ (sym e ∙ not-true b p))
 
-  pub zeros-left : not b ≡ false → firstBad end (eachFrom (zeroField w t at) 0 (2 + w - 0)) ≡ firstBad end (lastFields w t at v)
-  unfolding lastFields
+  pub zeros-left : not b ≡ false → firstBad end (eachFrom (zeroField w t at) 0 (2 + w - 0)) ≡ firstBad end
+      (deepestFields w v ++ zeroFields w t at)
+  unfolding deepestFields zeroFields
   zeros-left p = rw (sub-zero (2 + w)) (sym (field-good end _ _ (sym e ∙ not-false b p)))
 
 pub ruleset bad-last-laws = (deepest-bad, zeros-left, bad-loop)
@@ -153,10 +154,6 @@ module _ (w : ℕ) where
   unfolding sxwFields
   sxw-in v = all-each _ (sxwField w v) 0 5 (λ k l u. omega arith)
 
-  pub last-in : (t : List ℕ) (at : ℕ) (v : Device) → All Inside (lastFields w t at v)
-  unfolding lastFields All
-  last-in t at v = (omega arith, all-each _ (zeroField w t at) 0 (2 + w) (λ k l u. omega arith))
-
 -- ---- the parts of a device's record, one after the other: the first part with a bad field has the answer
 -- The code compares with the record's size, which comes as `end`
 module _ (w resources : ℕ) (t : List ℕ) (d at end : ℕ) (size : end ≡ recordSize w) where
@@ -166,9 +163,12 @@ module _ (w resources : ℕ) (t : List ℕ) (d at end : ℕ) (size : end ≡ rec
   abbrev first : List Field → ℕ
   first l = firstBad (recordSize w) l
 
-  -- the parts from `_SxW`, from `_SxD` and from the sets on, and all of them
+  -- the last part, and the parts from `_SxW`, from `_SxD` and from the sets on
+  abbrev last : List Field
+  last = deepestFields w dev ++ zeroFields w t at
+
   abbrev from-sxw : List Field
-  from-sxw = sxwFields w dev ++ lastFields w t at dev
+  from-sxw = sxwFields w dev ++ last
 
   abbrev from-sxd : List Field
   from-sxd = sxdFields w dev ++ from-sxw
@@ -183,7 +183,7 @@ module _ (w resources : ℕ) (t : List ℕ) (d at end : ℕ) (size : end ≡ rec
   goes-on l r n a e h = sym (join-pass (recordSize w) l r a (sym e ∙ h ∙ size))
 
   whole : first (headFields d dev ++ from-sets) ≡ first (deviceFields w resources t d at)
-  unfolding deviceFields
+  unfolding valueFields deviceFields
   whole = simp append-assoc
 
   pub in-head : (r : ℕ) → r ≡ first (headFields d dev) → (r ≡ end → ⊥) → r ≡ first (deviceFields w resources t d at)
@@ -208,10 +208,10 @@ module _ (w resources : ℕ) (t : List ℕ) (d at end : ℕ) (size : end ≡ rec
         past-sxd = goes-on (sxdFields w dev) from-sxw p (sxd-in w dev) c z ∙ past-sets
 
         pub in-sxw : (r : ℕ) → r ≡ first (sxwFields w dev) → (r ≡ end → ⊥) → r ≡ first (deviceFields w resources t d at)
-        in-sxw r e n = stops (sxwFields w dev) (lastFields w t at dev) r e n ∙ past-sxd
+        in-sxw r e n = stops (sxwFields w dev) last r e n ∙ past-sxd
 
-        pub in-last : (q r : ℕ) → q ≡ first (sxwFields w dev) → q ≡ end → r ≡ first (lastFields w t at dev)
+        pub in-last : (q r : ℕ) → q ≡ first (sxwFields w dev) → q ≡ end → r ≡ first last
             → r ≡ first (deviceFields w resources t d at)
-        in-last q r f g e = e ∙ goes-on (sxwFields w dev) (lastFields w t at dev) q (sxw-in w dev) f g ∙ past-sxd
+        in-last q r f g e = e ∙ goes-on (sxwFields w dev) last q (sxw-in w dev) f g ∙ past-sxd
 
 pub ruleset bad-parts = (in-head, in-sets, in-sxd, in-sxw, in-last)

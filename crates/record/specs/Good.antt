@@ -1,16 +1,10 @@
 -- What a device's check asks of the fields of a record, where the first bad one's place is not asked for.
 use Prim.Native.Nat.{ℕ, _^_}
-use mathlib.Core.Bool.{Bool, true, cond, _&&_, _||_}
-use mathlib.Core.List.{List, [], _∷_}
+use mathlib.Core.Bool.{Bool, cond, _||_}
 use lib.Dec.{eqb, ltb}
 use Rattle.rules.specs.Index.{every}
 use Rattle.rules.specs.Station.{Device}
-use Rattle.rules.specs.Table.{Field, present}
-
--- every field of a list is good
-unfoldable pub allGood : List Field → Bool
-allGood [] = true
-allGood (f ∷ fs) = f .good && allGood fs
+use Rattle.rules.specs.Table.{present}
 
 -- the two halves of the rule of the five sets: no bit at or above R, and zero where the object is absent
 unfoldable pub setsFit : ℕ → Device → Bool

@@ -1,10 +1,11 @@
 // The first bad field of a record: where in the record it starts.
 ghost use mathlib.Core.Path.{_≡_};
+ghost use mathlib.Core.List.{_++_};
 ghost use Prim.Native.Nat.{_+_, _*_, _<_, _≤_};
 ghost use lib.ListN.{length};
 ghost use Rattle.rules.specs.Station.{Wide, limit, recordSize, deviceAt};
-ghost use Rattle.rules.specs.Table.{firstBad, resourceFields, resourceGood, headFields, setFields, sxdFields, sxwFields, lastFields};
-ghost use Rattle.rules.specs.Table.{deviceFields};
+ghost use Rattle.rules.specs.Table.{firstBad, resourceFields, resourceGood, headFields, setFields, sxdFields, sxwFields};
+ghost use Rattle.rules.specs.Table.{deepestFields, zeroFields, deviceFields};
 
 // Where a resource's first bad field starts, 4 if none is bad.
 pub fn bad_resource(table: &[u8], at: usize) -> usize
@@ -20,12 +21,12 @@ pub fn bad_resource(table: &[u8], at: usize) -> usize
     4
 }
 
-// Whether every field of resource r is good.
-pub fn resource_good(table: &[u8], r: usize) -> bool
-    requires { ⌜ 8 + 4 * r + 4 ≤ length (now table) ⌝ }
-    ensures { λ b. ⌜ b ≡ resourceGood (now (table .entry)) r ⌝ }
+// Whether every field of a resource is good.
+pub fn resource_good(table: &[u8], at: usize) -> bool
+    requires { ⌜ at + 4 ≤ length (now table) ⌝ }
+    ensures { λ b. ⌜ b ≡ resourceGood (now (table .entry)) at ⌝ }
 {
-    bad_resource(table, 8 + 4 * r) == 4
+    bad_resource(table, at) == 4
 }
 
 // Where the first bad field of a device's bytes 0 to 3 starts, the record's size if none is bad; so the four after it, of the other bytes.
@@ -99,7 +100,8 @@ fn bad_sxw(table: &[u8], at: usize, w: usize) -> usize
 // The deepest sleep state, then 2 + w zeros to the record's end.
 fn bad_last(table: &[u8], at: usize, w: usize) -> usize
     requires { ⌜ Wide w × (at + recordSize w ≤ length (now table)) ⌝ }
-    ensures { λ r. ⌜ r ≡ firstBad (recordSize w) (lastFields w (now (table .entry)) at (deviceAt w (now (table .entry)) at)) ⌝ }
+    ensures { λ r. ⌜ r ≡ firstBad (recordSize w) (deepestFields w (deviceAt w (now (table .entry)) at)
+        ++ zeroFields w (now (table .entry)) at) ⌝ }
 {
     if !crate::good::deepest_good(table, at, w) {
         return 13 + 5 * w;

@@ -1,10 +1,11 @@
 -- Past the deepest sleep state the loop keeps: the first bad field is the first byte from i on that is not zero. The measure is how many
 -- are left.
 use mathlib.Core.Path.{_≡_}
+use mathlib.Core.List.{_++_}
 use Prim.Native.Nat.{_+_, _-_, _≤_}
 use Rattle.rules.specs.Index.{eachFrom}
 use Rattle.rules.specs.Station.{recordSize, deviceAt}
-use Rattle.rules.specs.Table.{firstBad, lastFields}
+use Rattle.rules.specs.Table.{firstBad, deepestFields, zeroFields}
 use Rattle.record.proofs.FirstBad.{bad-last-laws, zeroField}
 use borrow.Author.Needs.{needs}
 use Rattle.record.proofs.bad.bad_last.Statement.{statement}
@@ -13,7 +14,7 @@ use Rattle.record.proofs.bad.bad_last.Tie as tie
 abbrev Inv-loop : tie.InvT-loop
 Inv-loop table at w i₀ i =
     (i ≤ 2 + w) × (firstBad (recordSize w) (eachFrom (zeroField w table at) i (2 + w - i))
-    ≡ firstBad (recordSize w) (lastFields w table at (deviceAt w table at)))
+    ≡ firstBad (recordSize w) (deepestFields w (deviceAt w table at) ++ zeroFields w table at))
 
 abbrev μ-loop : tie.MeasureT-loop
 μ-loop table at w i₀ i = 2 + w - i

@@ -1,5 +1,5 @@
--- A part with a bad field is enough; past the others the last part decides.
-use Rattle.record.proofs.AllGood.{part-bad, last-decides}
+-- A record is its values, then zeros.
+use Rattle.record.proofs.AllGood.{quick-tests}
 use borrow.Author.Needs.{needs}
 use Rattle.record.proofs.quick.record_good.Statement.{statement}
 use Rattle.record.proofs.quick.record_good.Tie as tie
@@ -7,6 +7,4 @@ use Rattle.record.proofs.quick.record_good.Tie as tie
 pub record-good-spec : {M : Type 1} → statement M
 record-good-spec =
     tie.close
-    (tie.spec (λ c κs. search needs) (λ c. search (needs, part-bad 0)) (λ c κs. search needs) (λ c. search (needs, part-bad 1))
-    (λ c κs. search needs) (λ c. search (needs, part-bad 2)) (λ c κs. search needs) (λ c. search (needs, part-bad 3))
-    (λ c κs. search needs) (λ c. search (needs, part-bad 4)) (λ c κs. search needs) (λ c. search (needs, last-decides)))
+    (tie.spec (λ c κs. search needs) (λ c. search (needs, quick-tests)) (λ c κs. search needs) (λ c. search (needs, quick-tests)))
