@@ -5,7 +5,8 @@ use mathlib.Core.List.{List, [], _∷_, _++_}
 use lib.ListN.{length, take, drop, replicate}
 use Rattle.words.specs.Words.{bytesLE}
 use Rattle.rules.specs.Index.{join}
-use Rattle.rules.specs.Station.{Device, versionWidth, width, countR, countD, deviceStart, fieldsSize, deviceAt, fieldBytes}
+use Rattle.rules.specs.Station.{Device, versionWidth, width, countR, countD, deviceStart, fieldsSize, zerosSize, deviceAt}
+use Rattle.rules.specs.Station.{fieldBytes}
 use Rattle.rules.specs.Table.{mark}
 
 -- 11.1: a described resource is its record of 4 bytes; a described device is the fields of a record with sets of 8 bytes, 54 bytes in all
@@ -22,7 +23,7 @@ describedR rs = (length rs + 3) / 4
 abbrev pub describedD : List ℕ → ℕ
 describedD ds = (length ds + (describedSize - 1)) / describedSize
 
--- device d of a description; a byte that a record cut short has not reads as zero
+-- device d of a list; a byte missing from a record that is cut short reads as zero
 abbrev pub describedDevice : List ℕ → ℕ → Device
 describedDevice ds d = deviceAt describedWidth ds (describedSize * d)
 
@@ -39,9 +40,9 @@ headerBytes version resources devices = mark ++ (resources ∷ []) ++ bytesLE 2 
 
 -- a device's record: its fields, and zeros to its end
 unfoldable pub recordBytes : ℕ → Device → List ℕ
-recordBytes w v = fieldBytes w v ++ replicate (2 + w) 0
+recordBytes w v = fieldBytes w v ++ replicate (zerosSize w) 0
 
--- the table of a version that whole records make whose sets fit in it
+-- the table of a version made of whole records whose sets fit its width
 unfoldable pub tableBytes : ℕ → List ℕ → List ℕ → List ℕ
 tableBytes version rs ds =
     headerBytes version (describedR rs) (describedD ds)

@@ -51,6 +51,7 @@ versionGood version = eqb version 1
 unfoldable pub versionWidth : ℕ → ℕ
 versionWidth version = 4
 
+-- the version that a table's header states
 abbrev pub versionOf : List ℕ → ℕ
 versionOf t = readLE 2 t 4
 
@@ -71,9 +72,12 @@ limit w = 8 * w
 abbrev pub recordSize : ℕ → ℕ
 recordSize w = 16 + 6 * w
 
--- a record's fields end here; zeros follow to its end
+-- a record's fields end here, and so many zeros follow to its end
 abbrev pub fieldsSize : ℕ → ℕ
 fieldsSize w = 14 + 5 * w
+
+abbrev pub zerosSize : ℕ → ℕ
+zerosSize w = 2 + w
 
 -- the bytes of a table of R resources and D devices; so device D's record would start there
 abbrev pub tableSize : ℕ → ℕ → ℕ → ℕ

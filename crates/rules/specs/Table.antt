@@ -10,7 +10,7 @@ use Rattle.rules.specs.declared.Reason.the-variants.{NotATable, TooMany,
 use Rattle.rules.specs.Index.{each}
 use Rattle.rules.specs.Answers.{firstOf, unless, lowest}
 use Rattle.rules.specs.Station.{Device, absent, versionGood, versionOf, width, limit, recordSize, countR, countD, resourceStart}
-use Rattle.rules.specs.Station.{deviceStart, deviceAt}
+use Rattle.rules.specs.Station.{zerosSize, deviceStart, deviceAt}
 use Rattle.rules.specs.Station.{hasPS, hasPR, hasPRW, hasDSW}
 
 -- the letters PWT
@@ -28,8 +28,11 @@ headerGood t =
     && eqb (getD t 7 0) 0
 
 -- 2: at most as many resources and devices as the width allows, 32
+abbrev pub countsFit : ℕ → ℕ → ℕ → Bool
+countsFit w resources devices = leb resources (limit w) && leb devices (limit w)
+
 unfoldable pub countsGood : List ℕ → Bool
-countsGood t = leb (countR t) (limit (width t)) && leb (countD t) (limit (width t))
+countsGood t = countsFit (width t) (countR t) (countD t)
 
 -- 3: the bytes end where a record D would start: 8 + 4R + 40D for a width of 4
 unfoldable pub lengthGood : List ℕ → Bool
@@ -110,7 +113,7 @@ valueFields w resources d v = headFields d v ++ setFields w resources v ++ sxdFi
 
 -- zeros to the record's end
 unfoldable pub zeroFields : ℕ → List ℕ → ℕ → List Field
-zeroFields w t at = each (λ k. field (14 + 5 * w + k) (eqb (getD t (at + 14 + 5 * w + k) 0) 0)) (2 + w)
+zeroFields w t at = each (λ k. field (14 + 5 * w + k) (eqb (getD t (at + 14 + 5 * w + k) 0) 0)) (zerosSize w)
 
 -- all fields of device d's record, which starts at a byte of a table of R resources
 unfoldable pub deviceFields : ℕ → ℕ → List ℕ → ℕ → ℕ → List Field

@@ -9,8 +9,8 @@ use Rattle.rules.specs.declared.Verdict.{Verdict}
 use Rattle.rules.specs.declared.Verdict.the-variants.{Done, Refused}
 use Rattle.rules.specs.declared.Reason.the-variants.{NotATable, TooMany, BadResource, NoRoom}
 use Rattle.rules.specs.Answers.{passes, firstOf, unless, lowest}
-use Rattle.rules.specs.Station.{versionGood, versionWidth, limit, tableSize, countR, countD}
-use Rattle.rules.specs.Table.{allGood, resourceGood, valueFields, fieldsOrObjects, objectsGood, tableVerdict}
+use Rattle.rules.specs.Station.{versionGood, versionWidth, tableSize, countR, countD}
+use Rattle.rules.specs.Table.{countsFit, allGood, resourceGood, valueFields, fieldsOrObjects, objectsGood, tableVerdict}
 use Rattle.rules.specs.Describe.{describedWidth, describedSize, describedR, describedD, describedDevice, resourcesOf, devicesOf}
 use Rattle.rules.specs.Describe.{tableBytes}
 
@@ -18,7 +18,8 @@ use Rattle.rules.specs.Describe.{tableBytes}
 unfoldable pub describedResourceGood : List ℕ → ℕ → Bool
 describedResourceGood rs r = leb (4 * r + 4) (length rs) && resourceGood rs (4 * r)
 
--- 5: device d of a list is whole, and its fields are good among R resources; so no set has a bit that the version cannot hold
+-- 5: device d of a list is whole, and its fields are good among R resources; R being within the version's limit, no set has a bit that the
+-- version cannot hold
 unfoldable pub describedFieldsGood : ℕ → List ℕ → ℕ → Bool
 describedFieldsGood resources ds d =
     leb (describedSize * d + describedSize) (length ds) && allGood (valueFields describedWidth resources d (describedDevice ds d))
@@ -43,9 +44,9 @@ writtenSize version rs ds = tableSize (versionWidth version) (describedR rs) (de
 
 -- 2: at most as many resources and devices as the version allows, 32
 unfoldable pub describedCountsGood : ℕ → List ℕ → List ℕ → Bool
-describedCountsGood version rs ds = leb (describedR rs) (limit (versionWidth version)) && leb (describedD ds) (limit (versionWidth version))
+describedCountsGood version rs ds = countsFit (versionWidth version) (describedR rs) (describedD ds)
 
--- 1 for a version that there is not; 2; 9 for a buffer with too little room; then the records; else done with the bytes written
+-- 1 for a version other than 1; 2; 9 for a buffer with too little room; then the records; else done with the bytes written
 unfoldable pub writeVerdict : ℕ → List ℕ → List ℕ → ℕ → Verdict
 writeVerdict version rs ds room =
     firstOf
@@ -67,15 +68,15 @@ write version rs ds table =
     record { verdict = v; table = cond (passes v) (put table 0 (tableBytes version rs ds)) table }
 
 -- the bytes that a table's two lists have
-abbrev pub describedBytes : List ℕ → ℕ
-describedBytes t = 4 * countR t + describedSize * countD t
+abbrev pub listsSize : List ℕ → ℕ
+listsSize t = 4 * countR t + describedSize * countD t
 
 -- 1 to 6, then 9 if either buffer has too little room; else done with the bytes of both lists
 unfoldable pub describeVerdict : List ℕ → ℕ → ℕ → Verdict
 describeVerdict t roomR roomD =
     firstOf
     (tableVerdict t ∷ unless (leb (4 * countR t) roomR && leb (describedSize * countD t) roomD) NoRoom 0 ∷ [])
-    (Done (describedBytes t))
+    (Done (listsSize t))
 
 -- what describing answers, and what it leaves in the two lent buffers
 pub record Described : Type 0 where
