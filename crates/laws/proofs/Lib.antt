@@ -2,6 +2,7 @@ pub mod Tests
 pub mod Every
 pub mod All
 pub mod Parts
+pub mod Joined
 pub mod Fields
 pub mod Same
 pub mod Write

@@ -2,3 +2,4 @@ pub mod Readers
 pub mod Tests
 pub mod FirstBad
 pub mod AllGood
+pub mod Values

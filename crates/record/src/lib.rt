@@ -1,6 +1,8 @@
-// One record of a table: its fields, the tests of them, the first bad field, and whether it is good, asked quickly.
+// One record of a table: its fields, the tests of them, the first bad field, and whether it is good, asked quickly; a device read whole and
+// written.
 // Each function takes the bytes, the byte `at` which the record starts, and w, the bytes of a set: 4 or 8.
 pub mod bad;
+pub mod device;
 pub mod good;
 pub mod quick;
 pub mod read;

@@ -1,13 +1,36 @@
--- Words into bytes and back, a word at a time: what a turn of each loop adds.
+-- Bytes copied, and words into bytes and back, one at a time: what a turn of each loop adds.
 use mathlib.Core.Path.{_≡_, refl, ap, _∙_}
 use mathlib.Core.List.{List, [], _∷_, _++_}
 use Prim.Native.Nat.{ℕ, zero, suc, _+_, _*_, _≤_, _<_}
+use native.Mathlib.Nat.{add-zero}
 use native.Mathlib.Numerals.{add-one}
 use native.Mathlib.Omega.{arith}
 use lib.ListN.{length, getD, take, drop, set}
+use lib.Seq.{take-all}
 use Rattle.words.specs.Words.{readLE, bytesLE, put, wordBytes, byteWords}
 use Rattle.words.proofs.Laws.{bytes-length, word-bytes-one, read-drop}
-use Rattle.words.proofs.Put.{Emitted, emitted-none, emitted-run, emitted-one}
+use Rattle.words.proofs.Put.{Emitted, emitted-none, emitted-run, emitted-one, emitted-copy}
+
+-- ---- bytes copied
+pub copy-starts : (d from : List ℕ) (at : ℕ) → Emitted d at (take 0 from) d (at + 0)
+copy-starts d from at = rw (add-zero at) (emitted-none d at)
+
+pub copy-next : {d l : List ℕ} {at : ℕ} (from : List ℕ) (i : ℕ) → Emitted d at (take i from) l (at + i) → i < length from
+    → at + length from ≤ length d → Emitted d at (take (i + 1) from) (set l (at + i) (getD from i 0)) (at + (i + 1))
+copy-next {at = at} from i e h k =
+    let p : at + (i + 1) ≡ at + i + 1 = omega arith in
+    rw p (emitted-copy from i e h (omega arith))
+
+pub copy-done : {d l : List ℕ} {at : ℕ} (from : List ℕ) (i : ℕ) → Emitted d at (take i from) l (at + i) → i ≤ length from → length from ≤ i
+    → l ≡ put d at from
+copy-done from i e h k = rw (take-all i from k) at (e .list)
+
+-- each store has room
+pub copy-room : {d l : List ℕ} {at : ℕ} (from : List ℕ) (i : ℕ) → Emitted d at (take i from) l (at + i) → i < length from
+    → at + length from ≤ length d → at + i < length l
+copy-room from i e h k = omega (arith, e .long)
+
+pub ruleset copying = (copy-starts, copy-next, copy-done, copy-room)
 
 -- ---- words into bytes
 pub write-starts : (d from : List ℕ) → Emitted d 0 (wordBytes (take 0 from)) d (4 * 0)
