@@ -8,7 +8,7 @@ use native.Mathlib.Omega.{arith}
 use lib.ListN.{length, getD, set, replicate, length-append}
 use Rattle.words.specs.Words.{bytesLE, put}
 use Rattle.words.proofs.Laws.{bytes-length}
-use Rattle.words.proofs.Put.{Emitted, put-put, sets-put}
+use Rattle.words.proofs.Put.{Emitted, put-then, sets-put}
 use Rattle.rules.specs.Index.{eachFrom, each, joinFrom, join}
 use Rattle.rules.specs.Station as station
 use Rattle.rules.specs.Station.{fieldsSize, zerosSize, recordSize, fieldBytes}
@@ -79,11 +79,6 @@ pub head-put : (l : List ℕ) (at a b c d : ℕ) → at + 4 ≤ length l
     → set (set (set (set l at a) (at + 1) b) (at + 2) c) (at + 3) d ≡ put l at (a ∷ b ∷ c ∷ d ∷ [])
 head-put l at a b c d h = simp towards-suc (sets-put l at (a ∷ b ∷ c ∷ d ∷ []) h)
 
--- one run after another, ending where the next begins
-then : (d l : List ℕ) (at n : ℕ) (xs ys : List ℕ) → at + length xs ≤ length d → n ≡ at + length xs → l ≡ put (put d at xs) n ys
-    → l ≡ put d at (xs ++ ys)
-then d l at n xs ys h e f = f ∙ rw e (put-put d at xs ys h)
-
 module _ (w : ℕ) (d : List ℕ) (at : ℕ) (v : Device) (room : at + fieldsSize w ≤ length d) (four : length (v .sxd) ≡ 4)
     (five : length (v .sxw) ≡ 5) where
   abbrev head : List ℕ
@@ -99,12 +94,12 @@ module _ (w : ℕ) (d : List ℕ) (at : ℕ) (v : Device) (room : at + fieldsSiz
       let n1 = length-append head sets in
       let n2 = length-append (head ++ sets) (v .sxd) in
       let n3 = length-append (head ++ sets ++ v .sxd) (v .sxw) in
-      let p1 : b ≡ put d at (head ++ sets) = then d b at (at + 4) head sets (omega arith) refl (rw o at p) in
+      let p1 : b ≡ put d at (head ++ sets) = put-then d b at (at + 4) head sets (omega arith) refl (rw o at p) in
       let p2 : c ≡ put d at (head ++ sets ++ v .sxd) =
-      then d c at (at + 4 + 5 * w) (head ++ sets) (v .sxd) (omega (arith, n, n1)) (omega (arith, n, n1)) (rw p1 at q) in
+      put-then d c at (at + 4 + 5 * w) (head ++ sets) (v .sxd) (omega (arith, n, n1)) (omega (arith, n, n1)) (rw p1 at q) in
       let p3 : e ≡ put d at (head ++ sets ++ v .sxd ++ v .sxw) =
-      then d e at (at + 8 + 5 * w) (head ++ sets ++ v .sxd) (v .sxw) (omega (arith, n, n1, n2)) (omega (arith, n, n1, n2)) (rw p2 at r) in (
-        then d l at (at + 13 + 5 * w) (head ++ sets ++ v .sxd ++ v .sxw) (v .deepest ∷ []) (omega (arith, n, n1, n2, n3))
+      put-then d e at (at + 8 + 5 * w) (head ++ sets ++ v .sxd) (v .sxw) (omega (arith, n, n1, n2)) (omega (arith, n, n1, n2)) (rw p2 at r) in (
+        put-then d l at (at + 13 + 5 * w) (head ++ sets ++ v .sxd ++ v .sxw) (v .deepest ∷ []) (omega (arith, n, n1, n2, n3))
             (omega (arith, n, n1, n2, n3)) (rw p3 at s),
         length-append (head ++ sets ++ v .sxd ++ v .sxw) (v .deepest ∷ []) ∙ omega (arith, n, n1, n2, n3),
       )
@@ -127,9 +122,9 @@ module _ (w : ℕ) (d : List ℕ) (at : ℕ) (v : Device) (room : at + recordSiz
       let m = bytes-length w 0 in
       let n1 = length-append (heldBytes w v) (bytesLE w 0) in
       let p1 : b ≡ put d at (heldBytes w v ++ bytesLE w 0) =
-      then d b at (at + 14 + 5 * w) (heldBytes w v) (bytesLE w 0) (omega (arith, n)) (omega (arith, n)) (rw (o .0) at p) in
+      put-then d b at (at + 14 + 5 * w) (heldBytes w v) (bytesLE w 0) (omega (arith, n)) (omega (arith, n)) (rw (o .0) at p) in
       let p2 : c ≡ put d at (heldBytes w v ++ bytesLE w 0 ++ bytesLE 2 0) =
-      then d c at (at + 14 + 6 * w) (heldBytes w v ++ bytesLE w 0) (bytesLE 2 0) (omega (arith, n, n1, m)) (omega (arith, n, n1, m))
+      put-then d c at (at + 14 + 6 * w) (heldBytes w v ++ bytesLE w 0) (bytesLE 2 0) (omega (arith, n, n1, m)) (omega (arith, n, n1, m))
       (rw p1 at q) in
       p2 ∙ ap (put d at) (append-assoc (heldBytes w v) (bytesLE w 0) (bytesLE 2 0) ∙ ap (λ (l : List ℕ). heldBytes w v ++ l) (zeros-long w))
 

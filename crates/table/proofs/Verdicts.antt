@@ -9,16 +9,15 @@ use native.Mathlib.Omega.{arith}
 use borrow.Author.Tests.{eqb-true, leb-true, eq-eqb, lt-ltb, le-ltb, le-leb, lt-leb, not-true, not-false}
 use lib.Dec.{eqb, leb}
 use lib.ListN.{length, getD, take, drop}
-use Rattle.words.specs.Words.{readLE}
 use Rattle.rules.specs.declared.Verdict.{Verdict}
 use Rattle.rules.specs.declared.Verdict.the-variants.{Done, Refused}
 use Rattle.rules.specs.declared.Reason.{Reason}
 use Rattle.rules.specs.declared.Reason.the-variants.{NotATable, TooMany, WrongLength, BadResource, BadDevice, BadObjects}
 use Rattle.rules.specs.Index.{leastFrom, least}
 use Rattle.rules.specs.Answers.{passes, firstOf, unless, lowest}
-use Rattle.rules.specs.Station.{width, limit, recordSize, countR, countD, deviceStart, deviceAt}
-use Rattle.rules.specs.Table.{firstBad, deviceFields, headerGood, countsGood, lengthGood, resourceGood, badField, fieldsGood}
-use Rattle.rules.specs.Table.{objectsGood, deviceRefusal, deviceGood, tableVerdict}
+use Rattle.rules.specs.Station.{versionGood, versionOf, width, limit, recordSize, countR, countD, resourceStart, deviceStart, deviceAt}
+use Rattle.rules.specs.Table.{firstBad, allGood, deviceFields, headerGood, countsGood, lengthGood, resourceGood, badField, fieldsGood}
+use Rattle.rules.specs.Table.{objectsGood, fieldsOrObjects, deviceRefusal, deviceGood, tableVerdict}
 use Rattle.rules.specs.Outcomes.{recordPart}
 use Rattle.rules.proofs.Index.{found, next, done}
 use Rattle.rules.proofs.Answers.{done-passes, refused-stops, first-pass, first-stop, first-none, first-through, unless-of, unless-stop}
@@ -27,7 +26,6 @@ use Rattle.rules.proofs.Width.{width-wide}
 use Rattle.laws.proofs.Accepted.{accepted, refuses}
 use Rattle.laws.proofs.Tests.{both-true}
 use Rattle.table.specs.Layout.{WellSized}
-use Rattle.record.specs.Good.{allGood}
 use Rattle.record.proofs.AllGood.{device-good}
 
 -- ---- each check, on the bytes
@@ -36,10 +34,10 @@ module _ (t : List ℕ) where
   unfolding headerGood
   too-short h = rw (lt-leb 8 (length t) h)
 
-  pub header-test : (v : ℕ) → 8 ≤ length t → v ≡ readLE 2 t 4
-      → eqb (getD t 0 0) 0x50 && eqb (getD t 1 0) 0x57 && eqb (getD t 2 0) 0x54 && eqb v 1 && eqb (getD t 7 0) 0 ≡ headerGood t
+  pub header-test : (v : ℕ) (b : Bool) → 8 ≤ length t → v ≡ versionOf t → b ≡ versionGood v
+      → eqb (getD t 0 0) 0x50 && eqb (getD t 1 0) 0x57 && eqb (getD t 2 0) 0x54 && b && eqb (getD t 7 0) 0 ≡ headerGood t
   unfolding headerGood
-  header-test v h e = rw (le-leb 8 (length t) h, e)
+  header-test v b h e f = rw (le-leb 8 (length t) h, f, e)
 
   pub counts-test : (r d most : ℕ) → r ≡ countR t → d ≡ countD t → most ≡ limit (width t) → leb r most && leb d most ≡ countsGood t
   unfolding countsGood
@@ -67,15 +65,15 @@ module _ (t : List ℕ) where
       unfolding deviceGood
       objects-decide o h p = rw (fields-are ∙ not-false b p, h, e, i) refl
 
-  pub resource-bad : (r : ℕ) (b : Bool) → b ≡ resourceGood t r → not b ≡ not (resourceGood t r)
+  pub resource-bad : (r : ℕ) (b : Bool) → b ≡ resourceGood t (resourceStart r) → not b ≡ not (resourceGood t (resourceStart r))
   resource-bad r b e = ap not e
 
   pub refused-6 : (d : ℕ) (f : Bool) → f ≡ fieldsGood t d → f ≡ true → Refused BadObjects d ≡ deviceRefusal t d
-  unfolding deviceRefusal
+  unfolding fieldsOrObjects
   refused-6 d f e p = rw (← e, p)
 
   pub refused-5 : (d : ℕ) (f : Bool) → f ≡ fieldsGood t d → f ≡ false → Refused BadDevice d ≡ deviceRefusal t d
-  unfolding deviceRefusal
+  unfolding fieldsOrObjects
   refused-5 d f e p = rw (← e, p)
 
 pub ruleset table-tests = (
@@ -154,7 +152,7 @@ module _ (t : List ℕ) where
   devices-check = lowest (λ d. not (deviceGood t d)) (countD t) (deviceRefusal t)
 
   abbrev resources-check : Verdict
-  resources-check = lowest (λ r. not (resourceGood t r)) (countR t) (Refused BadResource)
+  resources-check = lowest (λ r. not (resourceGood t (resourceStart r))) (countR t) (Refused BadResource)
 
   abbrev length-check : Verdict
   length-check = unless (lengthGood t) WrongLength 0
@@ -184,7 +182,7 @@ module _ (t : List ℕ) where
       ∙ past-counts h (sym f ∙ not-false c y)
 
   -- from here on the first three have passed
-  module _ (sized : WellSized t) (h : headerGood t ≡ true) (r m : ℕ) (e : r ≡ least (λ i. not (resourceGood t i)) (countR t))
+  module _ (sized : WellSized t) (h : headerGood t ≡ true) (r m : ℕ) (e : r ≡ least (λ i. not (resourceGood t (resourceStart i))) (countR t))
       (f : m ≡ countR t) where
     past-length : firstOf (resources-check ∷ devices-check ∷ []) (Done 0) ≡ tableVerdict t
     unfolding countsGood lengthGood
@@ -204,7 +202,7 @@ module _ (t : List ℕ) where
       past-resources = sym (lowest-passed _ _ _ (countR t) m r (Refused BadResource) e f p) ∙ past-length
 
       pub bad-device : (v : Verdict) → v ≡ deviceRefusal t q → q < n → v ≡ tableVerdict t
-      bad-device v o u = lowest-refused _ _ _ (countD t) n q (deviceRefusal t) g k v o (ap passes o ∙ refuses t q) u ∙ past-resources
+      bad-device v o u = lowest-refused _ _ _ (countD t) n q (deviceRefusal t) g k v o (ap passes o ∙ refuses (fieldsGood t q) q) u ∙ past-resources
 
       pub all-pass : n ≤ q → Done 0 ≡ tableVerdict t
       all-pass u = sym (lowest-passed _ _ _ (countD t) n q (deviceRefusal t) g k u ∙ first-none (Done 0)) ∙ past-resources

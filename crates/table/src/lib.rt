@@ -1,5 +1,6 @@
 // Whether any bytes are a power table, answers 1 to 6, and the bytes of one device's record.
 pub mod fields;
+pub mod header;
 
 use rules::Reason;
 use rules::Verdict;
@@ -9,26 +10,10 @@ ghost use Prim.Native.Nat.{_<_, _≤_};
 ghost use lib.ListN.{length};
 ghost use Rattle.rules.specs.Index.{least};
 ghost use Rattle.rules.specs.Answers.{passes};
-ghost use Rattle.rules.specs.Station.{countR, countD};
+ghost use Rattle.rules.specs.Station.{countR, countD, resourceStart};
 ghost use Rattle.rules.specs.Table.{headerGood, countsGood, lengthGood, resourceGood, fieldsGood, deviceGood, deviceRefusal, tableVerdict};
 ghost use Rattle.rules.specs.Outcomes.{recordPart};
 ghost use Rattle.table.specs.Layout.{WellSized};
-
-// 1: the 8 bytes, the mark, version 1 and a zero at byte 7.
-pub fn header_good(table: &[u8]) -> bool
-    ensures { λ b. ⌜ b ≡ headerGood (now (table .entry)) ⌝ }
-{
-    if table.len() < 8 {
-        return false;
-    }
-    let mark = b"PWT";
-    let version = words::read16(table, 4);
-    (table[0] == mark[0])
-        & (table[1] == mark[1])
-        & (table[2] == mark[2])
-        & (version == 1)
-        & (table[7] == 0)
-}
 
 // 2: at most as many resources and devices as the width allows.
 fn counts_good(table: &[u8]) -> bool
@@ -51,15 +36,15 @@ fn length_good(table: &[u8]) -> bool
 // Whether resource r has a bad field.
 fn resource_bad(table: &[u8], r: usize) -> bool
     requires { ⌜ WellSized (now table) × (r < countR (now table)) ⌝ }
-    ensures { λ b. ⌜ b ≡ not (resourceGood (now (table .entry)) r) ⌝ }
+    ensures { λ b. ⌜ b ≡ not (resourceGood (now (table .entry)) (resourceStart r)) ⌝ }
 {
-    !record::bad::resource_good(table, r)
+    !record::bad::resource_good(table, 8 + 4 * r)
 }
 
 // 4: the lowest bad resource, R if none is bad.
 fn lowest_resource(table: &[u8]) -> usize
     requires { ⌜ WellSized (now table) ⌝ }
-    ensures { λ r. ⌜ r ≡ least (λ i. not (resourceGood (now (table .entry)) i)) (countR (now (table .entry))) ⌝ }
+    ensures { λ r. ⌜ r ≡ least (λ i. not (resourceGood (now (table .entry)) (resourceStart i))) (countR (now (table .entry))) ⌝ }
 {
     let n = crate::fields::resources(table);
     let mut i = 0;
@@ -159,7 +144,7 @@ pub fn check_past_header(table: &[u8]) -> Verdict
 pub fn check_table(table: &[u8]) -> Verdict
     ensures { λ v. ⌜ v ≡ tableVerdict (now (table .entry)) ⌝ }
 {
-    if !header_good(table) {
+    if !crate::header::header_good(table) {
         return Verdict::Refused(Reason::NotATable, 0);
     }
     check_past_header(table)

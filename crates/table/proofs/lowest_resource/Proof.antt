@@ -3,7 +3,7 @@ use mathlib.Core.Path.{_≡_}
 use mathlib.Core.Bool.{not}
 use Prim.Native.Nat.{_-_, _≤_}
 use Rattle.rules.specs.Index.{leastFrom, least}
-use Rattle.rules.specs.Station.{countR}
+use Rattle.rules.specs.Station.{countR, resourceStart}
 use Rattle.rules.specs.Table.{resourceGood}
 use borrow.Author.Needs.{needs}
 use Rattle.table.proofs.Verdicts.{lowest-bad}
@@ -11,8 +11,8 @@ use Rattle.table.proofs.lowest_resource.Statement.{statement}
 use Rattle.table.proofs.lowest_resource.Tie as tie
 
 abbrev Inv-loop : tie.InvT-loop
-Inv-loop table n i₀ i = (i ≤ n) × (leastFrom (λ j. not (resourceGood table j)) i (n - i) ≡ least
-    (λ j. not (resourceGood table j)) (countR table))
+Inv-loop table n i₀ i = (i ≤ n) × (leastFrom (λ j. not (resourceGood table (resourceStart j))) i (n - i) ≡ least
+    (λ j. not (resourceGood table (resourceStart j))) (countR table))
 
 abbrev μ-loop : tie.MeasureT-loop
 μ-loop table n i₀ i = n - i

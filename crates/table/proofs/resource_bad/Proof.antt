@@ -5,4 +5,4 @@ use Rattle.table.proofs.resource_bad.Statement.{statement}
 use Rattle.table.proofs.resource_bad.Tie as tie
 
 pub resource-bad-spec : {M : Type 1} → statement M
-resource-bad-spec = tie.close (tie.spec (λ c κs. search needs) (λ c. search (needs, table-tests)))
+resource-bad-spec = tie.close (tie.spec (λ c. search needs) (λ c. search needs) (λ c κs. search needs) (λ c. search (needs, table-tests)))
