@@ -11,8 +11,8 @@ use Rattle.rules.specs.declared.Reason.the-variants.{NotATable, TooMany, WrongL
 use Rattle.rules.specs.declared.Reason.the-variants.{Inconsistent, NoRoom, BadRequest, Unsupported, Shallower, ParentDeeper}
 use Rattle.rules.specs.declared.Reason.the-variants.{ChildShallower, TooDeepToWake, NoWake, WakeUnpowered, BadWakeState, NotConforming}
 use Rattle.rules.specs.Answers.{reasonNumber, numberOf, placeOf, countOf}
-use Rattle.rules.specs.Station.{width}
-use Rattle.rules.specs.Outcomes.{outcome, fresh, planBytes, checkBytes}
+use Rattle.rules.specs.Station.{width, Wide}
+use Rattle.rules.specs.Outcomes.{outcome, planRoom, fresh, planBytes, checkBytes}
 use Rattle.rules.proofs.Width.{width-wide}
 use Rattle.laws.specs.Demand2.{Demand2Bytes}
 use Rattle.laws.proofs.Demand2.{demand2-bytes}
@@ -62,22 +62,31 @@ pack-is v n c p e f g h =
     (is, rw is (packed-reads v h))
 
 -- ---- what each of the board's functions hands on is small enough, and is its definition's
-pub fits : (t : List ℕ) (v w : Verdict) → v ≡ w → Bounded (width t) w → (countOf v < 0x1_0000) × (placeOf v < 0x100_0000_0000)
-fits t v w e b = let h = width-wide t .high in rw e (omega (arith, b .count), omega (arith, b .place))
+abbrev pub Small : Verdict → Type 0
+Small v = (countOf v < 0x1_0000) × (placeOf v < 0x100_0000_0000)
+
+small : (w most : ℕ) (v : Verdict) → Wide w → most < 0x1_0000 → Bounded w most v → Small v
+small w most v h m b = (omega (arith, b .count), omega (arith, b .place))
+
+pub fits : (v w : Verdict) → v ≡ w → Small w → Small v
+fits v w e s = rw e s
 
 pub packs : (v w : Verdict) (r : ℕ) → v ≡ w → (r ≡ packed v) × Reads r v → (r ≡ packed w) × Reads r w
 packs v w r e f = rw (← e) f
 
-pub fresh-fits : (t b : List ℕ) → Bounded (width t) (fresh t b .verdict)
-unfolding fresh outcome
-fresh-fits t b = fresh-bounded t b
+module _ (t : List ℕ) where
+  pub fresh-fits : (b : List ℕ) → Small (fresh t b .verdict)
+  unfolding fresh outcome
+  fresh-fits b = small (width t) 0 _ (width-wide t) (omega arith) (fresh-bounded t 0 b)
 
-pub plan-fits : (t b : List ℕ) (q : Request) (plan : List ℕ) → Bounded (width t) (planBytes t b q plan .verdict)
-unfolding planBytes outcome
-plan-fits t b q plan = plan-bounded t b q _ (planned-short t b q)
+  pub plan-fits : (b : List ℕ) (q : Request) (plan : List ℕ) → Small (planBytes t b q plan .verdict)
+  unfolding planBytes outcome
+  plan-fits b q plan =
+      let h = width-wide t in
+      small (width t) (planRoom (width t)) _ h (omega arith) (plan-bounded t (planRoom (width t)) b q _ (planned-short t b q))
 
-pub check-fits : (t b : List ℕ) (q : Request) (list : List ℕ) → Bounded (width t) (checkBytes t b q list)
-check-fits t b q list = check-bounded t b q list
+  pub check-fits : (b : List ℕ) (q : Request) (list : List ℕ) → Small (checkBytes t b q list)
+  check-fits b q list = small (width t) 0 _ (width-wide t) (omega arith) (check-bounded t 0 b q list)
 
 -- ---- what the planner on bytes leaves keeps demand 2, with number and count as they are read from the packed answer
 pub bytes-demand : (t b : List ℕ) (q : Request) (plan : List ℕ) (r : ℕ) (b′ plan′ : List ℕ) → Reads r (planBytes t b q plan .verdict)

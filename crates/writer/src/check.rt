@@ -1,0 +1,148 @@
+// Answers 1, 2, 9, 4, 5 and 6 of two lists of records that a table is to be written from. A described device is the fields of a record with
+// sets of 8 bytes, so that the tests of a table's record are its tests.
+use rules::Reason;
+use rules::Verdict;
+ghost use mathlib.Core.Path.{_≡_};
+ghost use mathlib.Core.Bool.{true, not};
+ghost use Prim.Native.Nat.{_+_, _*_, _<_, _≤_};
+ghost use lib.ListN.{length};
+ghost use Rattle.rules.specs.Index.{least};
+ghost use Rattle.rules.specs.Station.{limit};
+ghost use Rattle.rules.specs.Table.{fieldsOrObjects};
+ghost use Rattle.rules.specs.Describe.{describedWidth, describedSize, describedR, describedD};
+ghost use Rattle.rules.specs.Write.{describedResourceGood, describedFieldsGood, describedDeviceGood, recordsVerdict, writeVerdict};
+ghost use Rattle.writer.specs.Few.{Few};
+
+// The number of described resources; one that is cut short counts.
+pub fn resources(rs: &[u8]) -> usize
+    ensures { λ r. ⌜ r ≡ describedR (now (rs .entry)) ⌝ }
+{
+    (rs.len() + 3) / 4
+}
+
+// The number of described devices.
+pub fn devices(ds: &[u8]) -> usize
+    ensures { λ r. ⌜ r ≡ describedD (now (ds .entry)) ⌝ }
+{
+    (ds.len() + 53) / 54
+}
+
+// Whether resource r is cut short or has a bad field.
+fn resource_bad(rs: &[u8], r: usize) -> bool
+    requires { ⌜ r < describedR (now rs) ⌝ }
+    ensures { λ b. ⌜ b ≡ not (describedResourceGood (now (rs .entry)) r) ⌝ }
+{
+    let at = 4 * r;
+    if rs.len() < at + 4 {
+        return true;
+    }
+    !record::bad::resource_good(rs, at)
+}
+
+// 4: the lowest bad resource, their number if none is bad.
+fn lowest_resource(rs: &[u8]) -> usize
+    ensures { λ r. ⌜ r ≡ least (λ i. not (describedResourceGood (now (rs .entry)) i)) (describedR (now (rs .entry))) ⌝ }
+{
+    let n = resources(rs);
+    let mut i = 0;
+    while i < n {
+        let r = i;
+        i += 1;
+        if resource_bad(rs, r) {
+            return r;
+        }
+    }
+    i
+}
+
+// Whether device d is whole and all its fields are good.
+fn fields_good(ds: &[u8], d: usize, resources: usize) -> bool
+    requires { ⌜ (d < 256) × (resources ≤ limit describedWidth) ⌝ }
+    ensures { λ b. ⌜ b ≡ describedFieldsGood resources (now (ds .entry)) d ⌝ }
+{
+    let at = 54 * d;
+    if ds.len() < at + 54 {
+        return false;
+    }
+    record::quick::values_good(ds, at, 8, d, resources)
+}
+
+// Whether device d is cut short, has a bad field, or its objects do not agree.
+fn device_bad(ds: &[u8], d: usize, resources: usize) -> bool
+    requires { ⌜ (d < 256) × (resources ≤ limit describedWidth) ⌝ }
+    ensures { λ b. ⌜ b ≡ not (describedDeviceGood resources (now (ds .entry)) d) ⌝ }
+{
+    if !fields_good(ds, d, resources) {
+        return true;
+    }
+    !record::quick::objects_agree(ds, 54 * d, 8)
+}
+
+// 5 and 6: the lowest bad device, their number if none is bad.
+fn lowest_device(ds: &[u8], resources: usize) -> usize
+    requires { ⌜ (describedD (now ds) < 256) × (resources ≤ limit describedWidth) ⌝ }
+    ensures { λ d. ⌜ d ≡ least (λ i. not (describedDeviceGood resources (now (ds .entry)) i)) (describedD (now (ds .entry))) ⌝ }
+{
+    let n = devices(ds);
+    let mut i = 0;
+    while i < n {
+        let d = i;
+        i += 1;
+        if device_bad(ds, d, resources) {
+            return d;
+        }
+    }
+    i
+}
+
+// The answer for a bad device: 5 before 6.
+fn refusal(ds: &[u8], d: usize, resources: usize) -> Verdict
+    requires { ⌜ (d < 256) × (resources ≤ limit describedWidth) ⌝ }
+    ensures { λ v. ⌜ v ≡ fieldsOrObjects (describedFieldsGood resources (now (ds .entry)) d) d ⌝ }
+{
+    if fields_good(ds, d, resources) {
+        return Verdict::Refused(Reason::BadObjects, d);
+    }
+    Verdict::Refused(Reason::BadDevice, d)
+}
+
+// Answers 4 to 6 of lists that are not too long.
+fn check_records(rs: &[u8], ds: &[u8]) -> Verdict
+    requires { ⌜ Few (now rs) (now ds) ⌝ }
+    ensures { λ v. ⌜ v ≡ recordsVerdict (now (rs .entry)) (now (ds .entry)) ⌝ }
+{
+    let resources = resources(rs);
+    let r = lowest_resource(rs);
+    if r < resources {
+        return Verdict::Refused(Reason::BadResource, r);
+    }
+    let d = lowest_device(ds, resources);
+    if d < devices(ds) {
+        return refusal(ds, d, resources);
+    }
+    Verdict::Done(0)
+}
+
+// The answer for any lists and a buffer of so many bytes, done with the bytes of the table.
+pub fn verdict(version: u32, rs: &[u8], ds: &[u8], room: usize) -> Verdict
+    ensures { λ v. ⌜ v ≡ writeVerdict version (now (rs .entry)) (now (ds .entry)) room ⌝ }
+{
+    if !table::header::version_good(version) {
+        return Verdict::Refused(Reason::NotATable, 0);
+    }
+    let w = table::header::version_width(version);
+    let resources = resources(rs);
+    let devices = devices(ds);
+    if (resources > 8 * w) | (devices > 8 * w) {
+        return Verdict::Refused(Reason::TooMany, 0);
+    }
+    let size = table::fields::size(w, resources, devices);
+    if room < size {
+        return Verdict::Refused(Reason::NoRoom, 0);
+    }
+    let records = check_records(rs, ds);
+    if !rules::passes(records) {
+        return records;
+    }
+    Verdict::Done(size)
+}
