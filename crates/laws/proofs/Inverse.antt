@@ -83,6 +83,18 @@ module _ (version : ℕ) (rs ds : List ℕ) (room : ℕ) (e : passes (writeVerdi
   unfolding recordsVerdict
   written-good = sym (same-verdict version rs ds written-sayable) ∙ first-through _ (Done 0) records-pass
 
+  -- the buffer has room for them
+  pub written-room : writtenSize version rs ds ≤ room
+  unfolding writeVerdict
+  written-room = leb-true _ _ (unless-at _ _ _ (first-both _ _ _ (first-both _ _ _ (first-both _ _ _ e .1) .1) .0))
+
+  pub written-done : writeVerdict version rs ds room ≡ Done (writtenSize version rs ds)
+  unfolding writeVerdict recordsVerdict
+  written-done =
+      let records : recordsVerdict rs ds ≡ Done 0 = first-through _ (Done 0) records-pass in
+      rw (written-sayable .known, written-sayable .counts, le-leb (writtenSize version rs ds) room written-room, records)
+      (unfold firstOf unless passes in refl)
+
   pub written-long : length t ≡ writtenSize version rs ds
   written-long = table-long version rs ds written-sayable
 

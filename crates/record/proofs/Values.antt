@@ -13,7 +13,7 @@ use Rattle.rules.specs.Index.{eachFrom, each, joinFrom, join}
 use Rattle.rules.specs.Station as station
 use Rattle.rules.specs.Station.{fieldsSize, zerosSize, recordSize, fieldBytes}
 use Rattle.laws.proofs.Parts.{join-length}
-use Rattle.laws.proofs.Joined.{joined-none, joined-room, joined-next, joined-done}
+use Rattle.laws.proofs.Joined.{Rows, joined-none, joined-room, joined-small, joined-next, joined-done}
 use Rattle.record.specs.declared.device.Device.{Device}
 use Rattle.record.specs.Held.{held, setsBytes, heldBytes}
 
@@ -44,31 +44,29 @@ held-bytes w v = refl
 abbrev pub setBytes : ℕ → List ℕ → ℕ → List ℕ
 setBytes w sets k = bytesLE w (getD sets k 0)
 
-module _ (w : ℕ) (sets d : List ℕ) (at : ℕ) (room : at + 5 * w ≤ length d) where
-  long : (j : ℕ) → length (setBytes w sets j) ≡ w
-  long j = bytes-length w (getD sets j 0)
+set-rows : (w : ℕ) (sets : List ℕ) → Rows (setBytes w sets) w
+set-rows w sets = record { long = λ j. bytes-length w (getD sets j 0) }
 
+module _ (w : ℕ) (sets d l : List ℕ) (at i p : ℕ) (room : at + 5 * w ≤ length d) (e : Emitted d at (join (setBytes w sets) i) l p)
+    (h : i < 5) where
   fits : at + w * 5 ≤ length d
   fits = omega (arith, mul-comm w 5)
 
-  pub sets-none : Emitted d at (join (setBytes w sets) 0) d at
-  sets-none = joined-none (setBytes w sets) w 5 long d at fits
+  pub set-room : p + w ≤ length l
+  set-room = joined-room (setBytes w sets) w 5 5 d l at i p (set-rows w sets) fits refl e h
 
-  module _ (l : List ℕ) (i p : ℕ) (e : Emitted d at (join (setBytes w sets) i) l p) where
-    pub set-room : i < 5 → p + w ≤ length l
-    set-room h = joined-room (setBytes w sets) w 5 long d at fits l i p e h
+  pub set-small : length d < 2 ^ 64 → p + w < 2 ^ 64
+  set-small u = joined-small (setBytes w sets) w 5 5 d l at i p (set-rows w sets) fits refl e h w refl u
 
-    pub set-small : i < 5 → length d < 2 ^ 64 → p + w < 2 ^ 64
-    set-small h u = omega (arith, set-room h, e .long)
+  pub set-next : (l′ : List ℕ) → l′ ≡ put l p (bytesLE w (getD sets i 0)) → Emitted d at (join (setBytes w sets) (i + 1)) l′ (p + w)
+  set-next l′ q = joined-next (setBytes w sets) w 5 5 d l at i p (set-rows w sets) fits refl e h w l′ refl q
 
-    pub set-next : (l′ : List ℕ) → i < 5 → l′ ≡ put l p (bytesLE w (getD sets i 0)) → Emitted d at (join (setBytes w sets) (i + 1)) l′ (p + w)
-    set-next l′ h q = joined-next (setBytes w sets) w 5 long d at fits l i p e l′ h q
+pub sets-done : (w : ℕ) (sets d l : List ℕ) (at i p : ℕ) → Emitted d at (join (setBytes w sets) i) l p → i ≤ 5 → 5 ≤ i
+    → l ≡ put d at (setsBytes w sets)
+unfolding setsBytes
+sets-done w sets d l at i p e h g = joined-done (setBytes w sets) 5 5 d l at i p e h g refl
 
-    pub sets-done : i ≤ 5 → 5 ≤ i → l ≡ put d at (setsBytes w sets)
-    unfolding setsBytes
-    sets-done h g = joined-done (setBytes w sets) w 5 long d at fits l i p e h g
-
-pub ruleset sets-loop = (sets-none, set-room, set-small, set-next, sets-done)
+pub ruleset sets-loop = (joined-none, set-room, set-small, set-next, sets-done)
 
 -- ---- the whole device: five runs, each where the one before ends
 sets-long : (w : ℕ) (sets : List ℕ) → length (setsBytes w sets) ≡ 5 * w

@@ -128,20 +128,20 @@ sized-by t c l header b y d z =
 
 -- ---- one check of a chain: passed, and refused
 module _ (rest : List Verdict) (last : Verdict) where
-  unless-passed : (good : Bool) (why : Reason) (at : ℕ) → good ≡ true → firstOf (unless good why at ∷ rest) last ≡ firstOf rest last
+  pub unless-passed : (good : Bool) (why : Reason) (at : ℕ) → good ≡ true → firstOf (unless good why at ∷ rest) last ≡ firstOf rest last
   unless-passed good why at p = first-pass (unless good why at) rest last (ap passes (unless-of good why at p) ∙ done-passes 0)
 
-  unless-refused : (good : Bool) (why : Reason) (at : ℕ) → good ≡ false → Refused why at ≡ firstOf (unless good why at ∷ rest) last
+  pub unless-refused : (good : Bool) (why : Reason) (at : ℕ) → good ≡ false → Refused why at ≡ firstOf (unless good why at ∷ rest) last
   unless-refused good why at p =
       let s = unless-stop good why at p in
       sym (first-stop (unless good why at) rest last (ap passes s ∙ refused-stops why at) ∙ s)
 
   module _ (bad : ℕ → Bool) (n m i : ℕ) (refusal : ℕ → Verdict) (e : i ≡ least bad n) (f : m ≡ n) where
-    lowest-passed : m ≤ i → firstOf (lowest bad n refusal ∷ rest) last ≡ firstOf rest last
+    pub lowest-passed : m ≤ i → firstOf (lowest bad n refusal ∷ rest) last ≡ firstOf rest last
     unfolding passes lowest
     lowest-passed h = first-pass (lowest bad n refusal) rest last (rw (le-ltb (least bad n) n (rw (f, e) at h)) refl)
 
-    lowest-refused : (v : Verdict) → v ≡ refusal i → passes v ≡ false → i < m → v ≡ firstOf (lowest bad n refusal ∷ rest) last
+    pub lowest-refused : (v : Verdict) → v ≡ refusal i → passes v ≡ false → i < m → v ≡ firstOf (lowest bad n refusal ∷ rest) last
     lowest-refused v g r h =
         let s = lowest-stop bad n i refusal e (rw f at h) ∙ sym g in
         sym (first-stop (lowest bad n refusal) rest last (ap passes s ∙ r) ∙ s)

@@ -133,7 +133,8 @@ pub fn verdict(version: u32, rs: &[u8], ds: &[u8], room: usize) -> Verdict
     let w = table::header::version_width(version);
     let resources = resources(rs);
     let devices = devices(ds);
-    if (resources > 8 * w) | (devices > 8 * w) {
+    let few = (resources <= 8 * w) & (devices <= 8 * w);
+    if !few {
         return Verdict::Refused(Reason::TooMany, 0);
     }
     let size = table::fields::size(w, resources, devices);

@@ -39,7 +39,8 @@ pub fn describe(table: &[u8], resources: &mut [u8], devices: &mut [u8]) -> Verdi
     }
     let r = 4 * table::fields::resources(table);
     let d = 54 * table::fields::devices(table);
-    if (resources.len() < r) | (devices.len() < d) {
+    let room = (r <= resources.len()) & (d <= devices.len());
+    if !room {
         return Verdict::Refused(Reason::NoRoom, 0);
     }
     let end = 8 + r;

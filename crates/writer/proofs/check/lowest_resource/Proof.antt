@@ -1,59 +1,22 @@
+-- The loop keeps: the lowest bad resource is the lowest from i on. The measure is how many are left.
+use mathlib.Core.Path.{_≡_}
+use mathlib.Core.Bool.{not}
+use Prim.Native.Nat.{_-_, _≤_}
+use Rattle.rules.specs.Index.{leastFrom, least}
+use Rattle.rules.specs.Describe.{describedR}
+use Rattle.rules.specs.Write.{describedResourceGood}
+use Rattle.table.proofs.Verdicts.{lowest-bad}
+use borrow.Author.Needs.{needs}
 use Rattle.writer.proofs.check.lowest_resource.Statement.{statement}
 use Rattle.writer.proofs.check.lowest_resource.Tie as tie
-use Rattle.writer.proofs.check.lowest_resource.Reads as reads
-use Rattle.writer.proofs.check.lowest_resource.Lts as lts
-use Rattle.writer.proofs.check.resource_bad.Reads as resource-bad-reads
-use Rattle.writer.proofs.check.resources.Reads as resources-reads
 
 abbrev Inv-loop : tie.InvT-loop
-Inv-loop rs n i₀ i = ?
+Inv-loop rs n i₀ i = (i ≤ n) × (leastFrom (λ j. not (describedResourceGood rs j)) i (n - i) ≡ least (λ j. not (describedResourceGood rs j)) (describedR rs))
 
 abbrev μ-loop : tie.MeasureT-loop
-μ-loop rs n i₀ i = ?
-
--- src/check.rt:46:9
-resources-requires : tie.Need-resources-requires Inv-loop μ-loop
-resources-requires c κs = ?
-
--- src/check.rt:48:5
-loop-holds : tie.Need-loop-holds Inv-loop μ-loop
-loop-holds c = ?
-
--- src/check.rt:50:9
-add-i : tie.Need-add-i Inv-loop μ-loop
-add-i c = ?
-
--- src/check.rt:51:12
-resource-bad-requires : tie.Need-resource-bad-requires Inv-loop μ-loop
-resource-bad-requires c κs = ?
-
--- src/check.rt:52:13
-returns : tie.Need-returns Inv-loop μ-loop
-returns c = ?
-
--- src/check.rt:48:5
-loop-less : tie.Need-loop-less Inv-loop μ-loop
-loop-less c = ?
-
--- src/check.rt:48:5
-loop-again : tie.Need-loop-again Inv-loop μ-loop
-loop-again c = ?
-
--- src/check.rt:43:1
-returns-2 : tie.Need-returns-2 Inv-loop μ-loop
-returns-2 c = ?
+μ-loop rs n i₀ i = n - i
 
 pub lowest-resource-spec : {M : Type 1} → statement M
 lowest-resource-spec =
     tie.close
-    (tie.spec
-    Inv-loop
-    μ-loop
-    resources-requires
-    loop-holds
-    add-i
-    resource-bad-requires
-    returns
-    loop-less
-    loop-again
-    returns-2)
+    (tie.spec Inv-loop μ-loop (λ c κs. search needs) (λ c. search (needs, lowest-bad)) (λ c. search needs) (λ c κs. search needs) (λ c. search (needs, lowest-bad)) (λ c. search needs) (λ c. search (needs, lowest-bad)) (λ c. search (needs, lowest-bad)))
