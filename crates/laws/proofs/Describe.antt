@@ -54,11 +54,11 @@ module _ (t : List ℕ) (b : AllBytes t) (a : Accepted t) where
   abbrev described : ℕ → List ℕ
   described d = fieldBytes describedWidth (deviceAt w t (start d))
 
-  described-long : length (devicesOf t) ≡ describedSize * countD t
+  pub described-long : length (devicesOf t) ≡ describedSize * countD t
   unfolding devicesOf
   described-long = join-length described describedSize (λ d. fields-long describedWidth (deviceAt w t (start d))) 0 (countD t)
 
-  resources-long : length (resourcesOf t) ≡ 4 * countR t
+  pub resources-long : length (resourcesOf t) ≡ 4 * countR t
   unfolding resourcesOf
   resources-long = length-take-le (4 * countR t) (drop 8 t) (unfold deviceStart in omega (arith, length-drop 8 t, a .long))
 

@@ -10,23 +10,25 @@ use borrow.Author.Tests.{leb-true, le-leb, ltb-true, not-false}
 use lib.Pow.{pow-mono}
 use lib.Dec.{leb}
 use lib.ListN.{length}
+use Rattle.words.proofs.Put.{take-put}
 use Rattle.rules.specs.declared.Verdict.the-variants.{Done}
 use Rattle.rules.specs.declared.Reason.the-variants.{BadResource}
-use Rattle.rules.specs.Answers.{passes, firstOf, unless}
-use Rattle.rules.specs.Station.{versionWidth, versionOf, limit}
+use Rattle.rules.specs.Answers.{numberOf, countOf, passes, firstOf, unless}
+use Rattle.rules.specs.Station.{versionWidth, versionOf, limit, countR, countD}
 use Rattle.rules.specs.Table.{allGood, setGood, valueFields, tableVerdict}
 use Rattle.rules.specs.Describe.{describedWidth, describedSize, describedR, describedD, describedDevice, resourcesOf, devicesOf}
 use Rattle.rules.specs.Describe.{tableBytes}
 use Rattle.rules.specs.Write.{describedResourceGood, describedFieldsGood, describedDeviceGood, recordsVerdict, describedCountsGood}
 use Rattle.rules.specs.Write.{writtenSize, writeVerdict, write, describeVerdict, describe}
 use Rattle.rules.proofs.Answers.{first-both, first-through, unless-at, refused-stops, lowest-at}
-use Rattle.laws.specs.Inverse.{AllBytes, Describes, Makes, Sayable}
+use Rattle.laws.specs.Inverse.{AllBytes, Describes, Makes, WrittenDescribes, DescribedMakes, Sayable}
 use Rattle.laws.proofs.Tests.{both-true}
 use Rattle.laws.proofs.Image.{bytes-bits}
 use Rattle.laws.proofs.Accepted.{DeviceRules, values-rules, refuses, accepted}
 use Rattle.laws.proofs.Good.{good-each}
 use Rattle.laws.proofs.Write.{count-r, count-d, table-long, resources-back, devices-back}
-use Rattle.laws.proofs.Describe.{described-sayable, table-back}
+use Rattle.laws.proofs.Describe.{described-long, resources-long, described-sayable, table-back}
+use Rattle.laws.proofs.Demand3.{number-passes}
 use Rattle.laws.proofs.Verdict.{same-verdict}
 
 -- records that are each whole are all of a list that has no more than them
@@ -129,3 +131,29 @@ described-makes t bytes e a l =
     let done : writeVerdict version rs ds (length a) ≡ Done (length t) =
     rw (s .known, s .counts, long, le-leb (length t) (length a) l, records) (unfold firstOf unless passes in refl) in
     rw (done, back) (unfold passes in refl)
+
+-- ---- as the functions leave their buffers, number and count being those of the answer
+pub write-inverse : (version : ℕ) (rs ds table : List ℕ) → AllBytes ds
+    → WrittenDescribes rs ds (numberOf (write version rs ds table .verdict)) (countOf (write version rs ds table .verdict))
+    (write version rs ds table .table)
+unfolding write
+write-inverse version rs ds table bytes z =
+    let e = number-passes (writeVerdict version rs ds (length table)) z in
+    let count : countOf (writeVerdict version rs ds (length table)) ≡ writtenSize version rs ds =
+    ap countOf (written-done version rs ds (length table) e) in
+    rw (e, count, take-put table (tableBytes version rs ds) (writtenSize version rs ds) (written-long version rs ds (length table) e))
+    (written-describes version rs ds (length table) bytes e)
+
+pub describe-inverse : (t rs ds : List ℕ) → AllBytes t
+    → DescribedMakes t (numberOf (describe t rs ds .verdict)) (describe t rs ds .resources) (describe t rs ds .devices)
+unfolding describe describeVerdict
+describe-inverse t rs ds bytes z =
+    let e = number-passes (describeVerdict t (length rs) (length ds)) z in
+    let passed = first-both _ _ _ e .0 in
+    let a = accepted t passed in
+    rw (
+      e,
+      take-put rs (resourcesOf t) (4 * countR t) (resources-long t bytes a),
+      take-put ds (devicesOf t) (describedSize * countD t) (described-long t bytes a),
+    )
+    (described-makes t bytes passed)

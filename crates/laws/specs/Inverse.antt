@@ -3,10 +3,10 @@ use Prim.Native.Nat.{ℕ, _+_, _*_, _^_, _≤_, _<_}
 use mathlib.Core.Path.{_≡_}
 use mathlib.Core.Bool.{true}
 use mathlib.Core.List.{List}
-use lib.ListN.{length, getD}
+use lib.ListN.{length, getD, take}
 use Rattle.words.specs.Words.{put}
 use Rattle.rules.specs.declared.Verdict.the-variants.{Done}
-use Rattle.rules.specs.Station.{versionGood, versionWidth, versionOf}
+use Rattle.rules.specs.Station.{versionGood, versionWidth, versionOf, countR, countD}
 use Rattle.rules.specs.Table.{tableVerdict}
 use Rattle.rules.specs.Describe.{describedSize, describedR, describedD, describedDevice, tableBytes}
 use Rattle.rules.specs.Write.{describedCountsGood, recordsVerdict, Written, write, Described, describe}
@@ -25,6 +25,14 @@ Describes t rs ds =
 abbrev pub Makes : ℕ → List ℕ → List ℕ → List ℕ → Type 0
 Makes version rs ds t =
     (a : List ℕ) → length t ≤ length a → write version rs ds a ≡ record { verdict = Done (length t); table = put a 0 t }
+
+-- done (0), the count of the writer's bytes describe the lists that they were written from
+abbrev pub WrittenDescribes : List ℕ → List ℕ → ℕ → ℕ → List ℕ → Type 0
+WrittenDescribes rs ds number count table = number ≡ 0 → Describes (take count table) rs ds
+
+-- done (0), the two lists at the front of the buffers make the table that they describe, as its own version
+abbrev pub DescribedMakes : List ℕ → ℕ → List ℕ → List ℕ → Type 0
+DescribedMakes t number rs ds = number ≡ 0 → Makes (versionOf t) (take (4 * countR t) rs) (take (describedSize * countD t) ds) t
 
 -- lists that a table of a version can say: whole records, not too many, and no set has a bit that the version cannot hold
 pub record Sayable (version : ℕ) (rs ds : List ℕ) : Type 0 where
