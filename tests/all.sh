@@ -59,13 +59,11 @@ host() {
   rm -f "$log"
 }
 
-# the header is valid in each language
+# the header is valid in each language, and its own functions read and write what they say
 header() {
-  local strict=(-Wall -Wextra -Wpedantic -Werror -fsyntax-only -Iinclude)
-  echo '#include "sailgarnet.h"' > target/header.c
-  cp target/header.c target/header.cpp
-  gcc -std=c99 "${strict[@]}" target/header.c && gcc -std=c11 "${strict[@]}" target/header.c &&
-    g++ -std=c++17 "${strict[@]}" target/header.cpp
+  local strict=(-Wall -Wextra -Wpedantic -Wconversion -Werror -Iinclude tests/header.c -o target/header)
+  gcc -std=c99 "${strict[@]}" && target/header && gcc -std=c11 "${strict[@]}" && target/header &&
+    g++ -std=c++17 "${strict[@]}" && target/header
 }
 
 # the board's program against the proved library, with other flags in $@
