@@ -66,10 +66,10 @@ header() {
     g++ -std=c++17 "${strict[@]}" && target/header
 }
 
-# the board's program against the proved library, with other flags in $@
-board() {
-  gcc -std=c99 -Wall -Wextra -Wpedantic -Werror -Iinclude "$@" examples/board.c target/staticlib/libsailgarnet.a -o target/board &&
-    target/board | diff - examples/board.out
+# the program $1 of examples/ against the proved library, with other flags in the rest
+example() {
+  gcc -std=c99 -Wall -Wextra -Wpedantic -Werror -Iinclude "${@:2}" "examples/$1.c" target/staticlib/libsailgarnet.a -o "target/$1" &&
+    "target/$1" | diff - "examples/$1.out"
 }
 
 # every exported function with each lent buffer beside a page that may not be touched
@@ -93,8 +93,10 @@ else
   step rt staticlib sailgarnet
 fi
 step header
-step board -O2
-step board -g -fsanitize=address,undefined
+step example board -O2
+step example board -g -fsanitize=address,undefined
+step example edit -O2
+step example edit -g -fsanitize=address,undefined
 step bash tests/stack.sh
 step fence
 host
