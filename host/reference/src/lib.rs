@@ -4,7 +4,7 @@
 //! It shares no code with the proved planner. The two are compared input by
 //! input, and the time of this one is the measure for the time of the other.
 //!
-//! [`check_table`], [`fresh`], [`plan`], [`check`], [`write`] and [`describe`]
+//! [`check_table`], [`fresh`], [`plan`], [`check`], [`write()`] and [`describe`]
 //! take byte buffers as the C functions do. [`plan_words`] and [`check_words`]
 //! take 32-bit words.
 //! [`effect`] gives what a permitted request does, and [`demand3`] carries out
