@@ -36,11 +36,11 @@ fn word_count(kind: &str) -> Result<usize, String> {
 
 fn from_words(words: &[&str]) -> Result<Request, String> {
     match (words[0].to_ascii_lowercase().as_str(), &words[1..]) {
-        ("move", [d, state]) => Ok(Request::move_to(device(d)?, device_state(state)?)),
+        ("move", [d, state]) => Ok(Request::move_to(device(d)?, device_state(state)?.into())),
         ("arm", [d, s, state]) => Ok(Request::arm(
             device(d)?,
-            sleep_state(s)?,
-            device_state(state)?,
+            sleep_state(s)?.into(),
+            device_state(state)?.into(),
         )),
         ("disarm", [d]) => Ok(Request::disarm(device(d)?)),
         ("move", _) => Err("a move is written like: move 1 D2".into()),
@@ -54,7 +54,8 @@ fn device(word: &str) -> Result<u32, String> {
         .map_err(|_| format!("{word:?} is no device number"))
 }
 
-fn device_state(word: &str) -> Result<u32, String> {
+/// The number of a device state.
+pub fn device_state(word: &str) -> Result<u8, String> {
     match word.to_ascii_lowercase().as_str() {
         "d0" => Ok(0),
         "d1" => Ok(1),
@@ -68,7 +69,8 @@ fn device_state(word: &str) -> Result<u32, String> {
     }
 }
 
-fn sleep_state(word: &str) -> Result<u32, String> {
+/// The number of a sleep state.
+pub fn sleep_state(word: &str) -> Result<u8, String> {
     match word.to_ascii_lowercase().as_str() {
         "s0" => Ok(0),
         "s1" => Ok(1),

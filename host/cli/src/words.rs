@@ -95,6 +95,14 @@ pub fn count(number: usize, noun: &str) -> String {
     }
 }
 
+/// How large a table is that the planner found good or wrote.
+pub fn table_size(table: &[u8]) -> String {
+    let number = |byte: usize, noun| count(table[byte].into(), noun);
+    let (resources, devices) = (number(3, "resource"), number(6, "device"));
+    let bytes = count(table.len(), "byte");
+    format!("Table of {bytes}: {resources}, {devices}\n")
+}
+
 /// A text in lines of at most `width` letters, broken between words.
 pub fn wrap(text: &str, width: usize) -> Vec<String> {
     let mut lines = vec![String::new()];
