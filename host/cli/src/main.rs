@@ -1,5 +1,6 @@
-//! The command `sailgarnet`: shows power tables, plans requests, and checks and
-//! traces lists of method calls.
+//! The command `sailgarnet`: shows power tables, describes them as text and
+//! writes them from it, plans requests, and checks and traces lists of method
+//! calls.
 
 #![forbid(unsafe_code)]
 
@@ -10,6 +11,10 @@ mod demo;
 mod files;
 mod grid;
 mod help;
+mod line;
+mod objects;
+mod printer;
+mod reader;
 mod request;
 mod show;
 mod svg;
@@ -22,14 +27,16 @@ use std::process::ExitCode;
 
 /// The exit status of a refusal.
 const REFUSED: u8 = 1;
-/// The exit status of wrong usage and of files that cannot be read or written.
+/// The exit status of wrong usage, of a mistake in a text and of files that
+/// cannot be read or written.
 const FAILED: u8 = 2;
 
 /// What a command has to say when it could do its work.
 pub struct Report {
     /// The text for standard output.
     pub text: String,
-    /// Whether the table, the state, the request or the list was refused.
+    /// Whether the table, the station, the state, the request or the list was
+    /// refused.
     pub refused: bool,
 }
 
