@@ -1,5 +1,7 @@
 use std::collections::BTreeSet;
 
+use cases::{Record, Resource, Station};
+
 use crate::desk::Desk;
 
 const EXAMPLE: &str = include_str!("../../../../examples/station.txt");
@@ -59,6 +61,83 @@ fn spelling_does_not_matter() {
     for text in [marked, small_letters, capitals, returns, tabs, names] {
         assert_eq!(written(&desk, &text), BENCH, "{text}");
     }
+}
+
+/// A station whose fields differ from each other, so that each is known by its
+/// place.
+fn distinct_station() -> Station {
+    let resource = |level: u8| Resource {
+        level,
+        order: 256 * u16::from(level) + 7,
+    };
+    Station {
+        resources: (0..5).map(resource).collect(),
+        devices: vec![
+            Record {
+                ps: 0b1011,
+                pr: 0b1011,
+                sets: [1, 2, 0, 4, 0],
+                ..Record::default()
+            },
+            Record {
+                parent: 0,
+                ps: 0b1101,
+                flags: 1,
+                sets: [0, 0, 0, 0, 0b11000],
+                sxd: [0, 1, 2, 3],
+                sxw: [0, 1, 2, 3, 4],
+                deepest: 4,
+                ..Record::default()
+            },
+            Record {
+                parent: 1,
+                pr: 0b1101,
+                flags: 3,
+                sets: [1, 0, 2, 4, 8],
+                deepest: 1,
+                ..Record::default()
+            },
+        ],
+    }
+}
+
+const DISTINCT: &str = "\
+version 1
+resource a level S0 order 7
+resource b level S1 order 263
+resource c level S2 order 519
+resource d level S3 order 775
+resource e level S4 order 1031
+device a
+  _PS0 _PS1 _PS3
+  _PR0 a
+  _PR1 b
+  _PR3 c
+device b
+  parent a
+  _PS0 _PS2 _PS3
+  _PRW S4 e d
+  _S1D D0
+  _S2D D1
+  _S3D D2
+  _S4D D3hot
+  _S0W D0
+  _S1W D1
+  _S2W D2
+  _S3W D3hot
+  _S4W D3cold
+device c
+  parent b
+  _DSW
+  _PR0 a
+  _PR2 b
+  _PR3 c
+  _PRW S1 d";
+
+#[test]
+fn each_word_has_its_field() {
+    let desk = Desk::new("write_fields");
+    assert_eq!(written(&desk, DISTINCT), distinct_station().table());
 }
 
 /// The lines of a device, and resources and devices, may stand in any order.
