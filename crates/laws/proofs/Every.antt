@@ -4,7 +4,7 @@ use mathlib.Core.Path.{_≡_, refl, sym, ap, _∙_}
 use mathlib.Core.Bool.{Bool, true, false, not, _&&_}
 use mathlib.Core.Logic.{⊎-elim}
 use Prim.Native.Nat.{ℕ, zero, suc, _+_, _-_, _≤_, _<_}
-use native.Mathlib.Nat.{eq-or-lt-of-le}
+use native.Mathlib.Nat.{eq-or-lt-of-le, suc-add}
 use native.Mathlib.Omega.{arith}
 use borrow.Author.Tests.{le-leb, lt-leb, ltb-true}
 use lib.Dec.{leb, ltb}
@@ -53,13 +53,26 @@ every-suc f n =
     every-of f (n + 1) (λ i l. ⊎-elim (λ q. rw q (a .1)) (λ m. every-at f n i (a .0) m) (eq-or-lt-of-le {n = i} {m = n} (omega arith))))
 
 -- ---- what is the same below n
-least-ext : (f g : ℕ → Bool) (i k : ℕ) → ((j : ℕ) → i ≤ j → j < i + k → f j ≡ g j) → leastFrom f i k ≡ leastFrom g i k
+pub least-ext : (f g : ℕ → Bool) (i k : ℕ) → ((j : ℕ) → i ≤ j → j < i + k → f j ≡ g j) → leastFrom f i k ≡ leastFrom g i k
 unfolding leastFrom
 least-ext f g i zero h = refl
 least-ext f g i (suc k) h =
     let rest = least-ext f g (suc i) k (λ j a b. h j (omega arith) (omega arith)) in
     let same = h i (omega arith) (omega arith) in
     decide (g i) (λ e. rw (same ∙ e, e, leastFrom) refl) (λ e. rw (same ∙ e, e, leastFrom) rest)
+
+-- numbers past the first hit do not count
+pub least-cut : (f : ℕ → Bool) (i k j : ℕ) → (0 < j → f (i + k) ≡ true) → leastFrom f i (k + j) ≡ leastFrom f i k
+unfolding leastFrom
+least-cut f i zero zero h = refl
+least-cut f i zero (suc j) h =
+    let e : i + 0 ≡ i = omega arith in
+    let n : 0 + suc j ≡ suc j = omega arith in
+    rw (n, rw e at (h (omega arith)), leastFrom) refl
+least-cut f i (suc k) j h =
+    let e : suc i + k ≡ i + suc k = omega arith in
+    let rest = least-cut f (suc i) k j (λ z. rw e (h z)) in
+    rw (suc-add k j) (decide (f i) (λ g. rw (g, leastFrom) refl) (λ g. rw (g, leastFrom) rest))
 
 pub every-ext : (f g : ℕ → Bool) (n : ℕ) → ((i : ℕ) → i < n → f i ≡ g i) → every f n ≡ every g n
 unfolding every

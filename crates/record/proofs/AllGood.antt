@@ -4,7 +4,7 @@
 use mathlib.Core.Path.{_≡_, refl, sym, ap, _∙_}
 use mathlib.Core.Bool.{Bool, true, false, not, _&&_, _||_, and-assoc, and-true, or-true, true≢false}
 use mathlib.Core.List.{List}
-use Prim.Native.Nat.{ℕ, zero, suc, _+_, _*_, _%_, _^_, _<_}
+use Prim.Native.Nat.{ℕ, zero, suc, _+_, _*_, _%_, _^_, _≤_, _<_}
 use native.Mathlib.Nat.{mul-zero, mul-le-mul-right, pow-suc}
 use native.Mathlib.Omega.{arith}
 use borrow.Author.Tests.{eqb-true, eq-eqb, ltb-true, lt-ltb, not-true, not-false}
@@ -16,17 +16,17 @@ use Rattle.sets.proofs.Laws.{decide, or-none}
 use Rattle.words.specs.Words.{readLE}
 use Rattle.words.proofs.Twice.{read-split}
 use Rattle.rules.specs.Index.{eachFrom, each, every}
-use Rattle.rules.specs.Station.{Device, recordSize, deviceAt}
+use Rattle.rules.specs.Station.{Device, recordSize, fieldsSize, deviceAt}
 use Rattle.rules.specs.Table.{Field, field, firstBad, allGood, parentGood, present, setGood, sxdGood, sxwGood, deepestGood, headFields}
 use Rattle.rules.specs.Table.{setFields, sxdFields, sxwFields, deepestFields, valueFields, zeroFields, deviceFields, objectsGood}
 use Rattle.rules.proofs.Index.{every-at, every-of}
 use Rattle.laws.proofs.All.{all-each, each-at}
 use Rattle.laws.proofs.Good.{none-bad, joined, Good, good-each, good-all}
-use Rattle.laws.proofs.Accepted.{fields-inside}
+use Rattle.laws.proofs.Accepted.{values-inside, fields-inside}
 use Rattle.laws.proofs.Tests.{both-true}
 use Rattle.laws.proofs.Every.{same-test}
 use Rattle.laws.proofs.Tests as tests
-use Rattle.record.specs.Good.{setsFit, absentSet, setsAbsent}
+use Rattle.record.specs.Good.{setsFit, absentSet, setsAbsent, rowSize, rowGood}
 use Rattle.record.proofs.Tests.{objects-test}
 use Rattle.record.proofs.FirstBad.{zeroField}
 
@@ -188,20 +188,67 @@ zeros-test w t at n m f g =
     let apart = sum-zero (256 ^ w) (readLE w t start) (readLE 2 t (start + w)) (bytes-pos w) in
     rw (c, zeros w t at (w + 2) 0, i, split, apart, j, f, g) refl
 
--- ---- a record is its values and its zeros
-module _ (w resources : ℕ) (t : List ℕ) (d at : ℕ) (v : Bool) (e : v ≡ allGood (valueFields w resources d (deviceAt w t at))) where
-  pub values-bad : not v ≡ true → false ≡ allGood (deviceFields w resources t d at)
-  unfolding deviceFields
-  values-bad p = rw (joined, sym e ∙ not-true v p) refl
+-- ---- a record as the check of a run asks: values, zeros where there are any, objects
+module _ (zeros : Bool) (w resources : ℕ) (t : List ℕ) (d at : ℕ) (v : Bool)
+    (e : v ≡ allGood (valueFields w resources d (deviceAt w t at))) where
+  pub values-bad : not v ≡ true → true ≡ not (rowGood zeros w resources t d at)
+  unfolding rowGood
+  values-bad p = rw (sym e ∙ not-true v p) refl
 
-  pub zeros-decide : (z : Bool) → z ≡ allGood (zeroFields w t at) → not v ≡ false → z ≡ allGood (deviceFields w resources t d at)
-  unfolding deviceFields
-  zeros-decide z f p = f ∙ rw (joined, sym e ∙ not-false v p) refl
+  module _ (p : not v ≡ false) (z : Bool) (f : z ≡ (not zeros || allGood (zeroFields w t at))) where
+    pub zeros-bad : not z ≡ true → true ≡ not (rowGood zeros w resources t d at)
+    unfolding rowGood
+    zeros-bad q = rw (sym e ∙ not-false v p, sym f ∙ not-true z q) refl
 
--- a record without a bad field is one whose fields are all good
-pub device-good : (w resources : ℕ) (t : List ℕ) (d at : ℕ)
-    → eqb (firstBad (recordSize w) (deviceFields w resources t d at)) (recordSize w) ≡ allGood (deviceFields w resources t d at)
-device-good w resources t d at = none-bad (recordSize w) _ (fields-inside w resources t d at)
+    pub objects-left : (o : Bool) → not z ≡ false → o ≡ objectsGood (deviceAt w t at) → not o ≡ not (rowGood zeros w resources t d at)
+    unfolding rowGood
+    objects-left o q g = rw (sym e ∙ not-false v p, sym f ∙ not-false z q, g) refl
+
+pub zeros-none : (zeros b : Bool) → not zeros ≡ true → true ≡ (not zeros || b)
+zeros-none zeros b p = rw p refl
+
+pub zeros-there : (zeros z b : Bool) → not zeros ≡ false → z ≡ b → z ≡ (not zeros || b)
+zeros-there zeros z b p e = rw p e
+
+-- with or without zeros, the fields end inside the record
+pub fields-in-row : (zeros : Bool) (w at n : ℕ) → at + rowSize zeros w ≤ n → at + fieldsSize w ≤ n
+fields-in-row true w at n h = omega arith
+fields-in-row false w at n h = h
+
+pub zeros-in-row : (zeros : Bool) (w at n : ℕ) → not zeros ≡ false → at + rowSize zeros w ≤ n → at + recordSize w ≤ n
+zeros-in-row zeros w at n e h = rw (not-false zeros e) at h
+
+pub size-with : (zeros : Bool) (w n : ℕ) → zeros ≡ true → n ≡ recordSize w → n ≡ rowSize zeros w
+size-with zeros w n e f = rw e f
+
+pub size-without : (zeros : Bool) (w : ℕ) → zeros ≡ false → 14 + 5 * w ≡ rowSize zeros w
+size-without zeros w e = rw e refl
+
+pub ruleset row-tests = (
+  values-bad,
+  zeros-bad,
+  objects-left,
+  zeros-none,
+  zeros-there,
+  fields-in-row,
+  zeros-in-row,
+  size-with,
+  size-without,
+)
+
+-- a table's record is one with zeros
+pub device-row : (w resources : ℕ) (t : List ℕ) (d at : ℕ)
+    → rowGood true w resources t d at
+    ≡ eqb (firstBad (recordSize w) (deviceFields w resources t d at)) (recordSize w) && objectsGood (deviceAt w t at)
+unfolding rowGood deviceFields
+device-row w resources t d at =
+    let fields = deviceFields w resources t d at in
+    rw (none-bad (recordSize w) fields (fields-inside w resources t d at)) (rw joined refl)
+
+-- the values are good where none is bad
+pub value-good : (w resources d : ℕ) (v : Device) → eqb (firstBad (recordSize w) (valueFields w resources d v)) (recordSize w) ≡ allGood
+    (valueFields w resources d v)
+value-good w resources d v = none-bad (recordSize w) _ (values-inside w resources d v)
 
 -- ---- the parts of a device's values
 module _ (w resources d : ℕ) (dev : Device) where
@@ -256,7 +303,5 @@ pub ruleset quick-tests = (
   all-present,
   fit-test,
   zeros-test,
-  values-bad,
-  zeros-decide,
   same-masks-agree,
 )

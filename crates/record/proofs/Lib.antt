@@ -3,3 +3,4 @@ pub mod Tests
 pub mod FirstBad
 pub mod AllGood
 pub mod Values
+pub mod Run

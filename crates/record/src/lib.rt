@@ -4,6 +4,7 @@
 pub mod bad;
 pub mod device;
 pub mod good;
+pub mod lowest;
 pub mod quick;
 pub mod read;
 pub mod word;

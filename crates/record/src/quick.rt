@@ -4,7 +4,7 @@ ghost use mathlib.Core.Path.{_≡_};
 ghost use Prim.Native.Nat.{_+_, _<_, _≤_};
 ghost use lib.ListN.{length};
 ghost use Rattle.rules.specs.Station.{Wide, limit, recordSize, fieldsSize, deviceAt};
-ghost use Rattle.rules.specs.Table.{allGood, headFields, sxdFields, sxwFields, valueFields, zeroFields, deviceFields, objectsGood};
+ghost use Rattle.rules.specs.Table.{allGood, headFields, sxdFields, sxwFields, valueFields, zeroFields, objectsGood};
 ghost use Rattle.record.specs.Good.{setsFit, absentSet, setsAbsent};
 
 // Bytes 0 to 3.
@@ -111,24 +111,13 @@ pub fn values_good(table: &[u8], at: usize, w: usize, d: usize, resources: usize
 }
 
 // Zeros to the record's end, read as one number of w bytes and one of two.
-fn zeros_good(table: &[u8], at: usize, w: usize) -> bool
+pub fn zeros_good(table: &[u8], at: usize, w: usize) -> bool
     requires { ⌜ Wide w × (at + recordSize w ≤ length (now table)) ⌝ }
     ensures { λ b. ⌜ b ≡ allGood (zeroFields w (now (table .entry)) at) ⌝ }
 {
     let zeros = crate::word::read(table, at + 14 + 5 * w, w);
     let rest = words::read16(table, at + 14 + 6 * w);
     (zeros == 0) & (rest == 0)
-}
-
-// Every field of device d's record.
-pub fn record_good(table: &[u8], at: usize, w: usize, d: usize, resources: usize) -> bool
-    requires { ⌜ Wide w × (at + recordSize w ≤ length (now table)) × (d < 256) × (resources ≤ limit w) ⌝ }
-    ensures { λ b. ⌜ b ≡ allGood (deviceFields w resources (now (table .entry)) d at) ⌝ }
-{
-    if !values_good(table, at, w, d, resources) {
-        return false;
-    }
-    zeros_good(table, at, w)
 }
 
 // Whether the objects agree. Where the states with `_PS` are those with `_PR`, D0 and D3hot among them, only `_DSW` is left to ask;

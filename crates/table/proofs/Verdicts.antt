@@ -4,7 +4,7 @@ use mathlib.Core.Path.{_≡_, refl, sym, ap, _∙_}
 use mathlib.Core.Bool.{Bool, true, false, not, _&&_}
 use mathlib.Core.List.{List, [], _∷_}
 use Prim.Native.Nat.{ℕ, _+_, _*_, _-_, _<_, _≤_}
-use native.Mathlib.Nat.{sub-zero, add-sub-cancel-left}
+use native.Mathlib.Nat.{mul-zero, add-sub-cancel-left}
 use native.Mathlib.Omega.{arith}
 use borrow.Author.Tests.{eqb-true, leb-true, eq-eqb, lt-ltb, le-ltb, le-leb, lt-leb, not-true, not-false}
 use lib.Dec.{eqb, leb}
@@ -13,20 +13,21 @@ use Rattle.rules.specs.declared.Verdict.{Verdict}
 use Rattle.rules.specs.declared.Verdict.the-variants.{Done, Refused}
 use Rattle.rules.specs.declared.Reason.{Reason}
 use Rattle.rules.specs.declared.Reason.the-variants.{NotATable, TooMany, WrongLength, BadResource, BadDevice, BadObjects}
-use Rattle.rules.specs.Index.{leastFrom, least}
+use Rattle.rules.specs.Index.{least}
 use Rattle.rules.specs.Answers.{passes, firstOf, unless, lowest}
-use Rattle.rules.specs.Station.{versionGood, versionOf, width, limit, recordSize, countR, countD, resourceStart, deviceStart, deviceAt}
-use Rattle.rules.specs.Table.{firstBad, allGood, deviceFields, headerGood, countsGood, lengthGood, resourceGood, badField, fieldsGood}
-use Rattle.rules.specs.Table.{objectsGood, fieldsOrObjects, deviceRefusal, deviceGood, tableVerdict}
+use Rattle.rules.specs.Station.{versionGood, versionOf, width, limit, recordSize, countR, countD, resourceStart, deviceStart}
+use Rattle.rules.specs.Table.{firstBad, deviceFields, headerGood, countsGood, lengthGood, resourceGood, badField, fieldsGood}
+use Rattle.rules.specs.Table.{fieldsOrObjects, deviceRefusal, deviceGood, tableVerdict}
 use Rattle.rules.specs.Outcomes.{recordPart}
-use Rattle.rules.proofs.Index.{found, next, done}
 use Rattle.rules.proofs.Answers.{done-passes, refused-stops, first-pass, first-stop, first-none, first-through, unless-of, unless-stop}
 use Rattle.rules.proofs.Answers.{lowest-stop}
 use Rattle.rules.proofs.Width.{width-wide}
 use Rattle.laws.proofs.Accepted.{accepted, refuses}
+use Rattle.laws.proofs.Every.{least-ext}
 use Rattle.laws.proofs.Tests.{both-true}
 use Rattle.table.specs.Layout.{WellSized}
-use Rattle.record.proofs.AllGood.{device-good}
+use Rattle.record.specs.Good.{rowGood}
+use Rattle.record.proofs.AllGood.{device-row}
 
 -- ---- each check, on the bytes
 module _ (t : List ℕ) where
@@ -52,22 +53,6 @@ module _ (t : List ℕ) where
     unfolding fieldsGood badField
     fields-test n s g h = rw (g, h, e, i, f) refl
 
-    -- b: every field of the device's record is good
-    module _ (b : Bool) (g : b ≡ allGood (deviceFields w r t d at)) where
-      fields-are : fieldsGood t d ≡ b
-      fields-are = sym (fields-test _ _ refl refl) ∙ device-good w r t d at ∙ sym g
-
-      pub field-refused : not b ≡ true → true ≡ not (deviceGood t d)
-      unfolding deviceGood
-      field-refused p = rw (fields-are ∙ not-true b p) refl
-
-      pub objects-decide : (o : Bool) → o ≡ objectsGood (deviceAt w t at) → not b ≡ false → not o ≡ not (deviceGood t d)
-      unfolding deviceGood
-      objects-decide o h p = rw (fields-are ∙ not-false b p, h, e, i) refl
-
-  pub resource-bad : (r : ℕ) (b : Bool) → b ≡ resourceGood t (resourceStart r) → not b ≡ not (resourceGood t (resourceStart r))
-  resource-bad r b e = ap not e
-
   pub refused-6 : (d : ℕ) (f : Bool) → f ≡ fieldsGood t d → f ≡ true → Refused BadObjects d ≡ deviceRefusal t d
   unfolding fieldsOrObjects
   refused-6 d f e p = rw (← e, p)
@@ -82,18 +67,39 @@ pub ruleset table-tests = (
   counts-test,
   length-test,
   fields-test,
-  field-refused,
-  objects-decide,
-  resource-bad,
   refused-6,
   refused-5,
 )
 
--- the loops over resources and devices start with n to go
-pub from-none : (f : ℕ → Bool) (n m : ℕ) → n ≡ m → leastFrom f 0 (n - 0) ≡ least f m
-from-none f n m e = rw (sub-zero n, e) refl
+-- ---- the lowest bad record, from what the check of a run of records gives
+pub lowest-4 : (t : List ℕ) (n r : ℕ) → n ≡ countR t → r ≡ least (λ i. not (resourceGood t (8 + 4 * i))) n
+    → r ≡ least (λ i. not (resourceGood t (resourceStart i))) (countR t)
+lowest-4 t n r e f = rw e at f
 
-pub ruleset lowest-bad = (from-none, found, next, done)
+module _ (t : List ℕ) (first w n resources : ℕ) (e : first ≡ deviceStart (width t) t 0) (f : w ≡ width t) (g : n ≡ countD t)
+    (k : resources ≡ countR t) where
+  start-of : (i : ℕ) → first + recordSize w * i ≡ deviceStart (width t) t i
+  unfolding deviceStart
+  start-of i = rw (e, f, mul-zero (recordSize (width t))) (omega arith)
+
+  pub lowest-5 : (d : ℕ) → d ≡ least (λ i. not (rowGood true w resources t i (first + recordSize w * i))) n
+      → d ≡ least (λ i. not (deviceGood t i)) (countD t)
+  unfolding deviceGood fieldsGood badField
+  lowest-5 d h =
+      let same : (i : ℕ) → rowGood true w resources t i (first + recordSize w * i) ≡ deviceGood t i =
+      λ i. rw (start-of i, f, k) (device-row (width t) (countR t) t i (deviceStart (width t) t i)) in
+      h ∙ rw g (least-ext _ (λ i. not (deviceGood t i)) 0 (countD t) (λ i a b. ap not (same i)))
+
+  pub run-inside : WellSized t → first + recordSize w * n ≤ length t
+  run-inside z = rw (start-of n, g, z .long) (omega arith)
+
+pub few-devices : (t : List ℕ) (n : ℕ) → (n ≡ countD t) × (n ≤ 32) → n < 256
+few-devices t n h = omega (arith, h .1)
+
+pub few-resources : (t : List ℕ) (n w : ℕ) → (n ≡ countR t) × (n ≤ 32) → WellSized t → w ≡ width t → n ≤ limit w
+few-resources t n w h z e = rw (h .0, e) (z .resources)
+
+pub ruleset lowest-bad = (lowest-4, lowest-5, run-inside, few-devices, few-resources)
 
 -- ---- what the first three checks show
 pub long-of : (t : List ℕ) → headerGood t ≡ true → 8 ≤ length t

@@ -33,29 +33,12 @@ fn length_good(table: &[u8]) -> bool
     table.len() == crate::fields::start_at(table, devices)
 }
 
-// Whether resource r has a bad field.
-fn resource_bad(table: &[u8], r: usize) -> bool
-    requires { ⌜ WellSized (now table) × (r < countR (now table)) ⌝ }
-    ensures { λ b. ⌜ b ≡ not (resourceGood (now (table .entry)) (resourceStart r)) ⌝ }
-{
-    !record::bad::resource_good(table, 8 + 4 * r)
-}
-
 // 4: the lowest bad resource, R if none is bad.
 fn lowest_resource(table: &[u8]) -> usize
     requires { ⌜ WellSized (now table) ⌝ }
     ensures { λ r. ⌜ r ≡ least (λ i. not (resourceGood (now (table .entry)) (resourceStart i))) (countR (now (table .entry))) ⌝ }
 {
-    let n = crate::fields::resources(table);
-    let mut i = 0;
-    while i < n {
-        let r = i;
-        i += 1;
-        if resource_bad(table, r) {
-            return r;
-        }
-    }
-    i
+    record::lowest::lowest_resource(table, 8, crate::fields::resources(table))
 }
 
 // Whether every field of device d is good, asked of a device that is refused.
@@ -69,34 +52,16 @@ fn fields_good(table: &[u8], d: usize) -> bool
         == record::read::size(w)
 }
 
-// Whether device d has a bad field, or its objects do not agree.
-fn device_bad(table: &[u8], d: usize) -> bool
-    requires { ⌜ WellSized (now table) × (d < countD (now table)) ⌝ }
-    ensures { λ b. ⌜ b ≡ not (deviceGood (now (table .entry)) d) ⌝ }
-{
-    let at = crate::fields::start(table, d);
-    let w = crate::fields::width(table);
-    if !record::quick::record_good(table, at, w, d, crate::fields::resources(table)) {
-        return true;
-    }
-    !record::quick::objects_agree(table, at, w)
-}
-
 // 5 and 6: the lowest bad device, D if none is bad.
 fn lowest_device(table: &[u8]) -> usize
     requires { ⌜ WellSized (now table) ⌝ }
     ensures { λ d. ⌜ d ≡ least (λ i. not (deviceGood (now (table .entry)) i)) (countD (now (table .entry))) ⌝ }
 {
+    let first = crate::fields::start_at(table, 0);
+    let w = crate::fields::width(table);
     let n = crate::fields::devices(table);
-    let mut i = 0;
-    while i < n {
-        let d = i;
-        i += 1;
-        if device_bad(table, d) {
-            return d;
-        }
-    }
-    i
+    let resources = crate::fields::resources(table);
+    record::lowest::lowest_device(table, first, w, true, n, resources)
 }
 
 // The answer for a bad device: 5 before 6.

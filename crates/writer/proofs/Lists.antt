@@ -1,22 +1,19 @@
 -- The loops over the devices: what a turn of writing their records, and of describing them, adds.
-use mathlib.Core.Path.{_≡_, refl, ap, _∙_}
+use mathlib.Core.Path.{_≡_, ap, _∙_}
 use mathlib.Core.List.{List, _++_}
 use Prim.Native.Nat.{ℕ, _+_, _*_, _≤_, _<_}
 use native.Mathlib.Omega.{arith}
 use lib.ListN.{length, replicate, length-append, length-replicate}
 use Rattle.words.specs.Words.{put}
 use Rattle.rules.specs.Index.{join}
-use Rattle.rules.specs.Station.{width, Wide, recordSize, fieldsSize, zerosSize, countD, deviceStart, deviceAt, fieldBytes}
+use Rattle.rules.specs.Station.{width, recordSize, fieldsSize, zerosSize, countD, deviceStart, deviceAt, fieldBytes}
 use Rattle.rules.specs.Describe.{describedWidth, describedSize, describedD, describedDevice, devicesOf, recordBytes}
 use Rattle.laws.proofs.Fields.{fields-long}
 use Rattle.laws.proofs.Joined.{Rows, joined-loop}
 use Rattle.record.specs.declared.device.Device.{Device}
 use Rattle.record.specs.Held.{held, heldBytes}
 use Rattle.record.proofs.Values.{held-bytes}
-
--- a described device's sets have a width that a record can have
-pub described-wide : Wide 8
-described-wide = record { low = omega arith; high = omega arith; fours = refl }
+use Rattle.writer.proofs.Records.{described-wide}
 
 -- ---- records written
 abbrev pub written : ℕ → List ℕ → ℕ → List ℕ

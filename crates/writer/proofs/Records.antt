@@ -1,38 +1,56 @@
 -- The checks of two lists of records: of one record, and each way out of the chain of checks.
 -- Where the code asks another function, that function's answer comes with what it says.
 use mathlib.Core.Path.{_≡_, refl, sym, ap, _∙_}
-use mathlib.Core.Bool.{Bool, true, false, not, _&&_}
+use mathlib.Core.Bool.{Bool, true, false, not, _&&_, and-true}
 use mathlib.Core.List.{List, [], _∷_}
-use Prim.Native.Nat.{ℕ, _+_, _*_, _≤_, _<_}
+use Prim.Native.Nat.{ℕ, _+_, _*_, _/_, _-_, _≤_, _<_}
+use native.Mathlib.Nat.{zero-add}
 use native.Mathlib.Omega.{arith}
 use borrow.Author.Tests.{leb-true, le-leb, lt-leb, not-true, not-false}
-use lib.Dec.{leb}
+use lib.Dec.{eqb, leb}
 use lib.ListN.{length}
 use Rattle.rules.specs.declared.Verdict.{Verdict}
 use Rattle.rules.specs.declared.Verdict.the-variants.{Done, Refused}
 use Rattle.rules.specs.declared.Reason.the-variants.{NotATable, TooMany, BadResource, BadDevice, BadObjects, NoRoom}
 use Rattle.rules.specs.Index.{least}
 use Rattle.rules.specs.Answers.{passes, firstOf, unless, lowest}
-use Rattle.rules.specs.Station.{versionGood, versionWidth, Wide, tableSize}
-use Rattle.rules.specs.Table.{allGood, resourceGood, valueFields, fieldsOrObjects, objectsGood}
+use Rattle.rules.specs.Station.{versionGood, versionWidth, Wide, recordSize, tableSize, deviceAt}
+use Rattle.rules.specs.Table.{firstBad, allGood, resourceGood, valueFields, fieldsOrObjects}
 use Rattle.rules.specs.Describe.{describedWidth, describedSize, describedR, describedD, describedDevice}
 use Rattle.rules.specs.Write.{describedResourceGood, describedFieldsGood, describedDeviceGood, recordsVerdict, describedCountsGood}
 use Rattle.rules.specs.Write.{writtenSize, writeVerdict}
 use Rattle.rules.proofs.Answers.{refused-stops, first-pass, first-stop, first-none}
 use Rattle.laws.proofs.Accepted.{refuses}
+use Rattle.laws.proofs.Every.{least-ext, least-cut}
 use Rattle.laws.proofs.Tests.{both-true}
+use Rattle.record.specs.Good.{rowGood}
+use Rattle.record.proofs.AllGood.{value-good}
 use Rattle.table.proofs.Verdicts.{unless-passed, unless-refused, lowest-passed, lowest-refused}
 use Rattle.writer.specs.Few.{Few}
 
--- ---- one resource
-module _ (rs : List ℕ) (r : ℕ) where
-  pub resource-cut : length rs < 4 * r + 4 → true ≡ not (describedResourceGood rs r)
-  unfolding describedResourceGood
-  resource-cut h = rw (lt-leb (4 * r + 4) (length rs) h) refl
+-- a described device's sets have a width that a record can have
+pub described-wide : Wide 8
+described-wide = record { low = omega arith; high = omega arith; fours = refl }
 
-  pub resource-whole : (b : Bool) → 4 * r + 4 ≤ length rs → b ≡ resourceGood rs (4 * r) → not b ≡ not (describedResourceGood rs r)
+-- ---- the lowest bad resource: where the last is cut short it is bad, and no whole one is past it
+module _ (rs : List ℕ) where
+  cut-resource : length rs / 4 < describedR rs → not (describedResourceGood rs (length rs / 4)) ≡ true
   unfolding describedResourceGood
-  resource-whole b h e = rw (le-leb (4 * r + 4) (length rs) h, e) refl
+  cut-resource h = rw (lt-leb (4 * (length rs / 4) + 4) (length rs) (omega arith)) refl
+
+  whole-resource : (i : ℕ) → i < length rs / 4 → describedResourceGood rs i ≡ resourceGood rs (0 + 4 * i)
+  unfolding describedResourceGood
+  whole-resource i h = rw (le-leb (4 * i + 4) (length rs) (omega arith), zero-add (4 * i)) refl
+
+  pub resources-run : (r : ℕ) → r ≡ least (λ i. not (resourceGood rs (0 + 4 * i))) (length rs / 4)
+      → r ≡ least (λ i. not (describedResourceGood rs i)) (describedR rs)
+  resources-run r e =
+      let f : ℕ → Bool = λ i. not (describedResourceGood rs i) in
+      let n = length rs / 4 in
+      let all : n + (describedR rs - n) ≡ describedR rs = omega arith in
+      let z : 0 + n ≡ n = omega arith in
+      e ∙ least-ext _ f 0 n (λ i a b. ap not (sym (whole-resource i (omega arith))))
+      ∙ sym (least-cut f 0 n (describedR rs - n) (λ h. rw z (cut-resource (omega arith)))) ∙ ap (least f) all
 
 -- ---- one device among R resources
 module _ (resources : ℕ) (ds : List ℕ) (d : ℕ) where
@@ -40,25 +58,14 @@ module _ (resources : ℕ) (ds : List ℕ) (d : ℕ) where
   unfolding describedFieldsGood
   fields-cut h = rw (lt-leb (describedSize * d + describedSize) (length ds) h) refl
 
-  pub fields-whole : (b : Bool) → describedSize * d + describedSize ≤ length ds
-      → b ≡ allGood (valueFields describedWidth resources d (describedDevice ds d)) → b ≡ describedFieldsGood resources ds d
+  pub fields-whole : (n s : ℕ) → describedSize * d + describedSize ≤ length ds
+      → n ≡ firstBad (recordSize 8) (valueFields 8 resources d (deviceAt 8 ds (describedSize * d))) → s ≡ recordSize 8
+      → eqb n s ≡ describedFieldsGood resources ds d
   unfolding describedFieldsGood
-  fields-whole b h e = rw (le-leb (describedSize * d + describedSize) (length ds) h) e
+  fields-whole n s h e f =
+      rw (le-leb (describedSize * d + describedSize) (length ds) h, e, f) (value-good describedWidth resources d (describedDevice ds d))
 
   module _ (f : Bool) (e : f ≡ describedFieldsGood resources ds d) where
-    pub fields-refused : not f ≡ true → true ≡ not (describedDeviceGood resources ds d)
-    unfolding describedDeviceGood
-    fields-refused p = rw (sym e ∙ not-true f p) refl
-
-    pub objects-decide : (o : Bool) → o ≡ objectsGood (describedDevice ds d) → not f ≡ false → not o ≡ not (describedDeviceGood resources ds d)
-    unfolding describedDeviceGood
-    objects-decide o g p = rw (sym e ∙ not-false f p, g) refl
-
-    -- its fields being good, it is whole
-    pub whole-then : not f ≡ false → describedSize * d + describedSize ≤ length ds
-    unfolding describedFieldsGood
-    whole-then p = leb-true _ _ (both-true _ _ (sym e ∙ not-false f p) .0)
-
     pub refused-6 : f ≡ true → Refused BadObjects d ≡ fieldsOrObjects (describedFieldsGood resources ds d) d
     unfolding fieldsOrObjects
     refused-6 p = rw (← e, p) refl
@@ -67,17 +74,32 @@ module _ (resources : ℕ) (ds : List ℕ) (d : ℕ) where
     unfolding fieldsOrObjects
     refused-5 p = rw (← e, p) refl
 
-pub ruleset record-checks = (
-  resource-cut,
-  resource-whole,
-  fields-cut,
-  fields-whole,
-  fields-refused,
-  objects-decide,
-  whole-then,
-  refused-6,
-  refused-5,
-)
+-- ---- the lowest bad device, likewise
+module _ (resources : ℕ) (ds : List ℕ) where
+  cut-device : length ds / 54 < describedD ds → not (describedDeviceGood resources ds (length ds / 54)) ≡ true
+  unfolding describedDeviceGood
+  cut-device h = rw (← fields-cut resources ds (length ds / 54) (omega arith)) refl
+
+  whole-device : (i : ℕ) → i < length ds / 54 → describedDeviceGood resources ds i ≡ rowGood false 8 resources ds i (0 + 54 * i)
+  unfolding describedDeviceGood describedFieldsGood rowGood
+  whole-device i h =
+      rw (
+        le-leb (describedSize * i + describedSize) (length ds) (omega arith),
+        zero-add (54 * i),
+        and-true (allGood (valueFields 8 resources i (describedDevice ds i))),
+      ) refl
+
+  pub devices-run : (d : ℕ) → d ≡ least (λ i. not (rowGood false 8 resources ds i (0 + 54 * i))) (length ds / 54)
+      → d ≡ least (λ i. not (describedDeviceGood resources ds i)) (describedD ds)
+  devices-run d e =
+      let f : ℕ → Bool = λ i. not (describedDeviceGood resources ds i) in
+      let n = length ds / 54 in
+      let all : n + (describedD ds - n) ≡ describedD ds = omega arith in
+      let z : 0 + n ≡ n = omega arith in
+      e ∙ least-ext _ f 0 n (λ i a b. ap not (sym (whole-device i (omega arith))))
+      ∙ sym (least-cut f 0 n (describedD ds - n) (λ h. rw z (cut-device (omega arith)))) ∙ ap (least f) all
+
+pub ruleset record-checks = (described-wide, resources-run, fields-cut, fields-whole, refused-6, refused-5, devices-run)
 
 -- ---- the records: each way out, R and D as the code counts them
 module _ (rs ds : List ℕ) (resources r : ℕ) (c : resources ≡ describedR rs)

@@ -27,35 +27,22 @@ pub fn devices(ds: &[u8]) -> usize
     (ds.len() + 53) / 54
 }
 
-// Whether resource r is cut short or has a bad field.
-fn resource_bad(rs: &[u8], r: usize) -> bool
-    requires { ⌜ r < describedR (now rs) ⌝ }
-    ensures { λ b. ⌜ b ≡ not (describedResourceGood (now (rs .entry)) r) ⌝ }
-{
-    let at = 4 * r;
-    if rs.len() < at + 4 {
-        return true;
-    }
-    !record::bad::resource_good(rs, at)
-}
-
-// 4: the lowest bad resource, their number if none is bad.
+// 4: the lowest bad resource, their number if none is bad. One that is cut short is past all whole ones, and bad.
 fn lowest_resource(rs: &[u8]) -> usize
     ensures { λ r. ⌜ r ≡ least (λ i. not (describedResourceGood (now (rs .entry)) i)) (describedR (now (rs .entry))) ⌝ }
 {
-    let n = resources(rs);
-    let mut i = 0;
-    while i < n {
-        let r = i;
-        i += 1;
-        if resource_bad(rs, r) {
-            return r;
-        }
-    }
-    i
+    record::lowest::lowest_resource(rs, 0, rs.len() / 4)
 }
 
-// Whether device d is whole and all its fields are good.
+// 5 and 6: the lowest bad device, their number if none is bad.
+fn lowest_device(ds: &[u8], resources: usize) -> usize
+    requires { ⌜ (describedD (now ds) < 256) × (resources ≤ limit describedWidth) ⌝ }
+    ensures { λ d. ⌜ d ≡ least (λ i. not (describedDeviceGood resources (now (ds .entry)) i)) (describedD (now (ds .entry))) ⌝ }
+{
+    record::lowest::lowest_device(ds, 0, 8, false, ds.len() / 54, resources)
+}
+
+// Whether device d is whole and all its fields are good, asked of a device that is refused.
 fn fields_good(ds: &[u8], d: usize, resources: usize) -> bool
     requires { ⌜ (d < 256) × (resources ≤ limit describedWidth) ⌝ }
     ensures { λ b. ⌜ b ≡ describedFieldsGood resources (now (ds .entry)) d ⌝ }
@@ -64,35 +51,7 @@ fn fields_good(ds: &[u8], d: usize, resources: usize) -> bool
     if ds.len() < at + 54 {
         return false;
     }
-    record::quick::values_good(ds, at, 8, d, resources)
-}
-
-// Whether device d is cut short, has a bad field, or its objects do not agree.
-fn device_bad(ds: &[u8], d: usize, resources: usize) -> bool
-    requires { ⌜ (d < 256) × (resources ≤ limit describedWidth) ⌝ }
-    ensures { λ b. ⌜ b ≡ not (describedDeviceGood resources (now (ds .entry)) d) ⌝ }
-{
-    if !fields_good(ds, d, resources) {
-        return true;
-    }
-    !record::quick::objects_agree(ds, 54 * d, 8)
-}
-
-// 5 and 6: the lowest bad device, their number if none is bad.
-fn lowest_device(ds: &[u8], resources: usize) -> usize
-    requires { ⌜ (describedD (now ds) < 256) × (resources ≤ limit describedWidth) ⌝ }
-    ensures { λ d. ⌜ d ≡ least (λ i. not (describedDeviceGood resources (now (ds .entry)) i)) (describedD (now (ds .entry))) ⌝ }
-{
-    let n = devices(ds);
-    let mut i = 0;
-    while i < n {
-        let d = i;
-        i += 1;
-        if device_bad(ds, d, resources) {
-            return d;
-        }
-    }
-    i
+    record::bad::bad_value(ds, at, 8, d, resources) == record::read::size(8)
 }
 
 // The answer for a bad device: 5 before 6.
