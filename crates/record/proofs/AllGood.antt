@@ -163,6 +163,29 @@ state-bad k w v b h e p =
     let good : ℕ → Bool = λ j. sxdGood v (j + 1) in
     one-bad good 4 k b h e p ∙ sym (every-field (λ j. 4 + 5 * w + j) good 4)
 
+-- ---- the five sets: their rule is its two halves, which the code asks one after the other
+halves : (w resources : ℕ) (v : Device) → allGood (setFields w resources v) ≡ setsFit resources v && setsAbsent v
+unfolding setFields setGood setsFit setsAbsent
+halves w resources v =
+    every-field (λ k. 4 + w * k) (setGood resources v) 5
+    ∙ every-both (λ k. ltb (v .sets k) (2 ^ resources)) (λ k. present v k || eqb (v .sets k) 0) 5
+
+module _ (w resources : ℕ) (v : Device) (a b c d e : ℕ) (p : a ≡ v .sets 0) (q : b ≡ v .sets 1) (r : c ≡ v .sets 2) (s : d ≡ v .sets 3)
+    (u : e ≡ v .sets 4) (f : Bool) (g : f ≡ ltb (bitOr (bitOr (bitOr (bitOr a b) c) d) e) (2 ^ resources)) where
+  pub sets-unfit : not f ≡ true → false ≡ allGood (setFields w resources v)
+  sets-unfit h = rw (halves w resources v, sym (fit-test v resources a b c d e f p q r s u g) ∙ not-true f h) refl
+
+  module _ (h : not f ≡ false) where
+    past-fit : setsAbsent v ≡ allGood (setFields w resources v)
+    past-fit = rw (halves w resources v, sym (fit-test v resources a b c d e f p q r s u g) ∙ not-false f h) refl
+
+    pub sets-there : (pr : ℕ) (o : Bool) → pr ≡ v .pr → o ≡ present v 4 → eqb pr 15 && o ≡ true → true ≡ allGood (setFields w resources v)
+    sets-there pr o x y z = all-present v pr o x y z ∙ past-fit
+
+    pub sets-left : (i j k l m : ℕ) → i ≡ absentSet v 0 → j ≡ absentSet v 1 → k ≡ absentSet v 2 → l ≡ absentSet v 3 → m ≡ absentSet v 4
+        → eqb (bitOr (bitOr (bitOr (bitOr i j) k) l) m) 0 ≡ allGood (setFields w resources v)
+    sets-left i j k l m x y z t o = absent-test v i j k l m x y z t o ∙ past-fit
+
 -- ---- zeros to the record's end
 bytes-pos : (k : ℕ) → 0 < 256 ^ k
 bytes-pos zero = omega arith
@@ -252,46 +275,31 @@ value-good w resources d v = none-bad (recordSize w) _ (values-inside w resource
 
 -- ---- the parts of a device's values
 module _ (w resources d : ℕ) (dev : Device) where
-  -- the five sets' rule is its two halves
-  halves : allGood (setFields w resources dev) ≡ setsFit resources dev && setsAbsent dev
-  unfolding setFields setGood setsFit setsAbsent
-  halves =
-      every-field (λ k. 4 + w * k) (setGood resources dev) 5
-      ∙ every-both (λ k. ltb (dev .sets k) (2 ^ resources)) (λ k. present dev k || eqb (dev .sets k) 0) 5
-
   -- the parts in the order in which the code asks
   abbrev part : ℕ → Bool
   part zero = allGood (headFields d dev)
-  part (suc zero) = setsFit resources dev
-  part (suc (suc zero)) = setsAbsent dev
-  part (suc (suc (suc zero))) = allGood (sxdFields w dev)
-  part (suc (suc (suc (suc zero)))) = allGood (sxwFields w dev)
-  part (suc (suc (suc (suc (suc k))))) = deepestGood dev
+  part (suc zero) = allGood (setFields w resources dev)
+  part (suc (suc zero)) = allGood (sxdFields w dev)
+  part (suc (suc (suc zero))) = allGood (sxwFields w dev)
+  part (suc (suc (suc (suc k)))) = deepestGood dev
 
-  all-parts : part 0 && part 1 && part 2 && part 3 && part 4 && part 5 ≡ allGood (valueFields w resources d dev)
+  all-parts : part 0 && part 1 && part 2 && part 3 && part 4 ≡ allGood (valueFields w resources d dev)
   unfolding valueFields deepestFields allGood
-  all-parts = sym (simp (joined, halves, and-assoc, and-true))
+  all-parts = sym (simp (joined, and-assoc, and-true))
 
-  every-part : every part 6 ≡ allGood (valueFields w resources d dev)
+  every-part : every part 5 ≡ allGood (valueFields w resources d dev)
   unfolding allGood eachFrom
-  every-part = let all = every-field (λ k. k) part 6 in rw (← all) (simp (and-true, and-assoc)) ∙ all-parts
+  every-part = let all = every-field (λ k. k) part 5 in rw (← all) (simp (and-true, and-assoc)) ∙ all-parts
 
-  pub last-decides : (h f a x y b : Bool) → h ≡ part 0 → f ≡ part 1 → a ≡ part 2 → x ≡ part 3 → y ≡ part 4 → b ≡ part 5
-      → not h ≡ false → not f ≡ false → not a ≡ false → not x ≡ false → not y ≡ false → b ≡ allGood (valueFields w resources d dev)
-  last-decides h f a x y b p q r s u v hh ff aa xx yy =
-      v ∙ rw (
-        sym p ∙ not-false h hh,
-        sym q ∙ not-false f ff,
-        sym r ∙ not-false a aa,
-        sym s ∙ not-false x xx,
-        sym u
-            ∙ not-false y yy,
-      ) at all-parts
+  pub last-decides : (h s x y b : Bool) → h ≡ part 0 → s ≡ part 1 → x ≡ part 2 → y ≡ part 3 → b ≡ part 4
+      → not h ≡ false → not s ≡ false → not x ≡ false → not y ≡ false → b ≡ allGood (valueFields w resources d dev)
+  last-decides h s x y b p q r u v hh ss xx yy =
+      v ∙ rw (sym p ∙ not-false h hh, sym q ∙ not-false s ss, sym r ∙ not-false x xx, sym u ∙ not-false y yy) at all-parts
 
 -- one part that is bad is enough
-pub part-bad : (k w resources d : ℕ) (dev : Device) (b : Bool) → k < 6 → b ≡ part w resources d dev k → not b ≡ true
+pub part-bad : (k w resources d : ℕ) (dev : Device) (b : Bool) → k < 5 → b ≡ part w resources d dev k → not b ≡ true
     → false ≡ allGood (valueFields w resources d dev)
-part-bad k w resources d dev b h e p = one-bad (part w resources d dev) 6 k b h e p ∙ every-part w resources d dev
+part-bad k w resources d dev b h e p = one-bad (part w resources d dev) 5 k b h e p ∙ every-part w resources d dev
 
 pub ruleset quick-tests = (
   head-test,
@@ -299,9 +307,9 @@ pub ruleset quick-tests = (
   states-test,
   present-none,
   absent-same,
-  absent-test,
-  all-present,
-  fit-test,
+  sets-unfit,
+  sets-there,
+  sets-left,
   zeros-test,
   same-masks-agree,
 )
