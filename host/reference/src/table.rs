@@ -87,7 +87,6 @@ pub struct Table<'a> {
 
 impl<'a> Table<'a> {
     /// Reads a table, or refuses it with 1 to 6.
-    #[inline]
     pub fn read(bytes: &'a [u8]) -> Result<Self, Answer> {
         let Some((header, records)) = bytes.split_first_chunk::<8>() else {
             return Err(Answer::refused(1, 0));
