@@ -358,6 +358,16 @@ class Script:
         told = "%d %d 0" % check_list(self.table, before, q, listed)
         return f" {number} {place} {len(calls)} calls{hexed(listed)} state{hexed(self.state)}: check {told}"
 
+    # the table's bytes are resources, then devices; a version has its lowest and its highest byte
+    def written(self, end, at, x, room, low, high=0):
+        lists = damaged(self.table, len(self.table), at, x)
+        number, place, count, table = write(low + (high << 24), lists[:end], lists[end:], blank(room))
+        return f" {number} {place} {count} table{hexed(table)}"
+
+    def described(self, n, m):
+        number, place, count, resources, devices = describe(self.table, blank(n), blank(m))
+        return f" {number} {place} {count} resources{hexed(resources)} devices{hexed(devices)}"
+
     # what is printed after a line, if anything
     def line(self, letter, args):
         if letter == "T":
@@ -383,6 +393,10 @@ class Script:
             return " check %d %d 0" % check_both(self.table, damaged(self.state, *args))
         elif letter == "R":
             return hexed(record(self.table, args[0]))
+        elif letter == "M":
+            return self.written(*args)
+        elif letter == "E":
+            return self.described(*args)
         return None
 
 
