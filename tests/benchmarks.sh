@@ -43,7 +43,7 @@ the devices that is one byte too short for the describer. The inputs are in \`ho
 
 $(cat target/bench.md)
 
-Requests with 25 calls have the highest ratios of the full table, about 0.8: the planner sorts 24 keys by insertion, with a
+Neither side has a hint on what to inline. Requests with 25 calls have the highest ratios of the full table: the planner sorts 24 keys by insertion, with a
 branch for each key that the processor cannot foresee, and the checker looks at each word. On the bench station the table
 is small, and the call itself, the state, the change by value and the decoding of each word weigh more. There a value that
 is stored in parts and read as one soon after shows in the time and not in the instructions: the read waits until the

@@ -1,4 +1,4 @@
-// Whether every field of a device's record is good. Each device of every table is asked, and nearly always the answer is yes:
+// Whether every field of a device is good. Each device of every table and list is asked, and nearly always the answer is yes:
 // so the tests do without the place of a bad field, share what they can, and leave at the first that fails.
 ghost use mathlib.Core.Path.{_≡_};
 ghost use Prim.Native.Nat.{_+_, _<_, _≤_};

@@ -1,4 +1,4 @@
--- RULES.md 11.5 and 11.6: write and describe, which a configurator calls, each as a total function of all that it is lent.
+-- RULES.md 11.5 and 11.6: write and describe, which an editor of stations calls, each as a total function of all that it is lent.
 use Prim.Native.Nat.{ℕ, _+_, _*_}
 use mathlib.Core.Bool.{Bool, cond, _&&_, not}
 use mathlib.Core.List.{List, [], _∷_}

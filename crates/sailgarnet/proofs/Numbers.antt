@@ -67,7 +67,7 @@ pack-is v n c p e f g h =
     let is : n + 0x100 * c + 0x100_0000 * p ≡ packed v = unfold packed in rw (e, f, g) refl in
     (is, rw is (packed-reads v h))
 
--- ---- what each of the board's functions hands on is small enough, and is its definition's
+-- ---- what each of the functions for C hands on is small enough, and is its definition's
 abbrev pub Small : Verdict → Type 0
 Small v = (countOf v < 0x1_0000) × (placeOf v < 0x100_0000_0000)
 

@@ -1,4 +1,4 @@
-// The board's functions: numbers and byte slices in, one number out.
+// The functions for C: numbers and byte slices in, one number out.
 pub mod buffers;
 
 use rules::Request;

@@ -11,7 +11,7 @@ use Rattle.rules.proofs.Width.{width-is}
 use Rattle.laws.proofs.Accepted.{record-inside, resource-at, device-at}
 use Rattle.table.specs.Layout.{WellSized}
 
--- ---- the only laws that say what the width is: it is 4, so that the counts are at most 32 and a set has 32 bits
+-- ---- the only laws that say what the width of a table is: it is 4, so that the counts are at most 32 and a set has 32 bits
 pub width-four : (t : List ℕ) → 4 ≡ width t
 width-four t = rw (width-is t) refl
 

@@ -5,7 +5,7 @@ ghost use lib.ListN.{length};
 ghost use Rattle.rules.specs.Station.{width, Wide, limit, recordSize, tableSize, countR, countD, deviceStart, station};
 ghost use Rattle.table.specs.Layout.{WellSized};
 
-// The bytes of a set, for any bytes. No other function says what the width of a table is.
+// The bytes of a set, for any bytes: those of the table's version. No other function says what the width of a table is.
 pub fn width(table: &[u8]) -> usize
     ensures { λ r. ⌜ (r ≡ width (now (table .entry))) × Wide r ⌝ }
 {
