@@ -132,7 +132,8 @@ module _ (end w : ℕ) (v : Device) (b : Bool) (e : b ≡ deepestGood v) where
 
 pub ruleset bad-one = (deepest-bad, deepest-fine)
 
-pub zeros-left : (end w : ℕ) (t : List ℕ) (at : ℕ) → firstBad end (eachFrom (zeroField w t at) 0 (2 + w - 0)) ≡ firstBad end (zeroFields w t at)
+pub zeros-left : (end w : ℕ) (t : List ℕ) (at : ℕ)
+    → firstBad end (eachFrom (zeroField w t at) 0 (2 + w - 0)) ≡ firstBad end (zeroFields w t at)
 unfolding zeroFields
 zeros-left end w t at = rw (sub-zero (2 + w)) refl
 

@@ -29,7 +29,8 @@ place-next first at size s i e f = rw (add-one i, mul-suc size i, e, f) (omega a
 pub record-room : (first at size n i l : ℕ) → at ≡ first + size * i → i < n → first + size * n ≤ l → at + size ≤ l
 record-room first at size n i l e h r = omega (arith, mul-suc size i, mul-le-mul-left size h)
 
-pub next-small : (first at size s n i l : ℕ) → at ≡ first + size * i → s ≡ size → i < n → first + size * n ≤ l → l < 2 ^ 64 → at + s < 2 ^ 64
+pub next-small : (first at size s n i l : ℕ) → at ≡ first + size * i → s ≡ size → i < n → first + size * n ≤ l → l < 2 ^ 64
+    → at + s < 2 ^ 64
 next-small first at size s n i l e f h r u = omega (arith, record-room first at size n i l e h r)
 
 pub row-here : (zeros : Bool) (w resources : ℕ) (t : List ℕ) (first at d : ℕ) (b : Bool) → at ≡ first + rowSize zeros w * d

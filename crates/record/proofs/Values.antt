@@ -96,7 +96,8 @@ module _ (w : ℕ) (d : List ℕ) (at : ℕ) (v : Device) (room : at + fieldsSiz
       let p2 : c ≡ put d at (head ++ sets ++ v .sxd) =
       put-then d c at (at + 4 + 5 * w) (head ++ sets) (v .sxd) (omega (arith, n, n1)) (omega (arith, n, n1)) (rw p1 at q) in
       let p3 : e ≡ put d at (head ++ sets ++ v .sxd ++ v .sxw) =
-      put-then d e at (at + 8 + 5 * w) (head ++ sets ++ v .sxd) (v .sxw) (omega (arith, n, n1, n2)) (omega (arith, n, n1, n2)) (rw p2 at r) in (
+      put-then d e at (at + 8 + 5 * w) (head ++ sets ++ v .sxd) (v .sxw) (omega (arith, n, n1, n2)) (omega (arith, n, n1, n2))
+      (rw p2 at r) in (
         put-then d l at (at + 13 + 5 * w) (head ++ sets ++ v .sxd ++ v .sxw) (v .deepest ∷ []) (omega (arith, n, n1, n2, n3))
             (omega (arith, n, n1, n2, n3)) (rw p3 at s),
         length-append (head ++ sets ++ v .sxd ++ v .sxw) (v .deepest ∷ []) ∙ omega (arith, n, n1, n2, n3),
@@ -113,7 +114,8 @@ unfolding bytesLE
 zeros-long w = let c : zerosSize w ≡ w + 2 = omega arith in rw c (zero-bytes w 2)
 
 module _ (w : ℕ) (d : List ℕ) (at : ℕ) (v : Device) (room : at + recordSize w ≤ length d) where
-  pub record-put : (a b c : List ℕ) → (a ≡ put d at (heldBytes w v)) × (length (heldBytes w v) ≡ fieldsSize w) → b ≡ put a (at + 14 + 5 * w) (bytesLE w 0)
+  pub record-put : (a b c : List ℕ) → (a ≡ put d at (heldBytes w v)) × (length (heldBytes w v) ≡ fieldsSize w)
+      → b ≡ put a (at + 14 + 5 * w) (bytesLE w 0)
       → c ≡ put b (at + 14 + 6 * w) (bytesLE 2 0) → c ≡ put d at (heldBytes w v ++ replicate (zerosSize w) 0)
   record-put a b c o p q =
       let n = o .1 in

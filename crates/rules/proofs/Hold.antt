@@ -9,8 +9,10 @@ use Rattle.rules.specs.Index.{leastFrom, every, below, eachFrom, each, j
 use Rattle.rules.specs.Answers.{passes, firstOf, unless, lowest}
 use Rattle.rules.specs.Station.{versionGood, versionWidth, width, deviceStart, resourceAt, deviceAt, stationOf, fieldBytes}
 use Rattle.rules.specs.Describe.{resourcesOf, devicesOf, headerBytes, recordBytes, tableBytes}
-use Rattle.rules.specs.Table.{headerGood, countsGood, lengthGood, firstBad, allGood, resourceGood, parentGood, present, setGood, sxdGood}
-use Rattle.rules.specs.Table.{sxwGood, deepestGood, headFields, setFields, sxdFields, sxwFields, deepestFields, valueFields, zeroFields}
+use Rattle.rules.specs.Table.{headerGood, countsGood, lengthGood, firstBad, allGood, resourceGood, parentGood, present, setGood}
+use Rattle.rules.specs.Table.{sxdGood}
+use Rattle.rules.specs.Table.{sxwGood, deepestGood, headFields, setFields, sxdFields, sxwFields, deepestFields, valueFields}
+use Rattle.rules.specs.Table.{zeroFields}
 use Rattle.rules.specs.Table.{deviceFields, badField, fieldsGood, objectsGood, fieldsOrObjects, deviceGood, tableVerdict}
 use Rattle.rules.specs.Write.{describedResourceGood, describedFieldsGood, describedDeviceGood, recordsVerdict, describedCountsGood}
 use Rattle.rules.specs.Write.{writeVerdict, write, describeVerdict, describe}
@@ -39,7 +41,8 @@ pub all-hold : (wrong 1 rows ≡ []) × (wrong 1 ownRows ≡ [])
 unfolding member union minus single firstN subset readLE bytesLE put wordBytes byteWords leastFrom every below eachFrom passes firstOf
     unless lowest versionGood versionWidth width deviceStart resourceAt deviceAt stationOf headerGood countsGood lengthGood firstBad
     resourceGood parentGood present setGood sxdGood sxwGood deepestGood headFields setFields sxdFields sxwFields deepestFields valueFields
-    zeroFields deviceFields badField fieldsGood objectsGood fieldsOrObjects deviceGood tableVerdict supported ownSet listedSet stateNeeds wakeNeeds needs neededBelow needed wakeRange
+    zeroFields deviceFields badField fieldsGood objectsGood fieldsOrObjects deviceGood tableVerdict supported ownSet listedSet stateNeeds
+    wakeNeeds needs neededBelow needed wakeRange
     wakeFrom wakePowered wakeState wakePair entryAt entryBytes entriesOf statusOf joinFrom imageOf freshStatus entryGood entryZero
     entriesGood onGood parentAllows wakeConsistent consistentButPower powered consistent valuesGood consistencyVerdict stateVerdict
     numbersGood formGood notShallowerOrD0 childBars wakeAllows moveVerdict armVerdict kindVerdict requestVerdict newEntry replaceEntry
@@ -83,7 +86,8 @@ pub written-holds :
     × (describing benchTable 12 161 ≡ 9 ∷ 0 ∷ 0 ∷ [])
     × (describing (put benchTable 12 (5 ∷ [])) 0 0 ≡ 4 ∷ 1 ∷ 0 ∷ [])
     × (describing (bytes 8 0x5057540001000000) 0 0 ≡ 0 ∷ 0 ∷ 0 ∷ [])
-unfolding member readLE put leastFrom below eachFrom joinFrom passes firstOf unless lowest versionGood versionWidth width deviceStart deviceAt
+unfolding member readLE put leastFrom below eachFrom joinFrom passes firstOf unless lowest versionGood versionWidth width deviceStart
+    deviceAt
     headerGood countsGood lengthGood firstBad allGood resourceGood parentGood present setGood sxdGood sxwGood deepestGood headFields
     setFields sxdFields sxwFields deepestFields valueFields zeroFields deviceFields badField fieldsGood objectsGood fieldsOrObjects
     deviceGood tableVerdict describedResourceGood describedFieldsGood describedDeviceGood recordsVerdict describedCountsGood writeVerdict

@@ -65,7 +65,8 @@ writeRows =
     withLists (put benchResources 5 (1 ∷ 0 ∷ 0 ∷ 5 ∷ [])) benchDevices (4 ∷ 1 ∷ 0 ∷ []) ∷
     withLists (take 11 benchResources) benchDevices (4 ∷ 2 ∷ 0 ∷ []) ∷
     withLists (take 9 benchResources) (put benchDevices 0 (0 ∷ [])) (4 ∷ 2 ∷ 0 ∷ []) ∷
-    -- 5: parents; masks; flags; `_PR0` of the camera with r3 alone, with more, with r40 and with r63; a set without its object; `_S1D`, `_S3D`;
+    -- 5: parents; masks; flags; `_PR0` of the camera with r3 alone, with more, with r40 and with r63; a set without its object; `_S1D`,
+    -- `_S3D`;
     -- `_S3D` above `_S3W`; `_S0W`; deepest
     withByte 0 0 (5 ∷ 0 ∷ 0 ∷ []) ∷
     withByte 108 2 (5 ∷ 2 ∷ 0 ∷ []) ∷

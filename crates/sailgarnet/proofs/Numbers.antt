@@ -109,7 +109,8 @@ write-fits version rs ds table =
     small w (mostWritten w) _ h (omega (arith, n)) (write-bounded version rs ds (length table))
 
 -- ---- what write and describe leave, with number and count as they are read from the packed answer
-pub written-inverse : (version : ℕ) (rs ds table : List ℕ) (r : ℕ) (table′ : List ℕ) → AllBytes ds → Reads r (write version rs ds table .verdict)
+pub written-inverse : (version : ℕ) (rs ds table : List ℕ) (r : ℕ) (table′ : List ℕ) → AllBytes ds
+    → Reads r (write version rs ds table .verdict)
     → table′ ≡ write version rs ds table .table → WrittenDescribes rs ds (numberIn r) (countIn r) table′
 written-inverse version rs ds table r table′ bytes a e = rw (a .number, a .count, e) (write-inverse version rs ds table bytes)
 

@@ -188,7 +188,8 @@ module _ (t : List ℕ) where
       ∙ past-counts h (sym f ∙ not-false c y)
 
   -- from here on the first three have passed
-  module _ (sized : WellSized t) (h : headerGood t ≡ true) (r m : ℕ) (e : r ≡ least (λ i. not (resourceGood t (resourceStart i))) (countR t))
+  module _ (sized : WellSized t) (h : headerGood t ≡ true) (r m : ℕ)
+      (e : r ≡ least (λ i. not (resourceGood t (resourceStart i))) (countR t))
       (f : m ≡ countR t) where
     past-length : firstOf (resources-check ∷ devices-check ∷ []) (Done 0) ≡ tableVerdict t
     unfolding countsGood lengthGood
@@ -208,7 +209,8 @@ module _ (t : List ℕ) where
       past-resources = sym (lowest-passed _ _ _ (countR t) m r (Refused BadResource) e f p) ∙ past-length
 
       pub bad-device : (v : Verdict) → v ≡ deviceRefusal t q → q < n → v ≡ tableVerdict t
-      bad-device v o u = lowest-refused _ _ _ (countD t) n q (deviceRefusal t) g k v o (ap passes o ∙ refuses (fieldsGood t q) q) u ∙ past-resources
+      bad-device v o u = lowest-refused _ _ _ (countD t) n q (deviceRefusal t) g k v o (ap passes o ∙ refuses (fieldsGood t q) q) u
+          ∙ past-resources
 
       pub all-pass : n ≤ q → Done 0 ≡ tableVerdict t
       all-pass u = sym (lowest-passed _ _ _ (countD t) n q (deviceRefusal t) g k u ∙ first-none (Done 0)) ∙ past-resources

@@ -56,7 +56,8 @@ from-start t d h = omega arith
 pub fields-inside : (t : List ℕ) (s w : ℕ) → w ≡ width t → s + recordSize (width t) ≤ length t → s + fieldsSize w ≤ length t
 fields-inside t s w e h = rw e (omega arith)
 
-pub device-described : (t l l′ : List ℕ) (i p s w : ℕ) (v : Device) → s ≡ deviceStart (width t) t i → w ≡ width t → v ≡ held (deviceAt w t s)
+pub device-described : (t l l′ : List ℕ) (i p s w : ℕ) (v : Device) → s ≡ deviceStart (width t) t i → w ≡ width t
+    → v ≡ held (deviceAt w t s)
     → (l′ ≡ put l p (heldBytes 8 v)) × (length (heldBytes 8 v) ≡ fieldsSize 8) → l′ ≡ put l p (described t i)
 device-described t l l′ i p s w v a b e q =
     let there : v ≡ held (deviceAt (width t) t (deviceStart (width t) t i)) = rw (a, b) at e in

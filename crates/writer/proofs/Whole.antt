@@ -31,7 +31,8 @@ use Rattle.table.proofs.Verdicts.{unless-passed, unless-refused, accepted-is, s
 use Rattle.writer.proofs.Lists.{written}
 
 -- ---- write
-module _ (version : ℕ) (rs ds table : List ℕ) (v : Verdict) (b : Bool) (e : v ≡ writeVerdict version rs ds (length table)) (f : b ≡ passes v) where
+module _ (version : ℕ) (rs ds table : List ℕ) (v : Verdict) (b : Bool) (e : v ≡ writeVerdict version rs ds (length table))
+    (f : b ≡ passes v) where
   pub write-refused : not b ≡ true → (v ≡ write version rs ds table .verdict) × (table ≡ write version rs ds table .table)
   unfolding write
   write-refused p = let stops : passes (writeVerdict version rs ds (length table)) ≡ false = ap passes (sym e) ∙ sym f ∙ not-true b p in
@@ -134,7 +135,13 @@ module _ (t rs ds : List ℕ) (v : Verdict) (b : Bool) (e : v ≡ tableVerdict t
         rooms = let h = both-true _ _ (not-false _ q) in (leb-true _ _ (h .0), leb-true _ _ (h .1))
 
         pub copy-asks : (n : ℕ) → n ≡ length rs → 0 + length (take (8 + 4 * r - 8) (drop 8 t)) ≤ n
-        copy-asks n u = rw (u, add-sub-cancel-left, zero-add, length-take-le (4 * r) (drop 8 t) (omega (arith, length-drop 8 t, part-inside)))
+        copy-asks n u = rw (
+          u,
+          add-sub-cancel-left,
+          zero-add,
+          length-take-le (4 * r) (drop 8 t)
+              (omega (arith, length-drop 8 t, part-inside)),
+        )
             (rooms .0)
 
         pub devices-have-room : (n : ℕ) → n ≡ length ds → WellSized t × (describedSize * countD t ≤ n)
@@ -145,7 +152,9 @@ module _ (t rs ds : List ℕ) (v : Verdict) (b : Bool) (e : v ≡ tableVerdict t
         unfolding describe resourcesOf
         describe-done a l o u =
             let is : Done (4 * r + 54 * d) ≡ describeVerdict t (length rs) (length ds) =
-            rw (y, z) (sym (unless-passed [] (Done (listsSize t)) (leb (4 * countR t) (length rs) && leb (describedSize * countD t) (length ds))
-            NoRoom 0 (rw (y, z) at (not-false (leb (4 * r) (length rs) && leb (54 * d) (length ds)) q)) ∙ first-none (Done (listsSize t)))) ∙ past-table in
+            rw (y, z) (sym (unless-passed [] (Done (listsSize t))
+            (leb (4 * countR t) (length rs) && leb (describedSize * countD t) (length ds))
+            NoRoom 0 (rw (y, z) at (not-false (leb (4 * r) (length rs) && leb (54 * d) (length ds)) q))
+            ∙ first-none (Done (listsSize t)))) ∙ past-table in
             let done : passes (describeVerdict t (length rs) (length ds)) ≡ true = ap passes (sym is) ∙ done-passes (4 * r + 54 * d) in
             (is, o ∙ rw (done, add-sub-cancel-left, y) refl, u ∙ rw done refl)

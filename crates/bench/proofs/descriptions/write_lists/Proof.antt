@@ -13,4 +13,5 @@ returns c = search (needs, rest-is)
 
 pub write-lists-spec : {M : Type 1} → statement M
 write-lists-spec = tie.close (tie.spec slice-aggregate-sailgarnet-write (λ c. search needs) (λ c. search needs) (λ c. search needs)
-    (λ c κs. search needs) (λ c. search needs) (λ c κs. search needs) (λ c. search needs) (λ c κs. search needs) (λ c. search needs) returns)
+    (λ c κs. search needs) (λ c. search needs) (λ c κs. search needs) (λ c. search needs) (λ c κs. search needs) (λ c. search needs)
+    returns)

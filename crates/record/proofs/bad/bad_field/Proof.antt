@@ -7,4 +7,5 @@ use Rattle.record.proofs.bad.bad_field.Tie as tie
 pub bad-field-spec : {M : Type 1} → statement M
 bad-field-spec =
     tie.close
-    (tie.spec (λ c κs. search needs) (λ c κs. search needs) (λ c. search (needs, bad-record)) (λ c κs. search needs) (λ c. search (needs, bad-record)))
+    (tie.spec (λ c κs. search needs) (λ c κs. search needs) (λ c. search (needs, bad-record)) (λ c κs. search needs)
+    (λ c. search (needs, bad-record)))

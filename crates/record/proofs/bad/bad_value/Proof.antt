@@ -7,4 +7,6 @@ use Rattle.record.proofs.bad.bad_value.Tie as tie
 pub bad-value-spec : {M : Type 1} → statement M
 bad-value-spec =
     tie.close
-    (tie.spec (λ c κs. search needs) (λ c κs. search needs) (λ c. search (needs, bad-parts)) (λ c κs. search needs) (λ c. search (needs, bad-parts)) (λ c κs. search needs) (λ c. search (needs, bad-parts)) (λ c κs. search needs) (λ c. search (needs, bad-parts)) (λ c κs. search needs) (λ c. search (needs, bad-parts)))
+    (tie.spec (λ c κs. search needs) (λ c κs. search needs) (λ c. search (needs, bad-parts)) (λ c κs. search needs)
+    (λ c. search (needs, bad-parts)) (λ c κs. search needs) (λ c. search (needs, bad-parts)) (λ c κs. search needs)
+    (λ c. search (needs, bad-parts)) (λ c κs. search needs) (λ c. search (needs, bad-parts)))

@@ -11,7 +11,8 @@ use Rattle.record.proofs.bad.bad_zero.Tie as tie
 
 abbrev Inv-loop : tie.InvT-loop
 Inv-loop table at w i₀ i =
-    (i ≤ 2 + w) × (firstBad (recordSize w) (eachFrom (zeroField w table at) i (2 + w - i)) ≡ firstBad (recordSize w) (zeroFields w table at))
+    (i ≤ 2 + w) × (firstBad (recordSize w) (eachFrom (zeroField w table at) i (2 + w - i)) ≡ firstBad (recordSize w)
+    (zeroFields w table at))
 
 abbrev μ-loop : tie.MeasureT-loop
 μ-loop table at w i₀ i = 2 + w - i
@@ -19,4 +20,7 @@ abbrev μ-loop : tie.MeasureT-loop
 pub bad-zero-spec : {M : Type 1} → statement M
 bad-zero-spec =
     tie.close
-    (tie.spec Inv-loop μ-loop (λ c. search (needs, bad-zeros)) (λ c. search needs) (λ c. search needs) (λ c. search needs) (λ c. search needs) (λ c. search needs) (λ c. search needs) (λ c. search needs) (λ c. search needs) (λ c. search needs) (λ c. search needs) (λ c. search (needs, bad-zeros)) (λ c. search needs) (λ c. search (needs, bad-zeros)) (λ c κs. search needs) (λ c. search (needs, bad-zeros)))
+    (tie.spec Inv-loop μ-loop (λ c. search (needs, bad-zeros)) (λ c. search needs) (λ c. search needs) (λ c. search needs)
+    (λ c. search needs) (λ c. search needs) (λ c. search needs) (λ c. search needs) (λ c. search needs) (λ c. search needs)
+    (λ c. search needs) (λ c. search (needs, bad-zeros)) (λ c. search needs) (λ c. search (needs, bad-zeros)) (λ c κs. search needs)
+    (λ c. search (needs, bad-zeros)))

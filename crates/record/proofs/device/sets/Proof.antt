@@ -7,4 +7,5 @@ use Rattle.record.proofs.device.sets.Tie as tie
 pub sets-spec : {M : Type 1} → statement M
 sets-spec =
     tie.close
-    (tie.spec (λ c κs. search needs) (λ c κs. search needs) (λ c κs. search needs) (λ c κs. search needs) (λ c κs. search needs) (λ c. search (needs, held-fields)))
+    (tie.spec (λ c κs. search needs) (λ c κs. search needs) (λ c κs. search needs) (λ c κs. search needs) (λ c κs. search needs)
+    (λ c. search (needs, held-fields)))

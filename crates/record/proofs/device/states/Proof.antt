@@ -7,4 +7,5 @@ use Rattle.record.proofs.device.states.Tie as tie
 pub states-spec : {M : Type 1} → statement M
 states-spec =
     tie.close
-    (tie.spec (λ c κs. search needs) (λ c κs. search needs) (λ c κs. search needs) (λ c κs. search needs) (λ c. search (needs, held-fields)))
+    (tie.spec (λ c κs. search needs) (λ c κs. search needs) (λ c κs. search needs) (λ c κs. search needs)
+    (λ c. search (needs, held-fields)))

@@ -11,7 +11,8 @@ four : (c : tie.After-copy-arg)
 four c = search needs
 
 five : (c : tie.After-copy-arg2)
-    → length (c .before .before .before .before .before .before .before .before .before .before .before .before .before .before .before .before
+    → length (c .before .before .before .before .before .before .before .before .before .before .before .before .before .before .before
+    .before
     .before .before .before .args .v .sxw) ≡ 5
 five c = search needs
 

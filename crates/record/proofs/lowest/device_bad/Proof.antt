@@ -7,4 +7,5 @@ use Rattle.record.proofs.lowest.device_bad.Tie as tie
 pub device-bad-spec : {M : Type 1} → statement M
 device-bad-spec =
     tie.close
-    (tie.spec (λ c κs. search (needs, row-tests)) (λ c. search (needs, row-tests)) (λ c κs. search needs) (λ c. search (needs, row-tests)) (λ c κs. search (needs, row-tests)) (λ c. search (needs, row-tests)))
+    (tie.spec (λ c κs. search (needs, row-tests)) (λ c. search (needs, row-tests)) (λ c κs. search needs) (λ c. search (needs, row-tests))
+    (λ c κs. search (needs, row-tests)) (λ c. search (needs, row-tests)))

@@ -21,4 +21,6 @@ abbrev μ-loop : tie.MeasureT-loop
 pub lowest-device-spec : {M : Type 1} → statement M
 lowest-device-spec =
     tie.close
-    (tie.spec Inv-loop μ-loop (λ c κs. search needs) (λ c. search (needs, row-run)) (λ c. search needs) (λ c. search (needs, row-run)) (λ c κs. search (needs, row-run)) (λ c. search (needs, row-run)) (λ c. search needs) (λ c. search (needs, row-run)) (λ c. search (needs, row-run)))
+    (tie.spec Inv-loop μ-loop (λ c κs. search needs) (λ c. search (needs, row-run)) (λ c. search needs) (λ c. search (needs, row-run))
+    (λ c κs. search (needs, row-run)) (λ c. search (needs, row-run)) (λ c. search needs) (λ c. search (needs, row-run))
+    (λ c. search (needs, row-run)))

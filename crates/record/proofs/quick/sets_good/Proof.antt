@@ -21,7 +21,8 @@ returns-2 c =
     let third = d .before in
     let b = third .before in
     sets-there _ _ _ _ _ _ _ _ (b .before .set .ensures .0) (b .set2 .ensures .0) (third .set3 .ensures .0) (d .set4 .ensures .0)
-    (e .set5 .ensures .0) _ (fit .before .fits2 .ensures) (fit .if1 .left) _ _ (c .before .before .pr .ensures) (c .before .present .ensures)
+    (e .set5 .ensures .0) _ (fit .before .fits2 .ensures) (fit .if1 .left) _ _ (c .before .before .pr .ensures)
+    (c .before .present .ensures)
     (c .if2 .taken)
 
 absent-set-requires-5 : tie.Need-absent-set-requires-5

@@ -7,4 +7,6 @@ use Rattle.record.proofs.quick.values_good.Tie as tie
 pub values-good-spec : {M : Type 1} → statement M
 values-good-spec =
     tie.close
-    (tie.spec (λ c κs. search needs) (λ c. search (needs, part-bad 0)) (λ c κs. search needs) (λ c. search (needs, part-bad 1)) (λ c κs. search needs) (λ c. search (needs, part-bad 2)) (λ c κs. search needs) (λ c. search (needs, part-bad 3)) (λ c κs. search needs) (λ c. search (needs, last-decides)))
+    (tie.spec (λ c κs. search needs) (λ c. search (needs, part-bad 0)) (λ c κs. search needs) (λ c. search (needs, part-bad 1))
+    (λ c κs. search needs) (λ c. search (needs, part-bad 2)) (λ c κs. search needs) (λ c. search (needs, part-bad 3))
+    (λ c κs. search needs) (λ c. search (needs, last-decides)))

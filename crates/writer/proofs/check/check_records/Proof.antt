@@ -7,4 +7,5 @@ use Rattle.writer.proofs.check.check_records.Tie as tie
 pub check-records-spec : {M : Type 1} → statement M
 check-records-spec =
     tie.close
-    (tie.spec (λ c κs. search needs) (λ c κs. search needs) (λ c. search (needs, records-answers)) (λ c κs. search needs) (λ c κs. search needs) (λ c κs. search needs) (λ c. search (needs, records-answers)) (λ c. search (needs, records-answers)))
+    (tie.spec (λ c κs. search needs) (λ c κs. search needs) (λ c. search (needs, records-answers)) (λ c κs. search needs)
+    (λ c κs. search needs) (λ c κs. search needs) (λ c. search (needs, records-answers)) (λ c. search (needs, records-answers)))

@@ -7,4 +7,5 @@ use Rattle.writer.proofs.check.fields_good.Tie as tie
 pub fields-good-spec : {M : Type 1} → statement M
 fields-good-spec =
     tie.close
-    (tie.spec (λ c. search needs) (λ c. search needs) (λ c. search (needs, record-checks)) (λ c κs. search (needs, record-checks)) (λ c κs. search (needs, record-checks)) (λ c. search (needs, record-checks)))
+    (tie.spec (λ c. search needs) (λ c. search needs) (λ c. search (needs, record-checks)) (λ c κs. search (needs, record-checks))
+    (λ c κs. search (needs, record-checks)) (λ c. search (needs, record-checks)))

@@ -14,4 +14,7 @@ check-records-requires c κs =
 pub verdict-spec : {M : Type 1} → statement M
 verdict-spec =
     tie.close
-    (tie.spec (λ c κs. search needs) (λ c. search (needs, write-answers)) (λ c κs. search needs) (λ c κs. search needs) (λ c κs. search needs) (λ c. search needs) (λ c. search needs) (λ c. search (needs, write-answers)) (λ c κs. search (needs, write-answers)) (λ c. search (needs, write-answers)) check-records-requires (λ c κs. search needs) (λ c. search (needs, write-answers)) (λ c. search (needs, write-answers)))
+    (tie.spec (λ c κs. search needs) (λ c. search (needs, write-answers)) (λ c κs. search needs) (λ c κs. search needs)
+    (λ c κs. search needs) (λ c. search needs) (λ c. search needs) (λ c. search (needs, write-answers))
+    (λ c κs. search (needs, write-answers)) (λ c. search (needs, write-answers)) check-records-requires (λ c κs. search needs)
+    (λ c. search (needs, write-answers)) (λ c. search (needs, write-answers)))

@@ -23,7 +23,8 @@ returns-2 c =
     let resources = devices .before in
     let test = resources .before in
     let start = test .before .before .before .before .before .before in
-    describe-short _ (now (start .args .resources)) (now (start .args .devices)) _ _ (test .before .before .check-table .ensures) (test .before .passes .ensures) (test .if1 .left) _ _
+    describe-short _ (now (start .args .resources)) (now (start .args .devices)) _ _ (test .before .before .check-table .ensures)
+    (test .before .passes .ensures) (test .if1 .left) _ _
     (resources .resources .ensures .0) (devices .devices .ensures .0) (c .if2 .taken)
 
 part-copy-end : tie.Need-part-copy-end
@@ -41,7 +42,8 @@ copy-requires c κs =
     let resources = devices .before in
     let test = resources .before in
     let start = test .before .before .before .before .before .before in
-    copy-asks _ (now (start .args .resources)) (now (start .args .devices)) _ _ (test .before .before .check-table .ensures) (test .before .passes .ensures) (test .if1 .left) _ _
+    copy-asks _ (now (start .args .resources)) (now (start .args .devices)) _ _ (test .before .before .check-table .ensures)
+    (test .before .passes .ensures) (test .if1 .left) _ _
     (resources .resources .ensures .0) (devices .devices .ensures .0) (room .if2 .left) _ (search needs)
 
 write-devices-requires : tie.Need-write-devices-requires
@@ -51,7 +53,8 @@ write-devices-requires c κs =
     let resources = devices .before in
     let test = resources .before in
     let start = test .before .before .before .before .before .before in
-    devices-have-room _ (now (start .args .resources)) (now (start .args .devices)) _ _ (test .before .before .check-table .ensures) (test .before .passes .ensures) (test .if1 .left) _ _
+    devices-have-room _ (now (start .args .resources)) (now (start .args .devices)) _ _ (test .before .before .check-table .ensures)
+    (test .before .passes .ensures) (test .if1 .left) _ _
     (resources .resources .ensures .0) (devices .devices .ensures .0) (room .if2 .left) _ (search needs)
 
 returns-3 : tie.Need-returns-3
@@ -69,4 +72,6 @@ returns-3 c =
 pub describe-spec : {M : Type 1} → statement M
 describe-spec =
     tie.close
-    (tie.spec (λ c κs. search needs) (λ c κs. search needs) returns resources-requires (λ c. search needs) devices-requires (λ c. search needs) returns-2 (λ c. search needs) (λ c. search needs) (λ c. search needs) part-copy-end copy-requires write-devices-requires (λ c. search needs) (λ c. search needs) (λ c. search needs) returns-3)
+    (tie.spec (λ c κs. search needs) (λ c κs. search needs) returns resources-requires (λ c. search needs) devices-requires
+    (λ c. search needs) returns-2 (λ c. search needs) (λ c. search needs) (λ c. search needs) part-copy-end copy-requires
+    write-devices-requires (λ c. search needs) (λ c. search needs) (λ c. search needs) returns-3)

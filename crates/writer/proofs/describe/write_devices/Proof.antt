@@ -17,4 +17,6 @@ abbrev μ-loop : tie.MeasureT-loop
 pub write-devices-spec : {M : Type 1} → statement M
 write-devices-spec =
     tie.close
-    (tie.spec Inv-loop μ-loop (λ c κs. search needs) (λ c κs. search needs) (λ c. search (needs, describing)) (λ c κs. search needs) (λ c κs. search (needs, describing)) (λ c κs. search (needs, describing)) (λ c. search (needs, describing)) (λ c. search needs) (λ c. search needs) (λ c. search (needs, describing)) (λ c. search needs) (λ c. all-described _ _ _ (search (needs, joined-loop))))
+    (tie.spec Inv-loop μ-loop (λ c κs. search needs) (λ c κs. search needs) (λ c. search (needs, describing)) (λ c κs. search needs)
+    (λ c κs. search (needs, describing)) (λ c κs. search (needs, describing)) (λ c. search (needs, describing)) (λ c. search needs)
+    (λ c. search needs) (λ c. search (needs, describing)) (λ c. search needs) (λ c. all-described _ _ _ (search (needs, joined-loop))))

@@ -14,7 +14,8 @@ write-header-requires c κs =
     let resources = devices .before in
     let test = resources .before .before in
     let start = test .before .before .before .before .before .before in
-    header-asks _ _ _ (now (start .args .table)) _ _ (test .before .before .verdict .ensures) (test .before .passes .ensures) (test .if1 .left) _ _
+    header-asks _ _ _ (now (start .args .table)) _ _ (test .before .before .verdict .ensures) (test .before .passes .ensures)
+    (test .if1 .left) _ _
     (resources .resources .ensures) (devices .devices .ensures)
 
 copy-requires : tie.Need-copy-requires
@@ -25,7 +26,8 @@ copy-requires c κs =
     let width = resources .before in
     let test = width .before in
     let start = test .before .before .before .before .before .before in
-    resources-ask _ _ _ (now (start .args .table)) _ _ (test .before .before .verdict .ensures) (test .before .passes .ensures) (test .if1 .left) _ _ _
+    resources-ask _ _ _ (now (start .args .table)) _ _ (test .before .before .verdict .ensures) (test .before .passes .ensures)
+    (test .if1 .left) _ _ _
     (resources .resources .ensures) (devices .devices .ensures) (width .version-width .ensures .0) _ (header .write-header .ensures)
 
 write-devices-requires : tie.Need-write-devices-requires
@@ -37,7 +39,8 @@ write-devices-requires c κs =
     let width = resources .before in
     let test = width .before in
     let start = test .before .before .before .before .before .before in
-    devices-ask _ _ _ (now (start .args .table)) _ _ (test .before .before .verdict .ensures) (test .before .passes .ensures) (test .if1 .left) _ _ _
+    devices-ask _ _ _ (now (start .args .table)) _ _ (test .before .before .verdict .ensures) (test .before .passes .ensures)
+    (test .if1 .left) _ _ _
     (resources .resources .ensures) (devices .devices .ensures) (width .version-width .ensures .0) _ (header .write-header .ensures) _
     (copied .copy .ensures) (width .version-width .ensures .1)
 
@@ -57,4 +60,5 @@ returns-2 c =
 pub write-spec : {M : Type 1} → statement M
 write-spec =
     tie.close
-    (tie.spec (λ c κs. search needs) (λ c κs. search needs) returns (λ c κs. search needs) (λ c κs. search needs) (λ c κs. search needs) write-header-requires copy-requires (λ c. search needs) (λ c. search needs) write-devices-requires (λ c. search needs) returns-2)
+    (tie.spec (λ c κs. search needs) (λ c κs. search needs) returns (λ c κs. search needs) (λ c κs. search needs) (λ c κs. search needs)
+    write-header-requires copy-requires (λ c. search needs) (λ c. search needs) write-devices-requires (λ c. search needs) returns-2)

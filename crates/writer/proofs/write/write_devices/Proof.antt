@@ -16,4 +16,6 @@ abbrev μ-loop : tie.MeasureT-loop
 pub write-devices-spec : {M : Type 1} → statement M
 write-devices-spec =
     tie.close
-    (tie.spec Inv-loop μ-loop (λ c κs. search needs) (λ c. search (needs, writing)) (λ c. search needs) (λ c κs. search (needs, writing)) (λ c κs. search (needs, writing)) (λ c κs. search needs) (λ c. search (needs, writing)) (λ c. search needs) (λ c. search needs) (λ c. search (needs, writing)) (λ c. search needs) (λ c. search (needs, writing)))
+    (tie.spec Inv-loop μ-loop (λ c κs. search needs) (λ c. search (needs, writing)) (λ c. search needs) (λ c κs. search (needs, writing))
+    (λ c κs. search (needs, writing)) (λ c κs. search needs) (λ c. search (needs, writing)) (λ c. search needs) (λ c. search needs)
+    (λ c. search (needs, writing)) (λ c. search needs) (λ c. search (needs, writing)))
