@@ -18,7 +18,7 @@ use Rattle.rules.specs.Write.{describedCountsGood}
 use Rattle.rules.proofs.Width.{width-wide}
 use Rattle.laws.proofs.Tests.{both-true, and-true}
 use Rattle.laws.proofs.Accepted.{Accepted, record-inside}
-use Rattle.laws.specs.Inverse.{AllBytes, Sayable}
+use Rattle.laws.specs.Inverse.{AllBytes, Representable}
 use Rattle.laws.proofs.Parts.{parts-meet, each-part, zeros-part, join-part, join-same, join-length, get-join}
 use Rattle.laws.proofs.Fields.{number-part, fields-back, fields-long, device-back, wider-fits}
 use Rattle.laws.proofs.Same.{same-device}
@@ -79,9 +79,9 @@ module _ (t : List ℕ) (b : AllBytes t) (a : Accepted t) where
       ∙ device-back describedWidth v (wider-fits w describedWidth t (start d) b (width-wide t .high))
 
   -- what it describes can be said
-  pub described-sayable : Sayable (versionOf t) (resourcesOf t) (devicesOf t)
+  pub described-representable : Representable (versionOf t) (resourcesOf t) (devicesOf t)
   unfolding width describedCountsGood
-  described-sayable =
+  described-representable =
       record {
         known = header-says t (a .header) .4;
         resources = rw counts-r resources-long;

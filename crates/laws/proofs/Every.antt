@@ -62,7 +62,7 @@ least-ext f g i (suc k) h =
     decide (g i) (λ e. rw (same ∙ e, e, leastFrom) refl) (λ e. rw (same ∙ e, e, leastFrom) rest)
 
 -- numbers past the first hit do not count
-pub least-cut : (f : ℕ → Bool) (i k j : ℕ) → (0 < j → f (i + k) ≡ true) → leastFrom f i (k + j) ≡ leastFrom f i k
+least-cut : (f : ℕ → Bool) (i k j : ℕ) → (0 < j → f (i + k) ≡ true) → leastFrom f i (k + j) ≡ leastFrom f i k
 unfolding leastFrom
 least-cut f i zero zero h = refl
 least-cut f i zero (suc j) h =
@@ -73,6 +73,13 @@ least-cut f i (suc k) j h =
     let e : suc i + k ≡ i + suc k = omega arith in
     let rest = least-cut f (suc i) k j (λ z. rw e (h z)) in
     rw (suc-add k j) (decide (f i) (λ g. rw (g, leastFrom) refl) (λ g. rw (g, leastFrom) rest))
+
+-- where f and g agree below n, and f has n itself if it goes on past it
+pub least-part : (f g : ℕ → Bool) (n m : ℕ) → ((i : ℕ) → i < n → f i ≡ g i) → n ≤ m → (n < m → f n ≡ true) → least g n ≡ least f m
+least-part f g n m h l c =
+    let all : n + (m - n) ≡ m = omega arith in
+    let z : 0 + n ≡ n = omega arith in
+    sym (least-ext f g 0 n (λ i a b. h i (omega arith))) ∙ sym (least-cut f 0 n (m - n) (λ u. rw z (c (omega arith)))) ∙ ap (least f) all
 
 pub every-ext : (f g : ℕ → Bool) (n : ℕ) → ((i : ℕ) → i < n → f i ≡ g i) → every f n ≡ every g n
 unfolding every

@@ -9,13 +9,15 @@ use lib.Pow.{pow-mono}
 use native.Mathlib.Omega.{arith}
 use borrow.Author.Tests.{ltb-true, ltb-false, ne-eqb}
 use lib.Dec.{eqb, ltb}
-use lib.ListN.{length, getD, take, drop, length-append, length-take, length-drop, take-append-drop, List·getD-eq-default}
+use lib.ListN.{length, getD, take, drop, replicate, length-append, length-take, length-drop, length-replicate, take-append-drop}
+use lib.ListN.{List·getD-eq-default}
 use lib.Seq.{length-take-le, getD-take, getD-drop}
 use Rattle.sets.proofs.Laws.{decide}
 use Rattle.words.specs.Words.{readLE, bytesLE}
 use Rattle.words.proofs.Laws.{read-drop, read-append, read-lt, bytes-length, read-bytes-at, bytes-read}
 use Rattle.rules.specs.Index.{below, eachFrom, each, joinFrom, join}
-use Rattle.rules.specs.Station.{Device, absent, fieldsSize, deviceAt, fieldBytes}
+use Rattle.rules.specs.Station.{Device, absent, recordSize, fieldsSize, zerosSize, deviceAt, fieldBytes}
+use Rattle.rules.specs.Describe.{recordBytes}
 use Rattle.rules.proofs.Index.{below-in, below-out}
 use Rattle.laws.specs.Inverse.{AllBytes}
 use Rattle.laws.proofs.Image.{bytes-bits}
@@ -117,6 +119,11 @@ fields-long w v =
       each-length (v .sxw) 0 5,
       mul-comm w 5,
     )
+
+pub record-long : (w : ℕ) (v : Device) → length (recordBytes w v) ≡ recordSize w
+unfolding recordBytes
+record-long w v =
+    length-append (fieldBytes w v) (replicate (zerosSize w) 0) ∙ omega (arith, fields-long w v, length-replicate {A = ℕ} (zerosSize w) 0)
 
 -- a device whose numbers outside their ranges stand for nothing, as they do in one that was read, and whose sets fit in w bytes
 pub record FieldsFit (w : ℕ) (v : Device) : Type 0 where

@@ -21,13 +21,13 @@ use Rattle.rules.specs.Describe.{tableBytes}
 use Rattle.rules.specs.Write.{describedResourceGood, describedFieldsGood, describedDeviceGood, recordsVerdict, describedCountsGood}
 use Rattle.rules.specs.Write.{writtenSize, writeVerdict, write, describeVerdict, describe}
 use Rattle.rules.proofs.Answers.{first-both, first-through, unless-at, refused-stops, lowest-at}
-use Rattle.laws.specs.Inverse.{AllBytes, Describes, Makes, WrittenDescribes, DescribedMakes, Sayable}
+use Rattle.laws.specs.Inverse.{AllBytes, Describes, Makes, WrittenDescribes, DescribedMakes, Representable}
 use Rattle.laws.proofs.Tests.{both-true}
 use Rattle.laws.proofs.Image.{bytes-bits}
 use Rattle.laws.proofs.Accepted.{DeviceRules, values-rules, refuses, accepted}
 use Rattle.laws.proofs.Good.{good-each}
 use Rattle.laws.proofs.Write.{count-r, count-d, table-long, resources-back, devices-back}
-use Rattle.laws.proofs.Describe.{described-long, resources-long, described-sayable, table-back}
+use Rattle.laws.proofs.Describe.{described-long, resources-long, described-representable, table-back}
 use Rattle.laws.proofs.Demand3.{number-passes}
 use Rattle.laws.proofs.Verdict.{same-verdict}
 
@@ -58,9 +58,9 @@ module _ (version : ℕ) (rs ds : List ℕ) (room : ℕ) (e : passes (writeVerdi
   records-pass = first-both _ _ _ (first-both _ _ _ (first-both _ _ _ (first-both _ _ _ e .1) .1) .1) .0
 
   -- what is written can be said: no record below the count is cut short, and a set has no bit at or above R, which is at most 8w
-  pub written-sayable : Sayable version rs ds
+  pub written-representable : Representable version rs ds
   unfolding writeVerdict recordsVerdict describedCountsGood describedResourceGood describedDeviceGood setGood
-  written-sayable =
+  written-representable =
       let a = first-both _ _ _ e in
       let b = first-both _ _ _ (a .1) in
       let f = first-both _ _ _ records-pass in
@@ -83,7 +83,7 @@ module _ (version : ℕ) (rs ds : List ℕ) (room : ℕ) (e : passes (writeVerdi
   -- so the table is good, and has the bytes that were counted
   pub written-good : tableVerdict t ≡ Done 0
   unfolding recordsVerdict
-  written-good = sym (same-verdict version rs ds written-sayable) ∙ first-through _ (Done 0) records-pass
+  written-good = sym (same-verdict version rs ds written-representable) ∙ first-through _ (Done 0) records-pass
 
   -- the buffer has room for them
   pub written-room : writtenSize version rs ds ≤ room
@@ -94,17 +94,17 @@ module _ (version : ℕ) (rs ds : List ℕ) (room : ℕ) (e : passes (writeVerdi
   unfolding writeVerdict recordsVerdict
   written-done =
       let records : recordsVerdict rs ds ≡ Done 0 = first-through _ (Done 0) records-pass in
-      rw (written-sayable .known, written-sayable .counts, le-leb (writtenSize version rs ds) room written-room, records)
+      rw (written-representable .known, written-representable .counts, le-leb (writtenSize version rs ds) room written-room, records)
       (unfold firstOf unless passes in refl)
 
   pub written-long : length t ≡ writtenSize version rs ds
-  written-long = table-long version rs ds written-sayable
+  written-long = table-long version rs ds written-representable
 
 pub written-describes : (version : ℕ) (rs ds : List ℕ) (room : ℕ) → AllBytes ds → passes (writeVerdict version rs ds room) ≡ true
     → Describes (tableBytes version rs ds) rs ds
 unfolding describe describeVerdict
 written-describes version rs ds room bytes e a b l u =
-    let s = written-sayable version rs ds room e in
+    let s = written-representable version rs ds room e in
     let done : describeVerdict (tableBytes version rs ds) (length a) (length b) ≡ Done (length rs + length ds) =
     rw (
       written-good version rs ds room e,
@@ -124,7 +124,7 @@ described-makes t bytes e a l =
     let version = versionOf t in
     let rs = resourcesOf t in
     let ds = devicesOf t in
-    let s = described-sayable t bytes (accepted t e) in
+    let s = described-representable t bytes (accepted t e) in
     let back = table-back t bytes (accepted t e) in
     let long : writtenSize version rs ds ≡ length t = sym (table-long version rs ds s) ∙ ap length back in
     let records : recordsVerdict rs ds ≡ Done 0 = same-verdict version rs ds s ∙ ap tableVerdict back ∙ first-through _ (Done 0) e in

@@ -19,7 +19,7 @@ join-more f k =
     rw (z, n) at (join-at f 0 (k + 1) k (omega arith)) ∙ ap (λ (l : List ℕ). join f k ++ l) (append-nil (f k))
 
 -- every list of f has n elements
-pub record Rows (f : ℕ → List ℕ) (n : ℕ) : Type 0 where
+pub record SameLength (f : ℕ → List ℕ) (n : ℕ) : Type 0 where
   pub long : (j : ℕ) → length (f j) ≡ n
 
 pub joined-none : (f : ℕ → List ℕ) (d : List ℕ) (at : ℕ) → Emitted d at (join f 0) d at
@@ -27,11 +27,11 @@ unfolding joinFrom
 joined-none f d at = emitted-none d at
 
 -- i of k lists stand from `at` on in d, which has room for all; the code has k as m, and n as s
-module _ (f : ℕ → List ℕ) (n k m : ℕ) (d l : List ℕ) (at i p : ℕ) (rows : Rows f n) (room : at + n * k ≤ length d) (e : m ≡ k)
+module _ (f : ℕ → List ℕ) (n k m : ℕ) (d l : List ℕ) (at i p : ℕ) (same : SameLength f n) (room : at + n * k ≤ length d) (e : m ≡ k)
     (w : Emitted d at (join f i) l p) (h : i < m) where
   pub joined-room : p + n ≤ length l
   joined-room =
-      let place : p ≡ at + n * i = w .place ∙ ap (λ (x : ℕ). at + x) (join-length f n (rows .long) 0 i) in
+      let place : p ≡ at + n * i = w .place ∙ ap (λ (x : ℕ). at + x) (join-length f n (same .long) 0 i) in
       let below : i < k = omega arith in
       omega (arith, place, w .long, mul-suc n i, mul-le-mul-left n below)
 
@@ -40,7 +40,7 @@ module _ (f : ℕ → List ℕ) (n k m : ℕ) (d l : List ℕ) (at i p : ℕ) (r
 
   pub joined-next : (s : ℕ) (l′ : List ℕ) → s ≡ n → l′ ≡ put l p (f i) → Emitted d at (join f (i + 1)) l′ (p + s)
   joined-next s l′ z q =
-      let size = rows .long i in
+      let size = same .long i in
       rw (join-more f i) (emitted-run (f i) w (omega arith, q) (omega (arith, joined-room, w .long)))
 
 pub joined-done : (f : ℕ → List ℕ) (k m : ℕ) (d l : List ℕ) (at i p : ℕ) → Emitted d at (join f i) l p → i ≤ m → m ≤ i → m ≡ k

@@ -17,14 +17,14 @@ use Rattle.rules.specs.Table.{headerGood, countsGood, lengthGood, field, allGoo
 use Rattle.rules.specs.Table.{badField, fieldsGood, fieldsOrObjects, deviceRefusal, deviceGood, tableVerdict}
 use Rattle.rules.specs.Describe.{describedWidth, describedSize, describedR, describedD, describedDevice, headerBytes, tableBytes}
 use Rattle.rules.specs.Write.{describedResourceGood, describedFieldsGood, describedDeviceGood, recordsVerdict, describedCountsGood}
-use Rattle.laws.specs.Inverse.{Sayable, SameVerdict}
+use Rattle.laws.specs.Inverse.{Representable, SameVerdict}
 use Rattle.laws.proofs.All.{all-each}
 use Rattle.laws.proofs.Every.{lowest-ext}
 use Rattle.laws.proofs.Accepted.{fields-inside}
 use Rattle.laws.proofs.Good.{none-bad, joined, Good, good-all, values-same}
 use Rattle.laws.proofs.Write.{count-r, count-d, resource-byte, version-there, width-there, table-long, zero-there, device-there}
 
-module _ (version : ℕ) (rs ds : List ℕ) (s : Sayable version rs ds) where
+module _ (version : ℕ) (rs ds : List ℕ) (s : Representable version rs ds) where
   abbrev w : ℕ
   w = versionWidth version
 

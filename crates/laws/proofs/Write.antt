@@ -7,7 +7,7 @@ use Prim.Native.Nat.{ℕ, _+_, _*_, _^_, _<_}
 use native.Mathlib.Nat.{mod-eq-of-lt}
 use native.Mathlib.Omega.{arith}
 use borrow.Author.Tests.{eqb-true}
-use lib.ListN.{length, getD, take, drop, replicate, length-append, length-replicate, getD-replicate, List·getD-append}
+use lib.ListN.{length, getD, take, drop, replicate, length-append, getD-replicate, List·getD-append}
 use lib.Seq.{take-at, take-all}
 use Rattle.words.specs.Words.{bytesLE}
 use Rattle.words.proofs.Laws.{read-bytes-at}
@@ -18,9 +18,9 @@ use Rattle.rules.specs.Table.{mark}
 use Rattle.rules.specs.Describe.{describedWidth, describedSize, describedR, describedD, describedDevice, resourcesOf, devicesOf}
 use Rattle.rules.specs.Describe.{headerBytes, recordBytes, tableBytes}
 use Rattle.rules.specs.Write.{writtenSize}
-use Rattle.laws.specs.Inverse.{AllBytes, Sayable}
+use Rattle.laws.specs.Inverse.{AllBytes, Representable}
 use Rattle.laws.proofs.Parts.{join-part, join-same, join-length, get-join, get-past}
-use Rattle.laws.proofs.Fields.{fields-back, fields-long, device-back, read-fits}
+use Rattle.laws.proofs.Fields.{record-long, fields-back, fields-long, device-back, read-fits}
 use Rattle.laws.proofs.Same.{same-device}
 
 -- a version that there is fits in its two bytes
@@ -41,12 +41,6 @@ module _ (version : ℕ) (rs ds : List ℕ) where
 
   abbrev written : ℕ → List ℕ
   written d = recordBytes w (describedDevice ds d)
-
-  record-long : (d : ℕ) → length (written d) ≡ recordSize w
-  unfolding recordBytes
-  record-long d =
-      length-append (fieldBytes w (describedDevice ds d)) (replicate (2 + w) 0)
-      ∙ omega (arith, fields-long w (describedDevice ds d), length-replicate {A = ℕ} (2 + w) 0)
 
   front-byte : (d i : ℕ) → i < fieldsSize w → getD (written d) i 0 ≡ getD (fieldBytes w (describedDevice ds d)) (0 + i) 0
   unfolding recordBytes
@@ -71,7 +65,7 @@ module _ (version : ℕ) (rs ds : List ℕ) where
       ∙ List·getD-append rs (join written (describedD ds)) 0 i h
 
   -- ---- of those that a table of the version can say
-  module _ (s : Sayable version rs ds) where
+  module _ (s : Representable version rs ds) where
     -- the header states the version
     pub version-there : versionOf t ≡ version
     unfolding tableBytes headerBytes bytesLE
@@ -94,7 +88,7 @@ module _ (version : ℕ) (rs ds : List ℕ) where
     pub table-long : length t ≡ writtenSize version rs ds
     unfolding tableBytes
     table-long = length-append front (join written (describedD ds))
-        ∙ omega (arith, front-long, join-length written (recordSize w) record-long 0 (describedD ds))
+        ∙ omega (arith, front-long, join-length written (recordSize w) (λ d. record-long w (describedDevice ds d)) 0 (describedD ds))
 
     start-is : (d : ℕ) → deviceStart w t d ≡ 8 + 4 * describedR rs + recordSize w * d
     unfolding deviceStart
@@ -107,7 +101,7 @@ module _ (version : ℕ) (rs ds : List ℕ) where
         let e : deviceStart w t d + i ≡ 8 + 4 * describedR rs + (recordSize w * d + i) = rw (start-is d) (omega arith) in
         ap (λ (k : ℕ). getD t k 0) e
         ∙ get-past front (join written (describedD ds)) (8 + 4 * describedR rs) (recordSize w * d + i) front-long
-        ∙ get-join written (recordSize w) record-long (describedD ds) d i l u
+        ∙ get-join written (recordSize w) (λ j. record-long w (describedDevice ds j)) (describedD ds) d i l u
 
     -- zeros follow its fields
     pub zero-there : (d k : ℕ) → d < describedD ds → k < 2 + w → getD t (deviceStart w t d + 14 + 5 * w + k) 0 ≡ 0

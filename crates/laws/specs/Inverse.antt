@@ -9,7 +9,7 @@ use Rattle.rules.specs.declared.Verdict.the-variants.{Done}
 use Rattle.rules.specs.Station.{versionGood, versionWidth, versionOf, countR, countD}
 use Rattle.rules.specs.Table.{tableVerdict}
 use Rattle.rules.specs.Describe.{describedSize, describedR, describedD, describedDevice, tableBytes}
-use Rattle.rules.specs.Write.{describedCountsGood, recordsVerdict, Written, write, Described, describe}
+use Rattle.rules.specs.Write.{describedCountsGood, recordsVerdict, write, describe}
 
 -- every element is a byte
 abbrev pub AllBytes : List ℕ → Type 0
@@ -35,7 +35,7 @@ abbrev pub DescribedMakes : List ℕ → ℕ → List ℕ → List ℕ → Type 
 DescribedMakes t number rs ds = number ≡ 0 → Makes (versionOf t) (take (4 * countR t) rs) (take (describedSize * countD t) ds) t
 
 -- lists that a table of a version can say: whole records, not too many, and no set has a bit that the version cannot hold
-pub record Sayable (version : ℕ) (rs ds : List ℕ) : Type 0 where
+pub record Representable (version : ℕ) (rs ds : List ℕ) : Type 0 where
   pub known : versionGood version ≡ true
   pub resources : length rs ≡ 4 * describedR rs
   pub devices : length ds ≡ describedSize * describedD ds
@@ -44,4 +44,4 @@ pub record Sayable (version : ℕ) (rs ds : List ℕ) : Type 0 where
 
 -- the writer's verdict on such records is the reader's on the table that they make
 abbrev pub SameVerdict : ℕ → List ℕ → List ℕ → Type 0
-SameVerdict version rs ds = Sayable version rs ds → recordsVerdict rs ds ≡ tableVerdict (tableBytes version rs ds)
+SameVerdict version rs ds = Representable version rs ds → recordsVerdict rs ds ≡ tableVerdict (tableBytes version rs ds)

@@ -26,7 +26,7 @@ use Rattle.laws.proofs.Accepted.{values-inside, fields-inside}
 use Rattle.laws.proofs.Tests.{both-true}
 use Rattle.laws.proofs.Every.{same-test}
 use Rattle.laws.proofs.Tests as tests
-use Rattle.record.specs.Good.{setsFit, absentSet, setsAbsent, rowSize, rowGood}
+use Rattle.record.specs.Good.{setsFit, absentSet, setsAbsent, sizeWith, goodWith}
 use Rattle.record.proofs.Tests.{objects-test}
 use Rattle.record.proofs.FirstBad.{zeroField}
 
@@ -214,17 +214,17 @@ zeros-test w t at n m f g =
 -- ---- a record as the check of a run asks: values, zeros where there are any, objects
 module _ (zeros : Bool) (w resources : ℕ) (t : List ℕ) (d at : ℕ) (v : Bool)
     (e : v ≡ allGood (valueFields w resources d (deviceAt w t at))) where
-  pub values-bad : not v ≡ true → true ≡ not (rowGood zeros w resources t d at)
-  unfolding rowGood
+  pub values-bad : not v ≡ true → true ≡ not (goodWith zeros w resources t d at)
+  unfolding goodWith
   values-bad p = rw (sym e ∙ not-true v p) refl
 
   module _ (p : not v ≡ false) (z : Bool) (f : z ≡ (not zeros || allGood (zeroFields w t at))) where
-    pub zeros-bad : not z ≡ true → true ≡ not (rowGood zeros w resources t d at)
-    unfolding rowGood
+    pub zeros-bad : not z ≡ true → true ≡ not (goodWith zeros w resources t d at)
+    unfolding goodWith
     zeros-bad q = rw (sym e ∙ not-false v p, sym f ∙ not-true z q) refl
 
-    pub objects-left : (o : Bool) → not z ≡ false → o ≡ objectsGood (deviceAt w t at) → not o ≡ not (rowGood zeros w resources t d at)
-    unfolding rowGood
+    pub objects-left : (o : Bool) → not z ≡ false → o ≡ objectsGood (deviceAt w t at) → not o ≡ not (goodWith zeros w resources t d at)
+    unfolding goodWith
     objects-left o q g = rw (sym e ∙ not-false v p, sym f ∙ not-false z q, g) refl
 
 pub zeros-none : (zeros b : Bool) → not zeros ≡ true → true ≡ (not zeros || b)
@@ -234,37 +234,37 @@ pub zeros-there : (zeros z b : Bool) → not zeros ≡ false → z ≡ b → z �
 zeros-there zeros z b p e = rw p e
 
 -- with or without zeros, the fields end inside the record
-pub fields-in-row : (zeros : Bool) (w at n : ℕ) → at + rowSize zeros w ≤ n → at + fieldsSize w ≤ n
-fields-in-row true w at n h = omega arith
-fields-in-row false w at n h = h
+pub fields-in-record : (zeros : Bool) (w at n : ℕ) → at + sizeWith zeros w ≤ n → at + fieldsSize w ≤ n
+fields-in-record true w at n h = omega arith
+fields-in-record false w at n h = h
 
-pub zeros-in-row : (zeros : Bool) (w at n : ℕ) → not zeros ≡ false → at + rowSize zeros w ≤ n → at + recordSize w ≤ n
-zeros-in-row zeros w at n e h = rw (not-false zeros e) at h
+pub zeros-in-record : (zeros : Bool) (w at n : ℕ) → not zeros ≡ false → at + sizeWith zeros w ≤ n → at + recordSize w ≤ n
+zeros-in-record zeros w at n e h = rw (not-false zeros e) at h
 
-pub size-with : (zeros : Bool) (w n : ℕ) → zeros ≡ true → n ≡ recordSize w → n ≡ rowSize zeros w
+pub size-with : (zeros : Bool) (w n : ℕ) → zeros ≡ true → n ≡ recordSize w → n ≡ sizeWith zeros w
 size-with zeros w n e f = rw e f
 
-pub size-without : (zeros : Bool) (w : ℕ) → zeros ≡ false → 14 + 5 * w ≡ rowSize zeros w
+pub size-without : (zeros : Bool) (w : ℕ) → zeros ≡ false → 14 + 5 * w ≡ sizeWith zeros w
 size-without zeros w e = rw e refl
 
-pub ruleset row-tests = (
+pub ruleset run-tests = (
   values-bad,
   zeros-bad,
   objects-left,
   zeros-none,
   zeros-there,
-  fields-in-row,
-  zeros-in-row,
+  fields-in-record,
+  zeros-in-record,
   size-with,
   size-without,
 )
 
 -- a table's record is one with zeros
-pub device-row : (w resources : ℕ) (t : List ℕ) (d at : ℕ)
-    → rowGood true w resources t d at
+pub table-record : (w resources : ℕ) (t : List ℕ) (d at : ℕ)
+    → goodWith true w resources t d at
     ≡ eqb (firstBad (recordSize w) (deviceFields w resources t d at)) (recordSize w) && objectsGood (deviceAt w t at)
-unfolding rowGood deviceFields
-device-row w resources t d at =
+unfolding goodWith deviceFields
+table-record w resources t d at =
     let fields = deviceFields w resources t d at in
     rw (none-bad (recordSize w) fields (fields-inside w resources t d at)) (rw joined refl)
 

@@ -1,22 +1,16 @@
 -- The lowest bad record of a run: what the two loops keep.
-use mathlib.Core.Path.{_≡_, refl, ap}
+use mathlib.Core.Path.{_≡_, ap}
 use mathlib.Core.Bool.{Bool, not}
 use mathlib.Core.List.{List}
 use Prim.Native.Nat.{ℕ, _+_, _*_, _-_, _^_, _≤_, _<_}
-use native.Mathlib.Nat.{mul-zero, mul-suc, mul-le-mul-left, sub-zero}
+use native.Mathlib.Nat.{mul-zero, mul-suc, mul-le-mul-left}
 use native.Mathlib.Numerals.{add-one}
 use native.Mathlib.Omega.{arith}
-use Rattle.rules.specs.Index.{leastFrom, least}
-use Rattle.rules.proofs.Index.{found, next, done}
-use Rattle.record.specs.Good.{rowSize, rowGood}
+use Rattle.rules.proofs.Index.{lowestOf}
+use Rattle.record.specs.Good.{sizeWith, goodWith}
 
 pub opposite : (a b : Bool) → a ≡ b → not a ≡ not b
 opposite a b e = ap not e
-
-pub run-starts : (f : ℕ → Bool) (n : ℕ) → leastFrom f 0 (n - 0) ≡ least f n
-run-starts f n = rw (sub-zero n) refl
-
-pub ruleset run-loop = (run-starts, found, next, done)
 
 -- ---- record i starts at the first's byte and i times the size
 pub place-starts : (first size : ℕ) → first ≡ first + size * 0
@@ -33,8 +27,8 @@ pub next-small : (first at size s n i l : ℕ) → at ≡ first + size * i → s
     → at + s < 2 ^ 64
 next-small first at size s n i l e f h r u = omega (arith, record-room first at size n i l e h r)
 
-pub row-here : (zeros : Bool) (w resources : ℕ) (t : List ℕ) (first at d : ℕ) (b : Bool) → at ≡ first + rowSize zeros w * d
-    → b ≡ not (rowGood zeros w resources t d at) → b ≡ not (rowGood zeros w resources t d (first + rowSize zeros w * d))
-row-here zeros w resources t first at d b e f = rw e at f
+pub record-here : (zeros : Bool) (w resources : ℕ) (t : List ℕ) (first at d : ℕ) (b : Bool) → at ≡ first + sizeWith zeros w * d
+    → b ≡ not (goodWith zeros w resources t d at) → b ≡ not (goodWith zeros w resources t d (first + sizeWith zeros w * d))
+record-here zeros w resources t first at d b e f = rw e at f
 
-pub ruleset row-run = (run-loop, place-starts, place-next, record-room, next-small, row-here)
+pub ruleset device-run = (lowestOf, place-starts, place-next, record-room, next-small, record-here)

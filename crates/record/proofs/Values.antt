@@ -13,9 +13,9 @@ use Rattle.rules.specs.Index.{eachFrom, each, joinFrom, join}
 use Rattle.rules.specs.Station as station
 use Rattle.rules.specs.Station.{fieldsSize, zerosSize, recordSize, fieldBytes}
 use Rattle.laws.proofs.Parts.{join-length}
-use Rattle.laws.proofs.Joined.{Rows, joined-none, joined-room, joined-small, joined-next, joined-done}
+use Rattle.laws.proofs.Joined.{SameLength, joined-none, joined-room, joined-small, joined-next, joined-done}
 use Rattle.record.specs.declared.device.Device.{Device}
-use Rattle.record.specs.Held.{held, setsBytes, heldBytes}
+use Rattle.record.specs.Value.{deviceValue, setsBytes, valueBytes}
 
 -- ---- a device read: four, and five, values of a numbered field; all fields
 pub four-values : (f : ℕ → ℕ) (a b c d : ℕ) → a ≡ f 0 → b ≡ f 1 → c ≡ f 2 → d ≡ f 3 → a ∷ b ∷ c ∷ d ∷ [] ≡ each f 4
@@ -29,23 +29,23 @@ five-values f a b c d e p q r s t = rw (p, q, r, s, t) refl
 pub held-is : (v : station.Device) (parent ps pr flags : ℕ) (sets sxd sxw : List ℕ) (deepest : ℕ) → parent ≡ v .parent → ps ≡ v .ps
     → pr ≡ v .pr → flags ≡ v .flags → sets ≡ each (v .sets) 5 → sxd ≡ each (λ k. v .sxd (k + 1)) 4 → sxw ≡ each (v .sxw) 5
     → deepest ≡ v .deepest
-    → record { parent = parent; ps = ps; pr = pr; flags = flags; sets = sets; sxd = sxd; sxw = sxw; deepest = deepest } ≡ held v
-unfolding held
+    → record { parent = parent; ps = ps; pr = pr; flags = flags; sets = sets; sxd = sxd; sxw = sxw; deepest = deepest } ≡ deviceValue v
+unfolding deviceValue
 held-is v parent ps pr flags sets sxd sxw deepest a b c d e f g h = rw (a, b, c, d, e, f, g, h) refl
 
 pub ruleset held-fields = (four-values, five-values, held-is)
 
 -- its bytes are those of the station's device
-pub held-bytes : (w : ℕ) (v : station.Device) → heldBytes w (held v) ≡ fieldBytes w v
-unfolding held setsBytes heldBytes fieldBytes eachFrom joinFrom
+pub held-bytes : (w : ℕ) (v : station.Device) → valueBytes w (deviceValue v) ≡ fieldBytes w v
+unfolding deviceValue setsBytes valueBytes fieldBytes eachFrom joinFrom
 held-bytes w v = refl
 
 -- ---- the five sets, by a loop
 abbrev pub setBytes : ℕ → List ℕ → ℕ → List ℕ
 setBytes w sets k = bytesLE w (getD sets k 0)
 
-set-rows : (w : ℕ) (sets : List ℕ) → Rows (setBytes w sets) w
-set-rows w sets = record { long = λ j. bytes-length w (getD sets j 0) }
+set-lengths : (w : ℕ) (sets : List ℕ) → SameLength (setBytes w sets) w
+set-lengths w sets = record { long = λ j. bytes-length w (getD sets j 0) }
 
 module _ (w : ℕ) (sets d l : List ℕ) (at i p : ℕ) (room : at + 5 * w ≤ length d) (e : Emitted d at (join (setBytes w sets) i) l p)
     (h : i < 5) where
@@ -53,13 +53,13 @@ module _ (w : ℕ) (sets d l : List ℕ) (at i p : ℕ) (room : at + 5 * w ≤ l
   fits = omega (arith, mul-comm w 5)
 
   pub set-room : p + w ≤ length l
-  set-room = joined-room (setBytes w sets) w 5 5 d l at i p (set-rows w sets) fits refl e h
+  set-room = joined-room (setBytes w sets) w 5 5 d l at i p (set-lengths w sets) fits refl e h
 
   pub set-small : length d < 2 ^ 64 → p + w < 2 ^ 64
-  set-small u = joined-small (setBytes w sets) w 5 5 d l at i p (set-rows w sets) fits refl e h w refl u
+  set-small u = joined-small (setBytes w sets) w 5 5 d l at i p (set-lengths w sets) fits refl e h w refl u
 
   pub set-next : (l′ : List ℕ) → l′ ≡ put l p (bytesLE w (getD sets i 0)) → Emitted d at (join (setBytes w sets) (i + 1)) l′ (p + w)
-  set-next l′ q = joined-next (setBytes w sets) w 5 5 d l at i p (set-rows w sets) fits refl e h w l′ refl q
+  set-next l′ q = joined-next (setBytes w sets) w 5 5 d l at i p (set-lengths w sets) fits refl e h w l′ refl q
 
 pub sets-done : (w : ℕ) (sets d l : List ℕ) (at i p : ℕ) → Emitted d at (join (setBytes w sets) i) l p → i ≤ 5 → 5 ≤ i
     → l ≡ put d at (setsBytes w sets)
@@ -84,8 +84,8 @@ module _ (w : ℕ) (d : List ℕ) (at : ℕ) (v : Device) (room : at + fieldsSiz
 
   pub device-put : (a b c e l : List ℕ) → a ≡ put d at head → b ≡ put a (at + 4) (setsBytes w (v .sets))
       → c ≡ put b (at + 4 + 5 * w) (v .sxd) → e ≡ put c (at + 8 + 5 * w) (v .sxw) → l ≡ put e (at + 13 + 5 * w) (v .deepest ∷ [])
-      → (l ≡ put d at (heldBytes w v)) × (length (heldBytes w v) ≡ fieldsSize w)
-  unfolding heldBytes
+      → (l ≡ put d at (valueBytes w v)) × (length (valueBytes w v) ≡ fieldsSize w)
+  unfolding valueBytes
   device-put a b c e l o p q r s =
       let sets = setsBytes w (v .sets) in
       let n = sets-long w (v .sets) in
@@ -114,18 +114,19 @@ unfolding bytesLE
 zeros-long w = let c : zerosSize w ≡ w + 2 = omega arith in rw c (zero-bytes w 2)
 
 module _ (w : ℕ) (d : List ℕ) (at : ℕ) (v : Device) (room : at + recordSize w ≤ length d) where
-  pub record-put : (a b c : List ℕ) → (a ≡ put d at (heldBytes w v)) × (length (heldBytes w v) ≡ fieldsSize w)
+  pub record-put : (a b c : List ℕ) → (a ≡ put d at (valueBytes w v)) × (length (valueBytes w v) ≡ fieldsSize w)
       → b ≡ put a (at + 14 + 5 * w) (bytesLE w 0)
-      → c ≡ put b (at + 14 + 6 * w) (bytesLE 2 0) → c ≡ put d at (heldBytes w v ++ replicate (zerosSize w) 0)
+      → c ≡ put b (at + 14 + 6 * w) (bytesLE 2 0) → c ≡ put d at (valueBytes w v ++ replicate (zerosSize w) 0)
   record-put a b c o p q =
       let n = o .1 in
       let m = bytes-length w 0 in
-      let n1 = length-append (heldBytes w v) (bytesLE w 0) in
-      let p1 : b ≡ put d at (heldBytes w v ++ bytesLE w 0) =
-      put-then d b at (at + 14 + 5 * w) (heldBytes w v) (bytesLE w 0) (omega (arith, n)) (omega (arith, n)) (rw (o .0) at p) in
-      let p2 : c ≡ put d at (heldBytes w v ++ bytesLE w 0 ++ bytesLE 2 0) =
-      put-then d c at (at + 14 + 6 * w) (heldBytes w v ++ bytesLE w 0) (bytesLE 2 0) (omega (arith, n, n1, m)) (omega (arith, n, n1, m))
+      let n1 = length-append (valueBytes w v) (bytesLE w 0) in
+      let p1 : b ≡ put d at (valueBytes w v ++ bytesLE w 0) =
+      put-then d b at (at + 14 + 5 * w) (valueBytes w v) (bytesLE w 0) (omega (arith, n)) (omega (arith, n)) (rw (o .0) at p) in
+      let p2 : c ≡ put d at (valueBytes w v ++ bytesLE w 0 ++ bytesLE 2 0) =
+      put-then d c at (at + 14 + 6 * w) (valueBytes w v ++ bytesLE w 0) (bytesLE 2 0) (omega (arith, n, n1, m)) (omega (arith, n, n1, m))
       (rw p1 at q) in
-      p2 ∙ ap (put d at) (append-assoc (heldBytes w v) (bytesLE w 0) (bytesLE 2 0) ∙ ap (λ (l : List ℕ). heldBytes w v ++ l) (zeros-long w))
+      p2 ∙ ap (put d at) (append-assoc (valueBytes w v) (bytesLE w 0) (bytesLE 2 0)
+      ∙ ap (λ (l : List ℕ). valueBytes w v ++ l) (zeros-long w))
 
 pub ruleset held-writes = (head-put, device-put, record-put)

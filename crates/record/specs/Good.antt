@@ -19,12 +19,12 @@ unfoldable pub absentSet : Device → ℕ → ℕ
 absentSet v k = cond (present v k) 0 (v .sets k)
 
 -- the bytes of a device's record, with the zeros at its end as in a table, or without as in a list of described devices
-abbrev pub rowSize : Bool → ℕ → ℕ
-rowSize zeros w = cond zeros (recordSize w) (fieldsSize w)
+abbrev pub sizeWith : Bool → ℕ → ℕ
+sizeWith zeros w = cond zeros (recordSize w) (fieldsSize w)
 
 -- device d's record, which starts at a byte: its values are good, zeros follow them where there are any, and its objects agree
-unfoldable pub rowGood : Bool → ℕ → ℕ → List ℕ → ℕ → ℕ → Bool
-rowGood zeros w resources t d at =
+unfoldable pub goodWith : Bool → ℕ → ℕ → List ℕ → ℕ → ℕ → Bool
+goodWith zeros w resources t d at =
     allGood (valueFields w resources d (deviceAt w t at))
     && (not zeros || allGood (zeroFields w t at))
     && objectsGood (deviceAt w t at)

@@ -1,2 +1,2 @@
 pub mod Good
-pub mod Held
+pub mod Value

@@ -7,7 +7,7 @@ ghost use Rattle.rules.specs.Table.{firstBad, resourceFields, resourceGood, hea
 ghost use Rattle.rules.specs.Table.{deepestFields, valueFields, zeroFields, deviceFields};
 
 // Where a resource's first bad field starts, 4 if none is bad.
-pub fn bad_resource(table: &[u8], at: usize) -> usize
+fn bad_resource(table: &[u8], at: usize) -> usize
     requires { ⌜ at + 4 ≤ length (now table) ⌝ }
     ensures { λ r. ⌜ r ≡ firstBad 4 (resourceFields (now (table .entry)) at) ⌝ }
 {

@@ -6,7 +6,7 @@ ghost use lib.ListN.{length, replicate};
 ghost use Rattle.words.specs.Words.{put};
 ghost use Rattle.rules.specs.Index.{each};
 ghost use Rattle.rules.specs.Station.{Wide, recordSize, fieldsSize, zerosSize, deviceAt};
-ghost use Rattle.record.specs.Held.{held, setsBytes, heldBytes};
+ghost use Rattle.record.specs.Value.{deviceValue, setsBytes, valueBytes};
 
 // What a device's record says, in the order of RULES.md 2.4.
 pub struct Device {
@@ -34,7 +34,7 @@ fn sets(bytes: &[u8], at: usize, w: usize) -> [u64; 5]
 }
 
 // `_S1D` to `_S4D`.
-fn states(bytes: &[u8], at: usize, w: usize) -> [u8; 4]
+fn sxd(bytes: &[u8], at: usize, w: usize) -> [u8; 4]
     requires { ⌜ Wide w × (at + fieldsSize w ≤ length (now bytes)) ⌝ }
     ensures { λ r. ⌜ r ≡ each (λ k. deviceAt w (now (bytes .entry)) at .sxd (k + 1)) 4 ⌝ }
 {
@@ -46,7 +46,7 @@ fn states(bytes: &[u8], at: usize, w: usize) -> [u8; 4]
 }
 
 // `_S0W` to `_S4W`.
-fn limits(bytes: &[u8], at: usize, w: usize) -> [u8; 5]
+fn sxw(bytes: &[u8], at: usize, w: usize) -> [u8; 5]
     requires { ⌜ Wide w × (at + fieldsSize w ≤ length (now bytes)) ⌝ }
     ensures { λ r. ⌜ r ≡ each (deviceAt w (now (bytes .entry)) at .sxw) 5 ⌝ }
 {
@@ -61,15 +61,15 @@ fn limits(bytes: &[u8], at: usize, w: usize) -> [u8; 5]
 // The device whose fields start at a byte.
 pub fn read(bytes: &[u8], at: usize, w: usize) -> Device
     requires { ⌜ Wide w × (at + fieldsSize w ≤ length (now bytes)) ⌝ }
-    ensures { λ r. ⌜ r ≡ held (deviceAt w (now (bytes .entry)) at) ⌝ }
+    ensures { λ r. ⌜ r ≡ deviceValue (deviceAt w (now (bytes .entry)) at) ⌝ }
 {
     let parent = crate::read::parent(bytes, at, w);
     let ps = crate::read::ps(bytes, at, w);
     let pr = crate::read::pr(bytes, at, w);
     let flags = crate::read::flags(bytes, at, w);
     let sets = sets(bytes, at, w);
-    let sxd = states(bytes, at, w);
-    let sxw = limits(bytes, at, w);
+    let sxd = sxd(bytes, at, w);
+    let sxw = sxw(bytes, at, w);
     let deepest = crate::read::deepest(bytes, at, w);
     Device {
         parent,
@@ -111,7 +111,7 @@ fn write_head(parent: u8, ps: u8, pr: u8, flags: u8, out: &mut [u8], at: usize)
 // The device's fields, from `at` on.
 pub fn write(v: Device, out: &mut [u8], at: usize, w: usize)
     requires { ⌜ Wide w × (at + fieldsSize w ≤ length (now out)) ⌝ }
-    ensures { λ _. ⌜ (now (out .exit) ≡ put (now (out .entry)) at (heldBytes w v)) × (length (heldBytes w v) ≡ fieldsSize w) ⌝ }
+    ensures { λ _. ⌜ (now (out .exit) ≡ put (now (out .entry)) at (valueBytes w v)) × (length (valueBytes w v) ≡ fieldsSize w) ⌝ }
 {
     write_head(v.parent, v.ps, v.pr, v.flags, out, at);
     let sets = v.sets;
@@ -126,7 +126,7 @@ pub fn write(v: Device, out: &mut [u8], at: usize, w: usize)
 // The device's record: its fields, then zeros to its end.
 pub fn write_record(v: Device, out: &mut [u8], at: usize, w: usize)
     requires { ⌜ Wide w × (at + recordSize w ≤ length (now out)) ⌝ }
-    ensures { λ _. ⌜ now (out .exit) ≡ put (now (out .entry)) at (heldBytes w v ++ replicate (zerosSize w) 0) ⌝ }
+    ensures { λ _. ⌜ now (out .exit) ≡ put (now (out .entry)) at (valueBytes w v ++ replicate (zerosSize w) 0) ⌝ }
 {
     write(v, out, at, w);
     crate::word::write(out, at + 14 + 5 * w, w, 0);

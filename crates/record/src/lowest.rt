@@ -6,7 +6,7 @@ ghost use lib.ListN.{length};
 ghost use Rattle.rules.specs.Index.{least};
 ghost use Rattle.rules.specs.Station.{Wide, limit};
 ghost use Rattle.rules.specs.Table.{allGood, resourceGood, zeroFields};
-ghost use Rattle.record.specs.Good.{rowSize, rowGood};
+ghost use Rattle.record.specs.Good.{sizeWith, goodWith};
 
 // Whether a resource has a bad field.
 fn resource_bad(bytes: &[u8], at: usize) -> bool
@@ -33,9 +33,9 @@ pub fn lowest_resource(bytes: &[u8], first: usize, n: usize) -> usize
 }
 
 // The bytes of a device's record, with the zeros at its end or without.
-pub fn row_size(w: usize, zeros: bool) -> usize
+fn size_with(w: usize, zeros: bool) -> usize
     requires { ⌜ Wide w ⌝ }
-    ensures { λ r. ⌜ r ≡ rowSize zeros w ⌝ }
+    ensures { λ r. ⌜ r ≡ sizeWith zeros w ⌝ }
 {
     if zeros {
         return crate::read::size(w);
@@ -44,8 +44,8 @@ pub fn row_size(w: usize, zeros: bool) -> usize
 }
 
 // Whether zeros follow the values, where there are any.
-fn zeros_good(bytes: &[u8], at: usize, w: usize, zeros: bool) -> bool
-    requires { ⌜ Wide w × (at + rowSize zeros w ≤ length (now bytes)) ⌝ }
+fn zeros_follow(bytes: &[u8], at: usize, w: usize, zeros: bool) -> bool
+    requires { ⌜ Wide w × (at + sizeWith zeros w ≤ length (now bytes)) ⌝ }
     ensures { λ b. ⌜ b ≡ (not zeros || allGood (zeroFields w (now (bytes .entry)) at)) ⌝ }
 {
     if !zeros {
@@ -56,13 +56,13 @@ fn zeros_good(bytes: &[u8], at: usize, w: usize, zeros: bool) -> bool
 
 // Whether device d has a bad field, or its objects do not agree.
 fn device_bad(bytes: &[u8], at: usize, w: usize, zeros: bool, d: usize, resources: usize) -> bool
-    requires { ⌜ Wide w × (at + rowSize zeros w ≤ length (now bytes)) × (d < 256) × (resources ≤ limit w) ⌝ }
-    ensures { λ b. ⌜ b ≡ not (rowGood zeros w resources (now (bytes .entry)) d at) ⌝ }
+    requires { ⌜ Wide w × (at + sizeWith zeros w ≤ length (now bytes)) × (d < 256) × (resources ≤ limit w) ⌝ }
+    ensures { λ b. ⌜ b ≡ not (goodWith zeros w resources (now (bytes .entry)) d at) ⌝ }
 {
     if !crate::quick::values_good(bytes, at, w, d, resources) {
         return true;
     }
-    if !zeros_good(bytes, at, w, zeros) {
+    if !zeros_follow(bytes, at, w, zeros) {
         return true;
     }
     !crate::quick::objects_agree(bytes, at, w)
@@ -77,10 +77,10 @@ pub fn lowest_device(
     n: usize,
     resources: usize,
 ) -> usize
-    requires { ⌜ Wide w × (first + rowSize zeros w * n ≤ length (now bytes)) × (n < 256) × (resources ≤ limit w) ⌝ }
-    ensures { λ d. ⌜ d ≡ least (λ i. not (rowGood zeros w resources (now (bytes .entry)) i (first + rowSize zeros w * i))) n ⌝ }
+    requires { ⌜ Wide w × (first + sizeWith zeros w * n ≤ length (now bytes)) × (n < 256) × (resources ≤ limit w) ⌝ }
+    ensures { λ d. ⌜ d ≡ least (λ i. not (goodWith zeros w resources (now (bytes .entry)) i (first + sizeWith zeros w * i))) n ⌝ }
 {
-    let size = row_size(w, zeros);
+    let size = size_with(w, zeros);
     let mut at = first;
     let mut i = 0;
     while i < n {

@@ -114,7 +114,7 @@ pub fn zeros_good(table: &[u8], at: usize, w: usize) -> bool
 }
 
 // Whether the objects agree. Where the states with `_PS` are those with `_PR`, D0 and D3hot among them, only `_DSW` is left to ask;
-// any other device is held to the whole rule.
+// any other device is deviceValue to the whole rule.
 pub fn objects_agree(table: &[u8], at: usize, w: usize) -> bool
     requires { ⌜ Wide w × (at + fieldsSize w ≤ length (now table)) ⌝ }
     ensures { λ b. ⌜ b ≡ objectsGood (deviceAt w (now (table .entry)) at) ⌝ }

@@ -25,12 +25,12 @@ asVersion version room answer =
     record { version = version; resources = benchResources; devices = benchDevices; room = room; answer = answer }
 
 -- these lists in the place of the bench station's, into 140 bytes
-abbrev pub withLists : List ℕ → List ℕ → List ℕ → WriteRow
-withLists rs ds answer = record { version = 1; resources = rs; devices = ds; room = 140; answer = answer }
+abbrev pub fromLists : List ℕ → List ℕ → List ℕ → WriteRow
+fromLists rs ds answer = record { version = 1; resources = rs; devices = ds; room = 140; answer = answer }
 
 -- its devices with x at a byte
 abbrev pub withByte : ℕ → ℕ → List ℕ → WriteRow
-withByte at x answer = withLists benchResources (put benchDevices at (x ∷ [])) answer
+withByte at x answer = fromLists benchResources (put benchDevices at (x ∷ [])) answer
 
 -- a device without any object
 abbrev pub bareDevice : List ℕ
@@ -61,10 +61,10 @@ writeRows =
     record { version = 1; resources = []; devices = 255 ∷ []; room = 47; answer = 9 ∷ 0 ∷ 0 ∷ [] } ∷
     record { version = 1; resources = []; devices = 255 ∷ []; room = 48; answer = 5 ∷ 0 ∷ 0 ∷ [] } ∷
     -- 4: systemlevel, byte 1; the lowest; cut short; before any 5
-    withLists (put benchResources 8 (5 ∷ [])) benchDevices (4 ∷ 2 ∷ 0 ∷ []) ∷
-    withLists (put benchResources 5 (1 ∷ 0 ∷ 0 ∷ 5 ∷ [])) benchDevices (4 ∷ 1 ∷ 0 ∷ []) ∷
-    withLists (take 11 benchResources) benchDevices (4 ∷ 2 ∷ 0 ∷ []) ∷
-    withLists (take 9 benchResources) (put benchDevices 0 (0 ∷ [])) (4 ∷ 2 ∷ 0 ∷ []) ∷
+    fromLists (put benchResources 8 (5 ∷ [])) benchDevices (4 ∷ 2 ∷ 0 ∷ []) ∷
+    fromLists (put benchResources 5 (1 ∷ 0 ∷ 0 ∷ 5 ∷ [])) benchDevices (4 ∷ 1 ∷ 0 ∷ []) ∷
+    fromLists (take 11 benchResources) benchDevices (4 ∷ 2 ∷ 0 ∷ []) ∷
+    fromLists (take 9 benchResources) (put benchDevices 0 (0 ∷ [])) (4 ∷ 2 ∷ 0 ∷ []) ∷
     -- 5: parents; masks; flags; `_PR0` of the camera with r3 alone, with more, with r40 and with r63; a set without its object; `_S1D`,
     -- `_S3D`;
     -- `_S3D` above `_S3W`; `_S0W`; deepest
@@ -87,13 +87,13 @@ writeRows =
     withByte 161 1 (5 ∷ 2 ∷ 0 ∷ []) ∷
     -- 6: `_PS3`; `_PR0`; `_DSW` without `_PRW`
     withByte 1 1 (6 ∷ 0 ∷ 0 ∷ []) ∷
-    withLists benchResources (put benchDevices 110 (0x08 ∷ 0 ∷ 0 ∷ [])) (6 ∷ 2 ∷ 0 ∷ []) ∷
+    fromLists benchResources (put benchDevices 110 (0x08 ∷ 0 ∷ 0 ∷ [])) (6 ∷ 2 ∷ 0 ∷ []) ∷
     withByte 111 2 (6 ∷ 2 ∷ 0 ∷ []) ∷
     -- cut short; 5 before 6; 6 before 5 of a later device
-    withLists benchResources (take 161 benchDevices) (5 ∷ 2 ∷ 0 ∷ []) ∷
+    fromLists benchResources (take 161 benchDevices) (5 ∷ 2 ∷ 0 ∷ []) ∷
     withByte 55 4 (6 ∷ 1 ∷ 0 ∷ []) ∷
-    withLists benchResources (put benchDevices 54 (1 ∷ 4 ∷ [])) (5 ∷ 1 ∷ 0 ∷ []) ∷
-    withLists benchResources (put (take 109 benchDevices) 55 (4 ∷ [])) (6 ∷ 1 ∷ 0 ∷ []) ∷
+    fromLists benchResources (put benchDevices 54 (1 ∷ 4 ∷ [])) (5 ∷ 1 ∷ 0 ∷ []) ∷
+    fromLists benchResources (put (take 109 benchDevices) 55 (4 ∷ [])) (6 ∷ 1 ∷ 0 ∷ []) ∷
     []
 
 abbrev pub answered : WriteRow → List ℕ

@@ -26,8 +26,8 @@ use Rattle.laws.proofs.Accepted.{accepted, refuses}
 use Rattle.laws.proofs.Every.{least-ext}
 use Rattle.laws.proofs.Tests.{both-true}
 use Rattle.table.specs.Layout.{WellSized}
-use Rattle.record.specs.Good.{rowGood}
-use Rattle.record.proofs.AllGood.{device-row}
+use Rattle.record.specs.Good.{goodWith}
+use Rattle.record.proofs.AllGood.{table-record}
 
 -- ---- each check, on the bytes
 module _ (t : List ℕ) where
@@ -82,12 +82,12 @@ module _ (t : List ℕ) (first w n resources : ℕ) (e : first ≡ deviceStart (
   unfolding deviceStart
   start-of i = rw (e, f, mul-zero (recordSize (width t))) (omega arith)
 
-  pub lowest-5 : (d : ℕ) → d ≡ least (λ i. not (rowGood true w resources t i (first + recordSize w * i))) n
+  pub lowest-5 : (d : ℕ) → d ≡ least (λ i. not (goodWith true w resources t i (first + recordSize w * i))) n
       → d ≡ least (λ i. not (deviceGood t i)) (countD t)
   unfolding deviceGood fieldsGood badField
   lowest-5 d h =
-      let same : (i : ℕ) → rowGood true w resources t i (first + recordSize w * i) ≡ deviceGood t i =
-      λ i. rw (start-of i, f, k) (device-row (width t) (countR t) t i (deviceStart (width t) t i)) in
+      let same : (i : ℕ) → goodWith true w resources t i (first + recordSize w * i) ≡ deviceGood t i =
+      λ i. rw (start-of i, f, k) (table-record (width t) (countR t) t i (deviceStart (width t) t i)) in
       h ∙ rw g (least-ext _ (λ i. not (deviceGood t i)) 0 (countD t) (λ i a b. ap not (same i)))
 
   pub run-inside : WellSized t → first + recordSize w * n ≤ length t

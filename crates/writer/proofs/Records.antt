@@ -21,12 +21,12 @@ use Rattle.rules.specs.Write.{describedResourceGood, describedFieldsGood, descr
 use Rattle.rules.specs.Write.{writtenSize, writeVerdict}
 use Rattle.rules.proofs.Answers.{refused-stops, first-pass, first-stop, first-none}
 use Rattle.laws.proofs.Accepted.{refuses}
-use Rattle.laws.proofs.Every.{least-ext, least-cut}
+use Rattle.laws.proofs.Every.{least-part}
 use Rattle.laws.proofs.Tests.{both-true}
-use Rattle.record.specs.Good.{rowGood}
+use Rattle.record.specs.Good.{goodWith}
 use Rattle.record.proofs.AllGood.{value-good}
 use Rattle.table.proofs.Verdicts.{unless-passed, unless-refused, lowest-passed, lowest-refused}
-use Rattle.writer.specs.Few.{Few}
+use Rattle.writer.specs.WithinLimits.{WithinLimits}
 
 -- a described device's sets have a width that a record can have
 pub described-wide : Wide 8
@@ -45,12 +45,9 @@ module _ (rs : List ℕ) where
   pub resources-run : (r : ℕ) → r ≡ least (λ i. not (resourceGood rs (0 + 4 * i))) (length rs / 4)
       → r ≡ least (λ i. not (describedResourceGood rs i)) (describedR rs)
   resources-run r e =
-      let f : ℕ → Bool = λ i. not (describedResourceGood rs i) in
-      let n = length rs / 4 in
-      let all : n + (describedR rs - n) ≡ describedR rs = omega arith in
-      let z : 0 + n ≡ n = omega arith in
-      e ∙ least-ext _ f 0 n (λ i a b. ap not (sym (whole-resource i (omega arith))))
-      ∙ sym (least-cut f 0 n (describedR rs - n) (λ h. rw z (cut-resource (omega arith)))) ∙ ap (least f) all
+      e ∙ least-part (λ i. not (describedResourceGood rs i)) _ (length rs / 4) (describedR rs) (λ i h. ap not (whole-resource i h))
+      (omega arith)
+      cut-resource
 
 -- ---- one device among R resources
 module _ (resources : ℕ) (ds : List ℕ) (d : ℕ) where
@@ -80,8 +77,8 @@ module _ (resources : ℕ) (ds : List ℕ) where
   unfolding describedDeviceGood
   cut-device h = rw (← fields-cut resources ds (length ds / 54) (omega arith)) refl
 
-  whole-device : (i : ℕ) → i < length ds / 54 → describedDeviceGood resources ds i ≡ rowGood false 8 resources ds i (0 + 54 * i)
-  unfolding describedDeviceGood describedFieldsGood rowGood
+  whole-device : (i : ℕ) → i < length ds / 54 → describedDeviceGood resources ds i ≡ goodWith false 8 resources ds i (0 + 54 * i)
+  unfolding describedDeviceGood describedFieldsGood goodWith
   whole-device i h =
       rw (
         le-leb (describedSize * i + describedSize) (length ds) (omega arith),
@@ -89,15 +86,11 @@ module _ (resources : ℕ) (ds : List ℕ) where
         and-true (allGood (valueFields 8 resources i (describedDevice ds i))),
       ) refl
 
-  pub devices-run : (d : ℕ) → d ≡ least (λ i. not (rowGood false 8 resources ds i (0 + 54 * i))) (length ds / 54)
+  pub devices-run : (d : ℕ) → d ≡ least (λ i. not (goodWith false 8 resources ds i (0 + 54 * i))) (length ds / 54)
       → d ≡ least (λ i. not (describedDeviceGood resources ds i)) (describedD ds)
   devices-run d e =
-      let f : ℕ → Bool = λ i. not (describedDeviceGood resources ds i) in
-      let n = length ds / 54 in
-      let all : n + (describedD ds - n) ≡ describedD ds = omega arith in
-      let z : 0 + n ≡ n = omega arith in
-      e ∙ least-ext _ f 0 n (λ i a b. ap not (sym (whole-device i (omega arith))))
-      ∙ sym (least-cut f 0 n (describedD ds - n) (λ h. rw z (cut-device (omega arith)))) ∙ ap (least f) all
+      e ∙ least-part (λ i. not (describedDeviceGood resources ds i)) _ (length ds / 54) (describedD ds) (λ i h. ap not (whole-device i h))
+      (omega arith) cut-device
 
 pub ruleset record-checks = (described-wide, resources-run, fields-cut, fields-whole, refused-6, refused-5, devices-run)
 
@@ -143,7 +136,7 @@ pub small-d : (r d w : ℕ) → Wide w → not (leb r (8 * w) && leb d (8 * w)) 
 small-d r d w h q = omega (arith, within r d w q .1)
 
 pub few : (rs ds : List ℕ) (r d w : ℕ) → r ≡ describedR rs → d ≡ describedD ds → Wide w → not (leb r (8 * w) && leb d (8 * w)) ≡ false
-    → Few rs ds
+    → WithinLimits rs ds
 few rs ds r d w y z h q = record { resources = omega (arith, within r d w q .0); devices = omega (arith, within r d w q .1) }
 
 -- ---- the whole check: each way out, with the width and the counts as the code has them

@@ -23,9 +23,9 @@ use Rattle.rules.specs.Describe.{describedSize, describedR, describedD, resourc
 use Rattle.rules.specs.Write.{describedCountsGood, writtenSize, writeVerdict, write, listsSize, describeVerdict, describe}
 use Rattle.rules.proofs.Answers.{done-passes, refused-stops, first-pass, first-stop, first-none}
 use Rattle.rules.proofs.Width.{version-wide}
-use Rattle.laws.specs.Inverse.{Sayable}
+use Rattle.laws.specs.Inverse.{Representable}
 use Rattle.laws.proofs.Tests.{both-true}
-use Rattle.laws.proofs.Inverse.{written-sayable, written-room}
+use Rattle.laws.proofs.Inverse.{written-representable, written-room}
 use Rattle.table.specs.Layout.{WellSized}
 use Rattle.table.proofs.Verdicts.{unless-passed, unless-refused, accepted-is, sized-told}
 use Rattle.writer.proofs.Lists.{written}
@@ -42,8 +42,8 @@ module _ (version : ℕ) (rs ds table : List ℕ) (v : Verdict) (b : Bool) (e : 
     passing : passes (writeVerdict version rs ds (length table)) ≡ true
     passing = ap passes (sym e) ∙ sym f ∙ not-false b p
 
-    said : Sayable version rs ds
-    said = written-sayable version rs ds (length table) passing
+    said : Representable version rs ds
+    said = written-representable version rs ds (length table) passing
 
     room : writtenSize version rs ds ≤ length table
     room = written-room version rs ds (length table) passing
@@ -93,8 +93,6 @@ module _ (version : ℕ) (rs ds table : List ℕ) (v : Verdict) (b : Bool) (e : 
           put-then table l 0 (8 + 4 * r) (head ++ rs) records (omega (arith, room, n, whole, head-long))
           (omega (arith, n, whole, head-long)) (rw (p1, x) at s) in
           (e, p2 ∙ rw passing refl)
-
-pub ruleset write-ways = (write-refused, header-asks, resources-ask, devices-ask, write-done)
 
 -- ---- describe, v being the check of the table
 module _ (t rs ds : List ℕ) (v : Verdict) (b : Bool) (e : v ≡ tableVerdict t) (f : b ≡ passes v) where

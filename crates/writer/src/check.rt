@@ -3,15 +3,14 @@
 use rules::Reason;
 use rules::Verdict;
 ghost use mathlib.Core.Path.{_≡_};
-ghost use mathlib.Core.Bool.{true, not};
+ghost use mathlib.Core.Bool.{not};
 ghost use Prim.Native.Nat.{_+_, _*_, _<_, _≤_};
-ghost use lib.ListN.{length};
 ghost use Rattle.rules.specs.Index.{least};
 ghost use Rattle.rules.specs.Station.{limit};
 ghost use Rattle.rules.specs.Table.{fieldsOrObjects};
-ghost use Rattle.rules.specs.Describe.{describedWidth, describedSize, describedR, describedD};
+ghost use Rattle.rules.specs.Describe.{describedWidth, describedR, describedD};
 ghost use Rattle.rules.specs.Write.{describedResourceGood, describedFieldsGood, describedDeviceGood, recordsVerdict, writeVerdict};
-ghost use Rattle.writer.specs.Few.{Few};
+ghost use Rattle.writer.specs.WithinLimits.{WithinLimits};
 
 // The number of described resources; one that is cut short counts.
 pub fn resources(rs: &[u8]) -> usize
@@ -42,7 +41,8 @@ fn lowest_device(ds: &[u8], resources: usize) -> usize
     record::lowest::lowest_device(ds, 0, 8, false, ds.len() / 54, resources)
 }
 
-// Whether device d is whole and all its fields are good, asked of a device that is refused.
+// Whether device d is whole and all its fields are good, asked of a device that is refused. By the first bad field: the quick tests have
+// one caller, so that they are compiled into its loop.
 fn fields_good(ds: &[u8], d: usize, resources: usize) -> bool
     requires { ⌜ (d < 256) × (resources ≤ limit describedWidth) ⌝ }
     ensures { λ b. ⌜ b ≡ describedFieldsGood resources (now (ds .entry)) d ⌝ }
@@ -67,7 +67,7 @@ fn refusal(ds: &[u8], d: usize, resources: usize) -> Verdict
 
 // Answers 4 to 6 of lists that are not too long.
 fn check_records(rs: &[u8], ds: &[u8]) -> Verdict
-    requires { ⌜ Few (now rs) (now ds) ⌝ }
+    requires { ⌜ WithinLimits (now rs) (now ds) ⌝ }
     ensures { λ v. ⌜ v ≡ recordsVerdict (now (rs .entry)) (now (ds .entry)) ⌝ }
 {
     let resources = resources(rs);

@@ -11,7 +11,7 @@ ghost use Rattle.rules.specs.Write.{describe};
 ghost use Rattle.table.specs.Layout.{WellSized};
 
 // The devices of a table, 54 bytes each.
-fn write_devices(table: &[u8], out: &mut [u8])
+fn describe_devices(table: &[u8], out: &mut [u8])
     requires { ⌜ WellSized (now table) × (describedSize * countD (now table) ≤ length (now out)) ⌝ }
     ensures { λ _. ⌜ now (out .exit) ≡ put (now (out .entry)) 0 (devicesOf (now (table .entry))) ⌝ }
 {
@@ -45,6 +45,6 @@ pub fn describe(table: &[u8], resources: &mut [u8], devices: &mut [u8]) -> Verdi
     }
     let end = 8 + r;
     words::copy(&table[8..end], resources, 0);
-    write_devices(table, devices);
+    describe_devices(table, devices);
     Verdict::Done(r + d)
 }

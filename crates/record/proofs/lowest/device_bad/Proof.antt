@@ -1,5 +1,5 @@
 -- A bad value or zero is enough; past them the objects decide.
-use Rattle.record.proofs.AllGood.{row-tests}
+use Rattle.record.proofs.AllGood.{run-tests}
 use borrow.Author.Needs.{needs}
 use Rattle.record.proofs.lowest.device_bad.Statement.{statement}
 use Rattle.record.proofs.lowest.device_bad.Tie as tie
@@ -7,5 +7,5 @@ use Rattle.record.proofs.lowest.device_bad.Tie as tie
 pub device-bad-spec : {M : Type 1} → statement M
 device-bad-spec =
     tie.close
-    (tie.spec (λ c κs. search (needs, row-tests)) (λ c. search (needs, row-tests)) (λ c κs. search needs) (λ c. search (needs, row-tests))
-    (λ c κs. search (needs, row-tests)) (λ c. search (needs, row-tests)))
+    (tie.spec (λ c κs. search (needs, run-tests)) (λ c. search (needs, run-tests)) (λ c κs. search needs) (λ c. search (needs, run-tests))
+    (λ c κs. search (needs, run-tests)) (λ c. search (needs, run-tests)))

@@ -3,17 +3,17 @@ use mathlib.Core.Path.{_≡_}
 use mathlib.Core.Bool.{not}
 use Prim.Native.Nat.{_+_, _*_, _-_, _≤_}
 use Rattle.rules.specs.Index.{leastFrom, least}
-use Rattle.record.specs.Good.{rowSize, rowGood}
-use Rattle.record.proofs.Run.{row-run}
+use Rattle.record.specs.Good.{sizeWith, goodWith}
+use Rattle.record.proofs.Run.{device-run}
 use borrow.Author.Needs.{needs}
 use Rattle.record.proofs.lowest.lowest_device.Statement.{statement}
 use Rattle.record.proofs.lowest.lowest_device.Tie as tie
 
 abbrev Inv-loop : tie.InvT-loop
 Inv-loop bytes first w zeros n resources size at₀ i₀ at i =
-    (i ≤ n) × (at ≡ first + rowSize zeros w * i)
-    × (leastFrom (λ j. not (rowGood zeros w resources bytes j (first + rowSize zeros w * j))) i (n - i) ≡ least
-    (λ j. not (rowGood zeros w resources bytes j (first + rowSize zeros w * j))) n)
+    (i ≤ n) × (at ≡ first + sizeWith zeros w * i)
+    × (leastFrom (λ j. not (goodWith zeros w resources bytes j (first + sizeWith zeros w * j))) i (n - i) ≡ least
+    (λ j. not (goodWith zeros w resources bytes j (first + sizeWith zeros w * j))) n)
 
 abbrev μ-loop : tie.MeasureT-loop
 μ-loop bytes first w zeros n resources size at₀ i₀ at i = n - i
@@ -21,6 +21,6 @@ abbrev μ-loop : tie.MeasureT-loop
 pub lowest-device-spec : {M : Type 1} → statement M
 lowest-device-spec =
     tie.close
-    (tie.spec Inv-loop μ-loop (λ c κs. search needs) (λ c. search (needs, row-run)) (λ c. search needs) (λ c. search (needs, row-run))
-    (λ c κs. search (needs, row-run)) (λ c. search (needs, row-run)) (λ c. search needs) (λ c. search (needs, row-run))
-    (λ c. search (needs, row-run)))
+    (tie.spec Inv-loop μ-loop (λ c κs. search needs) (λ c. search (needs, device-run)) (λ c. search needs) (λ c. search (needs, device-run))
+    (λ c κs. search (needs, device-run)) (λ c. search (needs, device-run)) (λ c. search needs) (λ c. search (needs, device-run))
+    (λ c. search (needs, device-run)))

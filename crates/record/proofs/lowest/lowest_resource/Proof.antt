@@ -4,7 +4,7 @@ use mathlib.Core.Bool.{not}
 use Prim.Native.Nat.{_+_, _*_, _-_, _≤_}
 use Rattle.rules.specs.Index.{leastFrom, least}
 use Rattle.rules.specs.Table.{resourceGood}
-use Rattle.record.proofs.Run.{run-loop}
+use Rattle.rules.proofs.Index.{lowestOf}
 use borrow.Author.Needs.{needs}
 use Rattle.record.proofs.lowest.lowest_resource.Statement.{statement}
 use Rattle.record.proofs.lowest.lowest_resource.Tie as tie
@@ -19,6 +19,6 @@ abbrev μ-loop : tie.MeasureT-loop
 pub lowest-resource-spec : {M : Type 1} → statement M
 lowest-resource-spec =
     tie.close
-    (tie.spec Inv-loop μ-loop (λ c. search (needs, run-loop)) (λ c. search needs) (λ c. search needs) (λ c. search needs)
-    (λ c κs. search needs) (λ c. search (needs, run-loop)) (λ c. search needs) (λ c. search (needs, run-loop))
-    (λ c. search (needs, run-loop)))
+    (tie.spec Inv-loop μ-loop (λ c. search (needs, lowestOf)) (λ c. search needs) (λ c. search needs) (λ c. search needs)
+    (λ c κs. search needs) (λ c. search (needs, lowestOf)) (λ c. search needs) (λ c. search (needs, lowestOf))
+    (λ c. search (needs, lowestOf)))

@@ -46,8 +46,8 @@ copy-requires c κs =
     (test .before .passes .ensures) (test .if1 .left) _ _
     (resources .resources .ensures .0) (devices .devices .ensures .0) (room .if2 .left) _ (search needs)
 
-write-devices-requires : tie.Need-write-devices-requires
-write-devices-requires c κs =
+describe-devices-requires : tie.Need-describe-devices-requires
+describe-devices-requires c κs =
     let room = c .before .before .before .before .before .before in
     let devices = room .before in
     let resources = devices .before in
@@ -67,11 +67,11 @@ returns-3 c =
     let test = resources .before in
     describe-done _ _ _ _ _ (test .before .before .check-table .ensures) (test .before .passes .ensures) (test .if1 .left) _ _
     (resources .resources .ensures .0) (devices .devices .ensures .0) (room .if2 .left) _ _ (copied .copy .ensures)
-    (written .write-devices .ensures)
+    (written .describe-devices .ensures)
 
 pub describe-spec : {M : Type 1} → statement M
 describe-spec =
     tie.close
     (tie.spec (λ c κs. search needs) (λ c κs. search needs) returns resources-requires (λ c. search needs) devices-requires
     (λ c. search needs) returns-2 (λ c. search needs) (λ c. search needs) (λ c. search needs) part-copy-end copy-requires
-    write-devices-requires (λ c. search needs) (λ c. search needs) (λ c. search needs) returns-3)
+    describe-devices-requires (λ c. search needs) (λ c. search needs) (λ c. search needs) returns-3)

@@ -8,8 +8,8 @@ use Rattle.rules.specs.Station as station
 use Rattle.record.specs.declared.device.Device.{Device}
 
 -- a station's device as a value
-unfoldable pub held : station.Device → Device
-held v =
+unfoldable pub deviceValue : station.Device → Device
+deviceValue v =
     record {
       parent = v .parent;
       ps = v .ps;
@@ -26,5 +26,5 @@ unfoldable pub setsBytes : ℕ → List ℕ → List ℕ
 setsBytes w sets = join (λ k. bytesLE w (getD sets k 0)) 5
 
 -- the fields of a value as bytes
-unfoldable pub heldBytes : ℕ → Device → List ℕ
-heldBytes w v = (v .parent ∷ v .ps ∷ v .pr ∷ v .flags ∷ []) ++ setsBytes w (v .sets) ++ v .sxd ++ v .sxw ++ v .deepest ∷ []
+unfoldable pub valueBytes : ℕ → Device → List ℕ
+valueBytes w v = (v .parent ∷ v .ps ∷ v .pr ∷ v .flags ∷ []) ++ setsBytes w (v .sets) ++ v .sxd ++ v .sxw ++ v .deepest ∷ []
