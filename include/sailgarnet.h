@@ -8,7 +8,7 @@
  *     pointer is good, a null pointer too;
  *   - buffers that are lent in one call do not overlap.
  *
- * Valid as C99, C11 and C++17.
+ * docs/RULES.md has all formats and rules. Valid as C99, C11 and C++17.
  */
 #ifndef SAILGARNET_H
 #define SAILGARNET_H
@@ -25,8 +25,8 @@ extern "C" {
 #define SAILGARNET_PLAN_SIZE 132u
 #define SAILGARNET_MAX_RESOURCES 32u
 #define SAILGARNET_MAX_DEVICES 32u
-#define SAILGARNET_RECORD_SIZE 40u
-#define SAILGARNET_NONE 255u
+#define SAILGARNET_RECORD_SIZE 40u /* a device's record in a table */
+#define SAILGARNET_NONE 255u       /* no parent, or no such _SxD or _SxW */
 
 /* Descriptions: the bytes of a resource and of a device, then what the lists and the table of any station fit in. */
 #define SAILGARNET_DESCRIBED_RESOURCE_SIZE 4u
@@ -58,7 +58,7 @@ enum sailgarnet_number {
     SAILGARNET_WRONG_LENGTH = 3,      /* the table's length is not 8 + 4 R + 40 D */
     SAILGARNET_BAD_RESOURCE = 4,      /* a resource record has a bad field or, in a description, is cut short [resource] */
     SAILGARNET_BAD_DEVICE = 5,        /* a device record has a bad field or, in a description, is cut short [device] */
-    SAILGARNET_BAD_OBJECTS = 6,       /* a device breaks an object rule, such as _PS3 without _PS0 [device] */
+    SAILGARNET_BAD_OBJECTS = 6,       /* a device breaks an object rule, see struct sailgarnet_device [device] */
     SAILGARNET_BAD_STATE = 7,         /* the state is not 132 bytes, or a value is out of its rules */
     SAILGARNET_INCONSISTENT = 8,      /* the state is not consistent [lowest device that is not] */
     SAILGARNET_NO_ROOM = 9,           /* a plan under 132 bytes, or a buffer too short for the table or the description */
@@ -98,9 +98,10 @@ uint64_t sailgarnet_check(const uint8_t *table, size_t table_len, const uint8_t 
 
 /*
  * Writes the table that a description makes: `resources` has R records of 4 bytes, `devices` D records of 54, and a record
- * that is cut short counts. Answers 1 for a version other than 1, then 2, then 9 if `table` has fewer than 8 + 4 R + 40 D
- * bytes, then 4, 5 and 6 as for the table, else 0. Done: the first count bytes of `table` are the table, and the rest is
- * as it was. Refused: nothing is written.
+ * that is cut short counts. Their lengths say how many records there are: lend 4 R and 54 D bytes, not the whole buffers,
+ * whose unused bytes would be taken for records. Answers 1 for a version other than 1, then 2, then 9 if `table` has fewer
+ * than 8 + 4 R + 40 D bytes, then 4, 5 and 6 as for the table, else 0. Done: the first count bytes of `table` are the
+ * table, and the rest is as it was. Refused: nothing is written.
  */
 uint64_t sailgarnet_write(uint32_t version, const uint8_t *resources, size_t resources_len,
                           const uint8_t *devices, size_t devices_len, uint8_t *table, size_t table_len);
@@ -108,7 +109,8 @@ uint64_t sailgarnet_write(uint32_t version, const uint8_t *resources, size_t res
 /*
  * Describes a table; sailgarnet_write makes the same table of the description. Answers 1 to 6, then 9 if `resources` has
  * fewer than 4 R bytes or `devices` fewer than 54 D, else 0. Done: the first 4 R bytes of `resources` and the first 54 D
- * bytes of `devices` are the description, the count is their sum, and the rest is as it was. Refused: nothing is written.
+ * bytes of `devices` are the description, the count is their sum, and the rest is as it was. R and D are then
+ * sailgarnet_resource_count and sailgarnet_device_count of the table. Refused: nothing is written.
  */
 uint64_t sailgarnet_describe(const uint8_t *table, size_t table_len, uint8_t *resources, size_t resources_len,
                              uint8_t *devices, size_t devices_len);
@@ -141,7 +143,7 @@ static inline unsigned sailgarnet_call_wake_state(const uint8_t *plan, size_t i)
 static inline unsigned sailgarnet_resource_count(const uint8_t *table) { return table[3]; }
 static inline unsigned sailgarnet_device_count(const uint8_t *table) { return table[6]; }
 
-/* A described resource. */
+/* A described resource. A value out of its range is answered 4. */
 struct sailgarnet_resource {
     uint8_t systemlevel;    /* the deepest sleep state in which it can be on, 0 to 4 */
     uint8_t reserved;       /* 0 */
@@ -149,24 +151,49 @@ struct sailgarnet_resource {
 };
 
 /*
- * A described device. In a set, bit r stands for resource r; the set of an object that does not exist is 0. There is no
- * _S0D: sxd[0] is read as SAILGARNET_NONE, and is not written.
+ * A described device. A new one begins as sailgarnet_device_none(), not as zeros: 0 is device 0 as a parent, and D0 as an
+ * _SxD or _SxW. There is no _S0D: sxd[0] is read as SAILGARNET_NONE, and is not written.
+ *
+ * In a set, bit r stands for resource r, and r is below R; the set of an object that does not exist is 0. Where both
+ * exist, _SxD is at most _SxW. A break of this, or a value out of its range, is answered 5. A break of one of the four
+ * object rules is answered 6: with any _PSx there are _PS0 and _PS3; with any _PRx there is _PR0; a device with both kinds
+ * has _PS1 exactly if it has _PR1, and _PS2 exactly if it has _PR2; with _DSW there is _PRW.
  */
 struct sailgarnet_device {
-    uint8_t parent;      /* the device that this one is attached to, or SAILGARNET_NONE */
-    uint8_t ps;          /* bit x: _PSx exists */
-    uint8_t pr;          /* bit x: _PRx exists */
+    uint8_t parent;      /* the device that this one is attached to, of a lower number than its own, or SAILGARNET_NONE */
+    uint8_t ps;          /* bit x, 0 to 3: _PSx exists */
+    uint8_t pr;          /* bit x, 0 to 3: _PRx exists */
     uint8_t flags;       /* SAILGARNET_HAS_PRW, SAILGARNET_HAS_DSW */
     uint64_t pr_sets[4]; /* _PRx at x: what it needs in D0, D1, D2 and D3hot */
     uint64_t prw_set;    /* _PRW: what it needs to wake the system */
     uint8_t sxd[5];      /* _SxD at x, 0 to 3 or SAILGARNET_NONE */
     uint8_t sxw[5];      /* _SxW at x, 0 to 4 or SAILGARNET_NONE */
-    uint8_t deepest;     /* the deepest sleep state from which it can wake the system; 0 without _PRW */
+    uint8_t deepest;     /* the deepest sleep state from which it can wake the system, 0 to 4; 0 without _PRW */
 };
 
 /* The flags of a device. */
 #define SAILGARNET_HAS_PRW 1u
 #define SAILGARNET_HAS_DSW 2u
+
+/* A device without parent and without any object. */
+static inline struct sailgarnet_device sailgarnet_device_none(void)
+{
+    struct sailgarnet_device device;
+
+    device.parent = SAILGARNET_NONE;
+    device.ps = 0;
+    device.pr = 0;
+    device.flags = 0;
+    for (unsigned x = 0; x < 4; x++)
+        device.pr_sets[x] = 0;
+    device.prw_set = 0;
+    for (unsigned x = 0; x < 5; x++) {
+        device.sxd[x] = SAILGARNET_NONE;
+        device.sxw[x] = SAILGARNET_NONE;
+    }
+    device.deepest = 0;
+    return device;
+}
 
 /* A set in a description: 8 bytes, lowest first. */
 static inline uint64_t sailgarnet_set_read(const uint8_t *bytes)

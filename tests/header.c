@@ -74,6 +74,20 @@ static void layout(void)
     require(device.sxw[3] == 105 && device.sxw[4] == 106 && device.deepest == 107, "_S3W, _S4W, deepest");
 }
 
+/* A device without parent and without any object (RULES.md 2.4, 11.1). */
+static void none(void)
+{
+    uint8_t written[DEVICE], expected[DEVICE] = {0};
+    struct sailgarnet_device device = sailgarnet_device_none();
+
+    expected[0] = SAILGARNET_NONE;
+    memset(expected + 44, SAILGARNET_NONE, 9);
+    memset(written, 0x5a, sizeof written);
+    sailgarnet_device_write(written, 0, &device);
+    require(memcmp(written, expected, sizeof expected) == 0, "no parent, no object, no _SxD and no _SxW");
+    require(device.sxd[0] == SAILGARNET_NONE, "no _S0D");
+}
+
 static void rewrite_resource(uint8_t *resources, size_t r)
 {
     struct sailgarnet_resource resource = sailgarnet_resource_read(resources, r);
@@ -114,6 +128,7 @@ int main(void)
     answers();
     calls();
     layout();
+    none();
     survives(RESOURCE, rewrite_resource, "a resource's bytes are not the same once read and written");
     survives(DEVICE, rewrite_device, "a device's bytes are not the same once read and written");
     return failures != 0;
