@@ -20,7 +20,7 @@ type Outcome = Result<Report, Failure>;
 /// Runs the command line.
 pub fn run(line: Vec<OsString>) -> Outcome {
     let Some((name, rest)) = line.split_first() else {
-        return Err(Failure(format!(
+        return Err(Failure::new(format!(
             "a subcommand is missing\n\n{}",
             help::overview()
         )));
@@ -36,7 +36,7 @@ pub fn run(line: Vec<OsString>) -> Outcome {
         "demo" => with_args(&help::DEMO, rest, &[], run_demo),
         "-h" | "--help" | "help" => Ok(Report::done(help::overview())),
         "-V" | "--version" => Ok(Report::done(version())),
-        other => Err(Failure(format!(
+        other => Err(Failure::new(format!(
             "there is no subcommand {other:?}; try: sailgarnet --help"
         ))),
     }
@@ -61,7 +61,7 @@ fn with_args(
 }
 
 fn usage(help: &Help, message: &str) -> Failure {
-    Failure(format!(
+    Failure::new(format!(
         "{message}\nUsage: {}\nMore with: sailgarnet {} --help",
         help.usage_line(),
         help.name
@@ -88,7 +88,7 @@ fn exactly<'a, const N: usize>(
 
 /// The planner and the reference differ, which must not happen.
 pub fn disagreement(number: u8) -> Failure {
-    Failure(format!(
+    Failure::new(format!(
         "the planner accepted what the reference refuses with {number}; please report this"
     ))
 }
@@ -155,14 +155,18 @@ fn write_table(help: &Help, args: &Args) -> Outcome {
     files::must_keep(Some(output), &[Some(text_path)])?;
     let bytes = files::read(text_path)?;
     let position = |mistake| format!("{}:{mistake}", text_path.display());
-    let text = reader::read(&bytes).map_err(|mistake| Failure(position(mistake)))?;
+    let text = reader::read(&bytes).map_err(|mistake| Failure::at_position(position(mistake)))?;
     let resources: Vec<u8> = text.resources.iter().flat_map(|r| r.to_bytes()).collect();
     let devices: Vec<u8> = text.devices.iter().flat_map(|d| d.to_bytes()).collect();
     let mut buffer = [0; MAX_TABLE_BYTES];
     let answer = backend::write(text.version, &resources, &devices, &mut buffer);
     if !answer.is_done() {
+        let line = words::answer_line_with(answer, reader::refusal_sentence(answer));
         let part = position(text.refused_part(answer));
-        return Ok(refusal_with(answer, &(part + "\n")));
+        return Ok(Report {
+            text: format!("{line}{part}\n"),
+            refused: true,
+        });
     }
     let table = &buffer[..answer.bytes_written()];
     files::write(output, table)?;

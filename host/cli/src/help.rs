@@ -42,7 +42,8 @@ pub const DESCRIBE: Help = Help {
     text: "\
 TABLE is a power table, a file of raw bytes. It has no names, so the resources
 are named r0, r1 and so on, and the devices d0, d1 and so on. The text may be
-given other names; sailgarnet write --help explains its lines.
+given other names; sailgarnet write --help explains its lines. Keep a text with
+other names: a table cannot give them back.
 
   -o FILE    write the text to this file
 ",

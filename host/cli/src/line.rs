@@ -1,8 +1,12 @@
 //! The words of a text, and where they stand.
 
 use std::fmt;
+use std::str::FromStr;
 
-/// A mistake in a text. Lines and columns count from 1, columns in characters.
+use crate::words::quoted;
+
+/// A mistake in a text. Lines and columns count from 1, columns in characters, of
+/// which a tab is one.
 #[derive(Debug, PartialEq, Eq)]
 pub struct Mistake {
     line: usize,
@@ -60,6 +64,18 @@ impl Word<'_> {
         }
     }
 
+    /// Its letters in quotes, for a message.
+    pub fn quoted(self) -> String {
+        quoted(self.text)
+    }
+
+    /// The number that it says in digits alone, without zeros before it.
+    pub fn number<T: FromStr>(self) -> Option<T> {
+        let digits = self.text.bytes().all(|byte| byte.is_ascii_digit());
+        let plain = digits && (self.text == "0" || !self.text.starts_with('0'));
+        self.text.parse().ok().filter(|_| plain)
+    }
+
     /// The line in which it stands.
     pub fn line(self) -> usize {
         self.line
@@ -82,11 +98,14 @@ impl Word<'_> {
             return Ok(());
         }
         Err(self.mistake(format!(
-            "{:?} is no name; a name has only letters, digits, _ - and .",
-            self.text
+            "{} is no name; a name has only letters, digits, _ - and .",
+            self.quoted()
         )))
     }
 }
+
+/// What stands between words.
+const SEPARATORS: [char; 2] = [' ', '\t'];
 
 /// A line of a text that has words.
 pub struct Line<'a> {
@@ -99,10 +118,11 @@ pub struct Line<'a> {
 /// The lines of a text that have words. A comment has none.
 pub fn lines(text: &str) -> impl Iterator<Item = Line<'_>> {
     (1..).zip(text.lines()).filter_map(|(number, line)| {
+        let words = line.split('#').next().unwrap_or(line);
         let mut rest = Rest {
             line: number,
             column: 1,
-            text: line.split('#').next().unwrap_or(line).trim_end(),
+            text: words.trim_end_matches(SEPARATORS),
         };
         let first = rest.take()?;
         Some(Line { first, rest })
@@ -120,9 +140,9 @@ pub struct Rest<'a> {
 impl<'a> Rest<'a> {
     /// Takes the next word.
     pub fn take(&mut self) -> Option<Word<'a>> {
-        let start = self.text.trim_start();
+        let start = self.text.trim_start_matches(SEPARATORS);
         let spaces = self.text[..self.text.len() - start.len()].chars().count();
-        let end = start.find(char::is_whitespace).unwrap_or(start.len());
+        let end = start.find(SEPARATORS).unwrap_or(start.len());
         let (text, rest) = start.split_at(end);
         let column = self.column + spaces;
         (self.text, self.column) = (rest, column + text.chars().count());
@@ -148,14 +168,14 @@ impl<'a> Rest<'a> {
         if found.is(word) {
             return Ok(());
         }
-        let message = format!("the word {word} is expected here, not {:?}", found.text);
+        let message = format!("the word {word} is expected here, not {}", found.quoted());
         Err(found.mistake(message))
     }
 
     /// Checks that all words are taken.
     pub fn end(&mut self) -> Result<(), Mistake> {
         match self.take() {
-            Some(word) => Err(word.mistake(format!("unexpected word {:?}", word.text))),
+            Some(word) => Err(word.mistake(format!("unexpected word {}", word.quoted()))),
             None => Ok(()),
         }
     }

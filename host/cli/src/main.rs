@@ -51,7 +51,20 @@ impl Report {
 }
 
 /// Why a command could not do its work, for standard error.
-pub struct Failure(pub String);
+pub struct Failure(String);
+
+impl Failure {
+    /// A message after the name of the command.
+    pub fn new(message: String) -> Self {
+        Self(format!("sailgarnet: {message}"))
+    }
+
+    /// A message after a position in a file. Editors look for a position at the
+    /// beginning of a line.
+    pub fn at_position(message: String) -> Self {
+        Self(message)
+    }
+}
 
 fn main() -> ExitCode {
     let words = env::args_os().skip(1).collect();
@@ -62,13 +75,13 @@ fn main() -> ExitCode {
     match print(&report.text) {
         Ok(()) if report.refused => REFUSED.into(),
         Ok(()) => ExitCode::SUCCESS,
-        Err(error) => fail(&Failure(format!("cannot write the output: {error}"))),
+        Err(error) => fail(&Failure::new(format!("cannot write the output: {error}"))),
     }
 }
 
 fn fail(Failure(message): &Failure) -> ExitCode {
     // Nothing is left to do if standard error is closed too.
-    let _ = writeln!(io::stderr(), "sailgarnet: {message}");
+    let _ = writeln!(io::stderr(), "{message}");
     FAILED.into()
 }
 

@@ -3,7 +3,7 @@
 //! What is wrong with the words is a mistake here. Whether the station that they
 //! say keeps the rules is for the planner to answer.
 
-use sailgarnet::{Answer, Device, Place, Resource, Verdict, NONE};
+use sailgarnet::{Answer, Device, Place, Resource, Verdict, MAX_DEVICES, MAX_RESOURCES, NONE};
 
 use crate::line::{characters, lines, Line, Mistake, Rest, Word};
 use crate::objects::{self, LISTS, METHODS, PRW, SLEEP};
@@ -20,11 +20,12 @@ pub struct Text<'a> {
     /// The devices.
     pub devices: Vec<Device>,
     names: Names<'a>,
-    /// Whether the lines that come belong to the last device.
-    in_device: bool,
+    /// The line of the first resource after the last device, which it ended.
+    ended_in: Option<usize>,
 }
 
-const VERSION_FIRST: &str = "the first line of a station is: version 1";
+const VERSION_FIRST: &str =
+    "a station begins with the line version 1; only comments may stand before it";
 
 /// Reads a text, or gives its first mistake.
 pub fn read(bytes: &[u8]) -> Result<Text<'_>, Mistake> {
@@ -42,7 +43,7 @@ pub fn read(bytes: &[u8]) -> Result<Text<'_>, Mistake> {
         resources: Vec::new(),
         devices: Vec::new(),
         names: Names::of(characters),
-        in_device: false,
+        ended_in: None,
     };
     rest.end()?;
     for line in lines {
@@ -77,7 +78,7 @@ impl<'a> Text<'a> {
             system_level,
             order,
         });
-        self.in_device = false;
+        self.ended_in.get_or_insert(name.line());
         Ok(())
     }
 
@@ -85,7 +86,7 @@ impl<'a> Text<'a> {
         let name = rest.expect("the name of the device")?;
         must_be_first(&self.names.devices, "device", name)?;
         self.devices.push(Device::default());
-        self.in_device = true;
+        self.ended_in = None;
         Ok(())
     }
 
@@ -94,16 +95,14 @@ impl<'a> Text<'a> {
         let first = line.first;
         let Some(part) = Part::begun_by(first) else {
             return Err(first.mistake(format!(
-                "{:?} begins no line; lines begin with resource, device, parent, _PSx, _DSW, _PRx, \
-                 _PRW, _SxD or _SxW",
-                first.text
+                "{} begins no line; lines begin with resource, device, parent, _PS0 to _PS3, _DSW, \
+                 _PR0 to _PR3, _PRW, _S1D to _S4D or _S0W to _S4W",
+                first.quoted()
             )));
         };
-        let Some(device) = self.devices.last_mut().filter(|_| self.in_device) else {
-            return Err(first.mistake(format!(
-                "{:?} belongs to a device, and no device is begun here",
-                first.text
-            )));
+        let in_device = self.ended_in.is_none();
+        let Some(device) = self.devices.last_mut().filter(|_| in_device) else {
+            return Err(self.outside_device(first));
         };
         match part {
             Part::Parent => set_parent(device, &self.names, line),
@@ -113,33 +112,90 @@ impl<'a> Text<'a> {
         }
     }
 
+    /// The mistake of a line that belongs to a device where none is begun.
+    fn outside_device(&self, first: Word) -> Mistake {
+        let last = self.names.devices[..self.devices.len()].last();
+        let reason = match (self.ended_in, last) {
+            (Some(line), Some(name)) => {
+                let name = words::shown(name.text);
+                format!("the resource in line {line} ended device {name}")
+            }
+            _ => "no device is begun here".into(),
+        };
+        first.mistake(format!(
+            "{} belongs to a device, and {reason}",
+            first.quoted()
+        ))
+    }
+
     /// The part of the text that a refusal is about, and where it stands.
     pub fn refused_part(&self, answer: Answer) -> Mistake {
         let Names { resources, devices } = &self.names;
         let record = |kind: &str, names: &[Word], reason: &str| {
             let name = names[answer.place as usize];
-            name.mistake(format!("{kind} {} is {}{reason}", answer.place, name.text))
+            let text = words::shown(name.text);
+            name.mistake(format!("{kind} {} is {text}{reason}", answer.place))
         };
         match answer.verdict().map(|verdict| (verdict, verdict.place())) {
             Some((Verdict::NotATable, _)) => {
                 let message = format!("the version is {}", self.version);
                 self.version_word.mistake(message)
             }
-            Some((Verdict::BadDevice, _)) => record("device", devices, BAD_FIELDS),
+            Some((Verdict::BadDevice, _)) => {
+                record("device", devices, &self.bad_field(answer.place as usize))
+            }
             Some((_, Place::Device)) => record("device", devices, ""),
             Some((_, Place::Resource)) => record("resource", resources, ""),
-            _ => {
-                let resources = words::count(resources.len(), "resource");
-                let devices = words::count(devices.len(), "device");
-                Mistake::at_start(format!("the text has {resources} and {devices}"))
+            _ => self.counts(),
+        }
+    }
+
+    /// How many records the text has, at the first one too many.
+    fn counts(&self) -> Mistake {
+        let Names { resources, devices } = &self.names;
+        let surplus = resources.get(MAX_RESOURCES).or(devices.get(MAX_DEVICES));
+        let resources = words::count(resources.len(), "resource");
+        let devices = words::count(devices.len(), "device");
+        let message = format!("the text has {resources} and {devices}");
+        match surplus {
+            Some(name) => name.mistake(message),
+            None => Mistake::at_start(message),
+        }
+    }
+
+    /// What is bad in the fields of a device: the first of what a text can say
+    /// wrong in them.
+    fn bad_field(&self, place: usize) -> String {
+        let Device {
+            parent, sxd, sxw, ..
+        } = self.devices[place];
+        if parent != NONE && usize::from(parent) >= place {
+            return "; its parent must stand before it".into();
+        }
+        for (x, (sxd, sxw)) in (1..).zip(sxd.into_iter().zip(sxw.into_iter().skip(1))) {
+            if sxd == D3COLD {
+                return format!("; its _S{x}D is at most D3hot");
+            }
+            if sxd != NONE && sxd > sxw {
+                return format!("; its _S{x}D must not be deeper than its _S{x}W");
             }
         }
+        String::new()
     }
 }
 
-/// Which fields of a device a text can say wrong.
-const BAD_FIELDS: &str =
-    "; its parent must stand before it, and an _SxD is at most D3hot and not deeper than its _SxW";
+const D3COLD: u8 = 4;
+
+/// What a refusal of a text means, where the sentence of the number speaks of what
+/// a text cannot have.
+pub fn refusal_sentence(answer: Answer) -> Option<&'static str> {
+    match answer.verdict()? {
+        Verdict::NotATable => Some("the version of the table is not 1."),
+        Verdict::TooMany => Some("there are more than 32 resources or more than 32 devices."),
+        Verdict::BadDevice => Some("a line of this device has a value that is not allowed."),
+        _ => None,
+    }
+}
 
 /// The names that a text gives, by number.
 struct Names<'a> {
@@ -167,13 +223,15 @@ fn number(names: &[Word], kind: &str, word: Word) -> Result<usize, Mistake> {
     word.must_be_name()?;
     let found = names.iter().position(|name| name.text == word.text);
     found.ok_or_else(|| {
-        let known: Vec<&str> = names.iter().map(|name| name.text).collect();
+        let known: Vec<String> = names.iter().map(|name| words::shown(name.text)).collect();
         let known = match known.is_empty() {
             true => "none".into(),
             false => known.join(", "),
         };
-        let message = format!("there is no {kind} {:?}; the text has {known}", word.text);
-        word.mistake(message)
+        let word_shown = word.quoted();
+        word.mistake(format!(
+            "there is no {kind} {word_shown}; the text has {known}"
+        ))
     })
 }
 
@@ -183,8 +241,8 @@ fn must_be_first(names: &[Word], kind: &str, word: Word) -> Result<(), Mistake> 
     let first = names.iter().find(|name| name.text == word.text);
     match first.map_or(word.line(), |name| name.line()) {
         line if line < word.line() => Err(word.mistake(format!(
-            "{:?} is the name of a {kind} already, in line {line}",
-            word.text
+            "{} is the name of a {kind} already, in line {line}",
+            word.quoted()
         ))),
         _ => Ok(()),
     }
@@ -224,8 +282,10 @@ fn add_methods(device: &mut Device, line: &mut Line) -> Result<(), Mistake> {
     while let Some(word) = next {
         let Some(place) = word.place_in(&METHODS) else {
             let methods = METHODS.join(" ");
-            let message = format!("{:?} is no method; the methods are {methods}", word.text);
-            return Err(word.mistake(message));
+            let word_shown = word.quoted();
+            return Err(word.mistake(format!(
+                "{word_shown} is no method; the methods are {methods}"
+            )));
         };
         must_be_new(!objects::has_method(device, place), word)?;
         objects::add_method(device, place);
@@ -261,7 +321,7 @@ fn set_state(device: &mut Device, place: usize, line: &mut Line) -> Result<(), M
 fn must_be_new(new: bool, word: Word) -> Result<(), Mistake> {
     match new {
         true => Ok(()),
-        false => Err(word.mistake(format!("{:?} is given twice for this device", word.text))),
+        false => Err(word.mistake(format!("{} is given twice for this device", word.quoted()))),
     }
 }
 
@@ -271,7 +331,7 @@ fn set(names: &[Word], rest: &mut Rest) -> Result<u64, Mistake> {
     while let Some(word) = rest.take() {
         let resource = number(names, "resource", word)?;
         if listed.contains(&resource) {
-            return Err(word.mistake(format!("{:?} is listed twice", word.text)));
+            return Err(word.mistake(format!("{} is listed twice", word.quoted())));
         }
         listed.push(resource);
     }
@@ -287,13 +347,17 @@ fn sleep(rest: &mut Rest) -> Result<u8, Mistake> {
 
 fn order(rest: &mut Rest) -> Result<u16, Mistake> {
     let word = rest.expect("the order")?;
-    let order = word.text.parse();
-    order.map_err(|_| word.mistake(format!("{:?} is no order; write 0 to 65535", word.text)))
+    word.number().ok_or_else(|| {
+        let message = format!("{} is no order; write 0 to 65535", word.quoted());
+        word.mistake(message)
+    })
 }
 
 fn version(word: Word) -> Result<u32, Mistake> {
-    let version = word.text.parse();
-    version.map_err(|_| word.mistake(format!("{:?} is no version; write 1", word.text)))
+    word.number().ok_or_else(|| {
+        let message = format!("{} is no version; write 1", word.quoted());
+        word.mistake(message)
+    })
 }
 
 #[cfg(test)]

@@ -4,6 +4,8 @@ use std::ffi::OsString;
 
 use sailgarnet::Request;
 
+use crate::words::quoted;
+
 /// Reads a request from the first operands and gives the operands after it. A
 /// request is one operand, `"move 1 D2"`, or one for each of its words.
 pub fn parse(operands: &[OsString]) -> Result<(Request, &[OsString]), String> {
@@ -64,7 +66,8 @@ pub fn device_state(word: &str) -> Result<u8, String> {
         "d3cold" => Ok(4),
         "d3" => Err("D3 can be two states; write D3hot or D3cold".into()),
         _ => Err(format!(
-            "{word:?} is no device state; write D0, D1, D2, D3hot or D3cold"
+            "{} is no device state; write D0, D1, D2, D3hot or D3cold",
+            quoted(word)
         )),
     }
 }
@@ -77,7 +80,10 @@ pub fn sleep_state(word: &str) -> Result<u8, String> {
         "s2" => Ok(2),
         "s3" => Ok(3),
         "s4" => Ok(4),
-        _ => Err(format!("{word:?} is no sleep state; write S0 to S4")),
+        _ => Err(format!(
+            "{} is no sleep state; write S0 to S4",
+            quoted(word)
+        )),
     }
 }
 

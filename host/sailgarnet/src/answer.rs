@@ -202,7 +202,8 @@ impl Verdict {
             }
             Verdict::BadObjects => {
                 "the objects of this device break a rule: any _PS needs _PS0 and _PS3, any _PR \
-                 needs _PR0, with both kinds their masks agree on 0 to 2, and _DSW needs _PRW."
+                 needs _PR0, with both kinds _PS1 is there exactly if _PR1 is and _PS2 exactly if \
+                 _PR2 is, and _DSW needs _PRW."
             }
             Verdict::BadState => {
                 "the state is not 132 bytes long, or a value in it is not allowed."

@@ -182,7 +182,7 @@ fn damage(rng: &mut Rng, text: &mut Vec<u8>) {
 
 /// The line that a mistake in `text` is said to be in.
 fn line_of_mistake(error: &str) -> Option<usize> {
-    let position = error.strip_prefix("sailgarnet: text:")?;
+    let position = error.strip_prefix("text:")?;
     position.split(':').next()?.parse().ok()
 }
 

@@ -162,7 +162,7 @@ fn order_gives_numbers_alone() {
           _PS3 _PS2
           _PR3 r0
         resource r1 level S0 order 2
-        resource r2 level S3 order 0001
+        resource r2 level S3 order 1
         device lamp
           _PR3
           _PR0 r1
@@ -179,13 +179,25 @@ device bus
 ";
 
 /// Lines after `START`, where the mistake is, and what is said of it.
-const MISTAKES: [(&str, &str, &str); 38] = [
+const MISTAKES: [(&str, &str, &str); 47] = [
     ("version 1", "5:1", "the version is given twice"),
     (
         "_PR4 r0",
         "5:1",
-        "\"_PR4\" begins no line; lines begin with resource, device, parent, _PSx, _DSW, _PRx, \
-         _PRW, _SxD or _SxW",
+        "\"_PR4\" begins no line; lines begin with resource, device, parent, _PS0 to _PS3, \
+         _DSW, _PR0 to _PR3, _PRW, _S1D to _S4D or _S0W to _S4W",
+    ),
+    (
+        "Größe\\\u{301}\x1b",
+        "5:1",
+        "\"Größe\\\u{301}\\u{1b}\" begins no line; lines begin with resource, device, parent, _PS0 to _PS3, \
+         _DSW, _PR0 to _PR3, _PRW, _S1D to _S4D or _S0W to _S4W",
+    ),
+    (
+        "0123456789012345678901234567890123456789x r0",
+        "5:1",
+        "\"0123456789012345678901234567890123456789..\" begins no line; lines begin with resource, device, parent, _PS0 to _PS3, \
+         _DSW, _PR0 to _PR3, _PRW, _S1D to _S4D or _S0W to _S4W",
     ),
     (
         "resource",
@@ -244,6 +256,26 @@ const MISTAKES: [(&str, &str, &str); 38] = [
         "\"-1\" is no order; write 0 to 65535",
     ),
     (
+        "resource r2 level S0 order +5",
+        "5:28",
+        "\"+5\" is no order; write 0 to 65535",
+    ),
+    (
+        "resource r2 level S0 order 007",
+        "5:28",
+        "\"007\" is no order; write 0 to 65535",
+    ),
+    (
+        "resource r2 level S0 order 00",
+        "5:28",
+        "\"00\" is no order; write 0 to 65535",
+    ),
+    (
+        "resource r2 level S0 order \u{661}",
+        "5:28",
+        "\"\u{661}\" is no order; write 0 to 65535",
+    ),
+    (
         "resource r2 level S0 order 1 2",
         "5:30",
         "unexpected word \"2\"",
@@ -251,7 +283,12 @@ const MISTAKES: [(&str, &str, &str); 38] = [
     (
         "resource r2 level S0 order 1\n_PR0 r0",
         "6:1",
-        "\"_PR0\" belongs to a device, and no device is begun here",
+        "\"_PR0\" belongs to a device, and the resource in line 5 ended device bus",
+    ),
+    (
+        "device a\nresource r2 level S0 order 1\nresource r3 level S0 order 1\nparent bus",
+        "8:1",
+        "\"parent\" belongs to a device, and the resource in line 6 ended device a",
     ),
     ("device", "5:7", "the name of the device is missing here"),
     (
@@ -266,6 +303,16 @@ const MISTAKES: [(&str, &str, &str); 38] = [
     ),
     ("device a parent bus", "5:10", "unexpected word \"parent\""),
     ("device Süd x", "5:12", "unexpected word \"x\""),
+    (
+        "device a\u{a0}x",
+        "5:8",
+        "\"a\u{a0}x\" is no name; a name has only letters, digits, _ - and .",
+    ),
+    (
+        "device a\x0c",
+        "5:8",
+        "\"a\\u{c}\" is no name; a name has only letters, digits, _ - and .",
+    ),
     ("parent", "5:7", "the name of the parent is missing here"),
     (
         "device a\nparent b",
@@ -334,17 +381,21 @@ const MISTAKES: [(&str, &str, &str); 38] = [
 ];
 
 /// Whole texts with a mistake, where it is, and what is said of it.
-const BAD_TEXTS: [(&[u8], &str, &str); 11] = [
-    (b"", "1:1", "the first line of a station is: version 1"),
+const BAD_TEXTS: [(&[u8], &str, &str); 15] = [
+    (
+        b"",
+        "1:1",
+        "a station begins with the line version 1; only comments may stand before it",
+    ),
     (
         b"# nothing\n",
         "1:1",
-        "the first line of a station is: version 1",
+        "a station begins with the line version 1; only comments may stand before it",
     ),
     (
         b"\n resource r0 level S0 order 0\nversion 1",
         "2:2",
-        "the first line of a station is: version 1",
+        "a station begins with the line version 1; only comments may stand before it",
     ),
     (b"version", "1:8", "the version is missing here"),
     (b"version 1.0", "1:9", "\"1.0\" is no version; write 1"),
@@ -353,10 +404,18 @@ const BAD_TEXTS: [(&[u8], &str, &str); 11] = [
         "1:9",
         "\"4294967296\" is no version; write 1",
     ),
+    (b"version 01", "1:9", "\"01\" is no version; write 1"),
+    (b"version +1", "1:9", "\"+1\" is no version; write 1"),
+    (b"version 1\r", "1:9", "\"1\\r\" is no version; write 1"),
     (b"version 1 2", "1:11", "unexpected word \"2\""),
     (
         b"version 1\nparent d0",
         "2:1",
+        "\"parent\" belongs to a device, and no device is begun here",
+    ),
+    (
+        b"version 1\nresource r0 level S0 order 0\nparent d0\ndevice a",
+        "3:1",
         "\"parent\" belongs to a device, and no device is begun here",
     ),
     (
@@ -389,9 +448,7 @@ fn each_mistake_has_its_position_and_message() {
     for (text, position, message) in mistakes() {
         desk.write("text", &text);
         let run = desk.run("write text -o new");
-        let expected = format!("sailgarnet: text:{position}: {message}\n");
-        assert_eq!(run.error, expected);
-        run.failed(message);
+        run.mistaken(&format!("text:{position}: {message}"));
         assert_eq!(desk.files(), ["state", "table", "text"]);
         assert_eq!(desk.read("text"), text);
     }
@@ -404,7 +461,7 @@ fn kind(message: &str) -> String {
     }
     let fixed: Vec<&str> = message.split('"').step_by(2).collect();
     let mut fixed = fixed.join("\"WORD\"");
-    for varied in ["; the text has ", ", in line "] {
+    for varied in ["; the text has ", " in line "] {
         fixed.truncate(fixed.find(varied).unwrap_or(fixed.len()));
     }
     fixed
@@ -426,14 +483,23 @@ fn the_page_shows_a_mistake_of_the_example() {
     let text = EXAMPLE.replace("_PR0 r0 r1 r2", "_PR0 r0 r7 r2");
     desk.write("station.txt", text.as_bytes());
     let run = desk.run("write station.txt -o new");
-    let message = run.error.trim_end().strip_prefix("sailgarnet: ");
-    let message = message.expect("a message");
+    let message = run.error.trim_end().to_string();
     assert!(PAGE.contains(&format!("`{message}`")), "{message}");
-    run.failed("there is no resource");
+    run.mistaken(&message);
+}
+
+#[test]
+fn the_page_shows_a_refusal_of_the_example() {
+    let desk = Desk::new("write_page_refused");
+    let text = EXAMPLE.replace("_S3W D3hot", "_S3W D1");
+    desk.write("station.txt", text.as_bytes());
+    let lines = desk.run("write station.txt -o new").refused(5);
+    let shown: String = lines.lines().map(|line| format!("    {line}\n")).collect();
+    assert!(PAGE.contains(&format!("\n\n{shown}\n")), "{lines}");
 }
 
 /// Texts of refused stations, the answer, and the part that it is about.
-const REFUSED: [(&str, u8, &str, &str); 13] = [
+const REFUSED: [(&str, u8, &str, &str); 14] = [
     ("version 0", 1, "place 0", "1:9: the version is 0"),
     (
         "# a\n version 65537",
@@ -445,25 +511,31 @@ const REFUSED: [(&str, u8, &str, &str); 13] = [
         "version 1\ndevice a\nparent a",
         5,
         "device 0",
-        "2:8: device 0 is a; ",
+        "2:8: device 0 is a; its parent must stand before it",
     ),
     (
         "version 1\ndevice a\ndevice b\nparent c\ndevice c",
         5,
         "device 1",
-        "3:8: device 1 is b; ",
+        "3:8: device 1 is b; its parent must stand before it",
     ),
     (
-        "version 1\ndevice a\n_S3D D3hot\n_S3W D2",
+        "version 1\ndevice a\n_S3D D3hot\n_S3W D2\n_S2D D1\n_S0W D0\n_S4W D0",
         5,
         "device 0",
-        "2:8: device 0 is a; ",
+        "2:8: device 0 is a; its _S3D must not be deeper than its _S3W",
     ),
     (
-        "version 1\ndevice a\n_S1D D3cold",
+        "version 1\ndevice a\n_S1D D3cold\n_S1W D0",
         5,
         "device 0",
-        "2:8: device 0 is a; ",
+        "2:8: device 0 is a; its _S1D is at most D3hot",
+    ),
+    (
+        "version 1\ndevice a\ndevice b\nparent a\n_S4D D3cold",
+        5,
+        "device 1",
+        "3:8: device 1 is b; its _S4D is at most D3hot",
     ),
     (
         "version 1\ndevice a\n_PS0",
@@ -507,23 +579,32 @@ const REFUSED: [(&str, u8, &str, &str); 13] = [
         "version 1\ndevice a\n_DSW\n_S1D D3cold",
         5,
         "device 0",
-        "2:8: device 0 is a; ",
+        "2:8: device 0 is a; its _S1D is at most D3hot",
     ),
 ];
+
+/// What is said of a text with this answer.
+fn sentence(number: u8) -> &'static str {
+    match number {
+        1 => "the version of the table is not 1.",
+        2 => "there are more than 32 resources or more than 32 devices.",
+        5 => "a line of this device has a value that is not allowed.",
+        6 => {
+            "the objects of this device break a rule: any _PS needs _PS0 and _PS3, any _PR needs \
+             _PR0, with both kinds _PS1 is there exactly if _PR1 is and _PS2 exactly if _PR2 is, \
+             and _DSW needs _PRW."
+        }
+        _ => panic!("a text is not answered {number}"),
+    }
+}
 
 /// The answer of a refused text. It has two lines, and nothing is written.
 fn refused(desk: &Desk, text: &str, number: u8, place: &str, part: &str) {
     desk.write("text", text.as_bytes());
     let lines = desk.run("write text -o new").refused(number);
-    let answer = format!("Answer {number}, {place}: ");
-    let [first, second] = lines.lines().collect::<Vec<_>>()[..] else {
-        panic!("{lines}");
-    };
-    assert!(first.starts_with(&answer), "{text}\n{lines}");
-    assert!(
-        second.starts_with(&format!("text:{part}")),
-        "{text}\n{lines}"
-    );
+    let sentence = sentence(number);
+    let expected = format!("Answer {number}, {place}: {sentence}\ntext:{part}\n");
+    assert_eq!(lines, expected, "{text}");
     assert_eq!(desk.files(), ["state", "table", "text"]);
 }
 
@@ -552,8 +633,14 @@ fn many(resources: usize, devices: usize) -> String {
 #[test]
 fn too_many_records_are_counted() {
     let desk = Desk::new("write_many");
-    for (resources, devices) in [(33, 2), (2, 33), (64, 64), (65, 2), (300, 300)] {
-        let part = format!("1:1: the text has {resources} resources and {devices} devices");
+    for (resources, devices, position) in [
+        (33, 2, "34:10"),
+        (2, 33, "36:8"),
+        (64, 64, "34:10"),
+        (65, 2, "34:10"),
+        (300, 300, "34:10"),
+    ] {
+        let part = format!("{position}: the text has {resources} resources and {devices} devices");
         refused(&desk, &many(resources, devices), 2, "place 0", &part);
     }
     let table = written(&desk, &many(32, 32));
