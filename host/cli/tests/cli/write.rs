@@ -649,6 +649,25 @@ fn too_many_records_are_counted() {
     assert_eq!(last[..8], [30, 0, 1, 0, 255, 255, 255, 255]);
 }
 
+/// What the page says of an old state: with the lamp left out it is refused, and
+/// with the lamp before the camera it is good and says that the camera is off.
+#[test]
+fn a_state_belongs_to_its_table() {
+    let desk = Desk::with_dark_lamp("write_state");
+    let (rest, lamp) = EXAMPLE.split_once("device lamp").expect("the lamp");
+    written(&desk, rest);
+    desk.run("plan new state disarm 0").refused(7);
+    let (start, camera) = rest.split_once("device camera").expect("the camera");
+    written(
+        &desk,
+        &format!("{start}device lamp{lamp}device camera{camera}"),
+    );
+    let text = desk.run("plan new state move 2 D0").done();
+    assert!(text.contains("set device 2 to D0 (_PS0)"), "{text}");
+    let text = desk.run("plan table state move 2 D0").done();
+    assert!(!text.contains("_PS0"), "{text}");
+}
+
 #[test]
 fn a_refusal_keeps_the_file_to_write() {
     let desk = Desk::new("write_kept");
