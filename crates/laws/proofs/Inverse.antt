@@ -2,7 +2,7 @@
 -- for all buffers with room.
 use mathlib.Core.Path.{_≡_, refl, sym, ap, _∙_}
 use mathlib.Core.Bool.{true}
-use mathlib.Core.List.{List}
+use mathlib.Core.List.{List, [], _∷_}
 use Prim.Native.Nat.{ℕ, zero, suc, _+_, _*_, _≤_, _<_}
 use native.Mathlib.Nat.{lt-of-lt-of-le}
 use native.Mathlib.Omega.{arith}
@@ -13,15 +13,16 @@ use lib.ListN.{length}
 use Rattle.words.proofs.Put.{take-put}
 use Rattle.rules.specs.declared.Verdict.the-variants.{Done}
 use Rattle.rules.specs.declared.Reason.the-variants.{BadResource}
-use Rattle.rules.specs.Answers.{numberOf, countOf, passes, firstOf, unless}
+use Rattle.rules.specs.Answers.{numberOf, placeOf, countOf, passes, firstOf, unless}
 use Rattle.rules.specs.Station.{versionWidth, versionOf, limit, countR, countD}
 use Rattle.rules.specs.Table.{allGood, setGood, valueFields, tableVerdict}
 use Rattle.rules.specs.Describe.{describedWidth, describedSize, describedR, describedD, describedDevice, resourcesOf, devicesOf}
 use Rattle.rules.specs.Describe.{tableBytes}
 use Rattle.rules.specs.Write.{describedResourceGood, describedFieldsGood, describedDeviceGood, recordsVerdict, describedCountsGood}
 use Rattle.rules.specs.Write.{writtenSize, writeVerdict, write, describeVerdict, describe}
-use Rattle.rules.proofs.Answers.{first-both, first-through, unless-at, refused-stops, lowest-at}
-use Rattle.laws.specs.Inverse.{AllBytes, Describes, Makes, WrittenDescribes, DescribedMakes, Representable}
+use Rattle.sets.proofs.Laws.{decide}
+use Rattle.rules.proofs.Answers.{first-pass, first-stop, first-none, first-both, first-through, unless-at, refused-stops, lowest-at}
+use Rattle.laws.specs.Inverse.{AllBytes, Describes, Makes, WrittenDescribes, DescribedMakes, Representable, AnswersAsReader}
 use Rattle.laws.proofs.Tests.{both-true}
 use Rattle.laws.proofs.Image.{bytes-bits}
 use Rattle.laws.proofs.Accepted.{DeviceRules, values-rules, refuses, accepted}
@@ -157,3 +158,20 @@ describe-inverse t rs ds bytes z =
       take-put ds (devicesOf t) (describedSize * countD t) (described-long t bytes a),
     )
     (described-makes t bytes passed)
+
+-- ---- the writer's answer is the reader's
+pub write-answers : (version : ℕ) (rs ds : List ℕ) (room : ℕ)
+    → AnswersAsReader version rs ds room (numberOf (writeVerdict version rs ds room)) (placeOf (writeVerdict version rs ds room))
+unfolding writeVerdict recordsVerdict
+write-answers version rs ds room s l =
+    let v = recordsVerdict rs ds in
+    let done = Done (writtenSize version rs ds) in
+    let past : writeVerdict version rs ds room ≡ firstOf (v ∷ []) done =
+    rw (s .known, s .counts, le-leb (writtenSize version rs ds) room l) (unfold firstOf unless passes in refl) in
+    let same = same-verdict version rs ds s in
+    decide (passes v)
+    (λ e.
+    let fine : v ≡ Done 0 = first-through _ (Done 0) e in
+    let is : writeVerdict version rs ds room ≡ done = past ∙ first-pass v [] done e ∙ first-none done in
+    rw (is, ← same, fine) (refl, refl))
+    (λ e. let is : writeVerdict version rs ds room ≡ v = past ∙ first-stop v [] done e in rw (is, ← same) (refl, refl))

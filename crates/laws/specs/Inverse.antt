@@ -6,10 +6,11 @@ use mathlib.Core.List.{List}
 use lib.ListN.{length, getD, take}
 use Rattle.words.specs.Words.{put}
 use Rattle.rules.specs.declared.Verdict.the-variants.{Done}
+use Rattle.rules.specs.Answers.{numberOf, placeOf}
 use Rattle.rules.specs.Station.{versionGood, versionWidth, versionOf, countR, countD}
 use Rattle.rules.specs.Table.{tableVerdict}
 use Rattle.rules.specs.Describe.{describedSize, describedR, describedD, describedDevice, tableBytes}
-use Rattle.rules.specs.Write.{describedCountsGood, recordsVerdict, write, describe}
+use Rattle.rules.specs.Write.{describedCountsGood, recordsVerdict, writtenSize, write, describe}
 
 -- every element is a byte
 abbrev pub AllBytes : List ℕ → Type 0
@@ -45,3 +46,9 @@ pub record Representable (version : ℕ) (rs ds : List ℕ) : Type 0 where
 -- the writer's verdict on such records is the reader's on the table that they make
 abbrev pub SameVerdict : ℕ → List ℕ → List ℕ → Type 0
 SameVerdict version rs ds = Representable version rs ds → recordsVerdict rs ds ≡ tableVerdict (tableBytes version rs ds)
+
+-- so to such lists, with room, the writer gives number and place that the reader gives to that table
+abbrev pub AnswersAsReader : ℕ → List ℕ → List ℕ → ℕ → ℕ → ℕ → Type 0
+AnswersAsReader version rs ds room number place =
+    Representable version rs ds → writtenSize version rs ds ≤ room
+    → (number ≡ numberOf (tableVerdict (tableBytes version rs ds))) × (place ≡ placeOf (tableVerdict (tableBytes version rs ds)))

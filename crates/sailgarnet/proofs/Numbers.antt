@@ -17,14 +17,14 @@ use Rattle.rules.specs.Station.{versionWidth, width, Wide, recordSize}
 use Rattle.rules.specs.Outcomes.{outcome, planRoom, fresh, planBytes, checkBytes}
 use Rattle.rules.specs.Write.{write, describe}
 use Rattle.rules.proofs.Width.{version-wide, width-wide}
-use Rattle.laws.specs.Inverse.{AllBytes, WrittenDescribes, DescribedMakes}
+use Rattle.laws.specs.Inverse.{AllBytes, WrittenDescribes, DescribedMakes, AnswersAsReader}
 use Rattle.laws.specs.Demand2.{Demand2Bytes}
 use Rattle.laws.proofs.Demand2.{demand2-bytes}
 use Rattle.laws.proofs.Bounds.{Bounded, fresh-bounded, plan-bounded, check-bounded, mostWritten, mostDescribed, write-bounded}
 use Rattle.laws.proofs.Bounds.{describe-bounded}
-use Rattle.laws.proofs.Inverse.{write-inverse, describe-inverse}
+use Rattle.laws.proofs.Inverse.{write-inverse, describe-inverse, write-answers}
 use Rattle.sailgarnet.proofs.Outer.{planned-short}
-use Rattle.sailgarnet.specs.Packed.{numberIn, countIn, packed, Reads}
+use Rattle.sailgarnet.specs.Packed.{numberIn, countIn, placeIn, packed, Reads}
 
 reason-small : (why : Reason) → reasonNumber why < 0x100
 reason-small NotATable = omega arith
@@ -113,6 +113,11 @@ pub written-inverse : (version : ℕ) (rs ds table : List ℕ) (r : ℕ) (table�
     → Reads r (write version rs ds table .verdict)
     → table′ ≡ write version rs ds table .table → WrittenDescribes rs ds (numberIn r) (countIn r) table′
 written-inverse version rs ds table r table′ bytes a e = rw (a .number, a .count, e) (write-inverse version rs ds table bytes)
+
+pub answers-as-reader : (version : ℕ) (rs ds table : List ℕ) (r : ℕ) → Reads r (write version rs ds table .verdict)
+    → AnswersAsReader version rs ds (length table) (numberIn r) (placeIn r)
+unfolding write
+answers-as-reader version rs ds table r a = rw (a .number, a .place) (write-answers version rs ds (length table))
 
 pub described-inverse : (t rs ds : List ℕ) (r : ℕ) (rs′ ds′ : List ℕ) → AllBytes t → Reads r (describe t rs ds .verdict)
     → rs′ ≡ describe t rs ds .resources → ds′ ≡ describe t rs ds .devices → DescribedMakes t (numberIn r) rs′ ds′

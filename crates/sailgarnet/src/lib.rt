@@ -5,13 +5,14 @@ use rules::Request;
 use rules::Verdict;
 ghost use mathlib.Core.Path.{_≡_};
 ghost use Prim.Native.Nat.{_<_};
+ghost use lib.ListN.{length};
 ghost use Rattle.rules.specs.Answers.{placeOf, countOf};
 ghost use Rattle.rules.specs.Outcomes.{fresh, planBytes, checkBytes};
 ghost use Rattle.rules.specs.Write.{write, describe};
-ghost use Rattle.laws.specs.Inverse.{WrittenDescribes, DescribedMakes};
+ghost use Rattle.laws.specs.Inverse.{WrittenDescribes, DescribedMakes, AnswersAsReader};
 ghost use Rattle.laws.specs.Demand2.{Demand2Bytes};
 ghost use Rattle.laws.specs.Demand3.{Demand3Bytes};
-ghost use Rattle.sailgarnet.specs.Packed.{packed, numberIn, countIn, Reads, asked};
+ghost use Rattle.sailgarnet.specs.Packed.{packed, numberIn, countIn, placeIn, Reads, asked};
 
 // An answer as one number: its number in bits 0 to 7, its count in bits 8 to 23, its place in bits 24 to 63.
 fn pack(v: Verdict) -> u64
@@ -84,6 +85,8 @@ pub extern "C" fn sailgarnet_write(
         × Reads r (write version (now (resources .entry)) (now (devices .entry)) (now (table .entry)) .verdict) ⌝ }
     ensures table { λ _. ⌜ now (table .exit) ≡ write version (now (resources .entry)) (now (devices .entry))
         (now (table .entry)) .table ⌝ }
+    ensures reader { λ r. ⌜ AnswersAsReader version (now (resources .entry)) (now (devices .entry)) (length (now (table .entry)))
+        (numberIn r) (placeIn r) ⌝ }
     ensures inverse { λ r. ⌜ WrittenDescribes (now (resources .entry)) (now (devices .entry)) (numberIn r) (countIn r)
         (now (table .exit)) ⌝ }
 {
