@@ -1,6 +1,5 @@
 -- RULES.md 11: a station as two lists of records, which an editor of stations works on, and the table that they make. A description is the
--- same for
--- every version of table.
+-- same for every version of table.
 use Prim.Native.Nat.{ℕ, _+_, _*_, _/_, _-_}
 use mathlib.Core.List.{List, [], _∷_, _++_}
 use lib.ListN.{length, take, drop, replicate}

@@ -66,8 +66,7 @@ writeRows =
     fromLists (take 11 benchResources) benchDevices (4 ∷ 2 ∷ 0 ∷ []) ∷
     fromLists (take 9 benchResources) (put benchDevices 0 (0 ∷ [])) (4 ∷ 2 ∷ 0 ∷ []) ∷
     -- 5: parents; masks; flags; `_PR0` of the camera with r3 alone, with more, with r40 and with r63; a set without its object; `_S1D`,
-    -- `_S3D`;
-    -- `_S3D` above `_S3W`; `_S0W`; deepest
+    -- `_S3D`; `_S3D` above `_S3W`; `_S0W`; deepest
     withByte 0 0 (5 ∷ 0 ∷ 0 ∷ []) ∷
     withByte 108 2 (5 ∷ 2 ∷ 0 ∷ []) ∷
     withByte 108 254 (5 ∷ 2 ∷ 0 ∷ []) ∷
