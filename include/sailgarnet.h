@@ -1,14 +1,14 @@
 /*
  * Sailgarnet: a proved planner for ACPI power resources (ACPI 6.4, chapter 7).
  *
- * Three functions on numbers and byte buffers. Nothing has to be checked before a call: any bytes for table, state,
- * request and call list get an answer, and a refusal writes nothing. Two things are left to the caller, because no
- * function can see them:
+ * Five functions on numbers and byte buffers: fresh, plan and check for a board, write and describe for an editor of
+ * tables. Nothing has to be checked before a call: any bytes for table, state, request, call list and description get an
+ * answer, and a refusal writes nothing. Two things are left to the caller, because no function can see them:
  *   - each pointer is valid for the length that is passed with it; with a length of 0 nothing is read or written, and any
  *     pointer is good, a null pointer too;
  *   - buffers that are lent in one call do not overlap.
  *
- * Valid as C99, C11 and C++17.
+ * docs/RULES.md has all formats and rules. Valid as C99, C11 and C++17.
  */
 #ifndef SAILGARNET_H
 #define SAILGARNET_H
@@ -25,8 +25,18 @@ extern "C" {
 #define SAILGARNET_PLAN_SIZE 132u
 #define SAILGARNET_MAX_RESOURCES 32u
 #define SAILGARNET_MAX_DEVICES 32u
-#define SAILGARNET_RECORD_SIZE 40u
-#define SAILGARNET_NONE 255u
+#define SAILGARNET_RECORD_SIZE 40u /* a device's record in a table */
+#define SAILGARNET_NONE 255u       /* no parent, or no such _SxD or _SxW */
+
+/* Descriptions: the bytes of a resource and of a device, then what the lists and the table of any station fit in. */
+#define SAILGARNET_DESCRIBED_RESOURCE_SIZE 4u
+#define SAILGARNET_DESCRIBED_DEVICE_SIZE 54u
+#define SAILGARNET_MAX_RESOURCES_SIZE 128u
+#define SAILGARNET_MAX_DEVICES_SIZE 1728u
+#define SAILGARNET_MAX_TABLE_SIZE 1416u
+
+/* Versions of the table. */
+#define SAILGARNET_TABLE_VERSION_1 1u /* at most 32 resources and 32 devices, device records of 40 bytes */
 
 /* Request kinds. */
 #define SAILGARNET_MOVE 1u   /* device to state a; b is 0 */
@@ -42,16 +52,16 @@ extern "C" {
 
 /* Answer numbers, named as in crates/rules. In brackets what the place names; it is 0 where nothing is named. */
 enum sailgarnet_number {
-    SAILGARNET_DONE = 0,              /* done; the planner's count is the number of calls */
-    SAILGARNET_NOT_A_TABLE = 1,       /* table under 8 bytes, or wrong mark, version or byte 7 */
+    SAILGARNET_DONE = 0,              /* done; the count is calls for plan, bytes written for write and describe, else 0 */
+    SAILGARNET_NOT_A_TABLE = 1,       /* table under 8 bytes, or wrong mark, version or byte 7; write: version is not 1 */
     SAILGARNET_TOO_MANY = 2,          /* more than 32 resources or devices */
     SAILGARNET_WRONG_LENGTH = 3,      /* the table's length is not 8 + 4 R + 40 D */
-    SAILGARNET_BAD_RESOURCE = 4,      /* a resource record has a bad field [resource] */
-    SAILGARNET_BAD_DEVICE = 5,        /* a device record has a bad field [device] */
-    SAILGARNET_BAD_OBJECTS = 6,       /* a device breaks an object rule, such as _PS3 without _PS0 [device] */
+    SAILGARNET_BAD_RESOURCE = 4,      /* a resource record has a bad field or, in a description, is cut short [resource] */
+    SAILGARNET_BAD_DEVICE = 5,        /* a device record has a bad field or, in a description, is cut short [device] */
+    SAILGARNET_BAD_OBJECTS = 6,       /* a device breaks an object rule, see struct sailgarnet_device [device] */
     SAILGARNET_BAD_STATE = 7,         /* the state is not 132 bytes, or a value is out of its rules */
     SAILGARNET_INCONSISTENT = 8,      /* the state is not consistent [lowest device that is not] */
-    SAILGARNET_NO_ROOM = 9,           /* planner only: the plan has room for fewer than 33 calls (132 bytes) */
+    SAILGARNET_NO_ROOM = 9,           /* a plan under 132 bytes, or a buffer too short for the table or the description */
     SAILGARNET_BAD_REQUEST = 10,      /* kind, device or number out of range, or an unused number not zero */
     SAILGARNET_UNSUPPORTED = 11,      /* the device does not support the state */
     SAILGARNET_SHALLOWER = 12,        /* the target is shallower than the present state and not D0 */
@@ -86,6 +96,25 @@ uint64_t sailgarnet_check(const uint8_t *table, size_t table_len, const uint8_t 
                           uint32_t kind, uint32_t device, uint32_t a, uint32_t b,
                           const uint8_t *list, size_t list_len);
 
+/*
+ * Writes the table that a description makes: `resources` has R records of 4 bytes, `devices` D records of 54, and a record
+ * that is cut short counts. Their lengths say how many records there are: lend 4 R and 54 D bytes, not the whole buffers,
+ * whose unused bytes would be taken for records. Answers 1 for a version other than 1, then 2, then 9 if `table` has fewer
+ * than 8 + 4 R + 40 D bytes, then 4, 5 and 6 as for the table, else 0. Done: the first count bytes of `table` are the
+ * table, and the rest is as it was. Refused: nothing is written.
+ */
+uint64_t sailgarnet_write(uint32_t version, const uint8_t *resources, size_t resources_len,
+                          const uint8_t *devices, size_t devices_len, uint8_t *table, size_t table_len);
+
+/*
+ * Describes a table; sailgarnet_write makes the same table of the description. Answers 1 to 6, then 9 if `resources` has
+ * fewer than 4 R bytes or `devices` fewer than 54 D, else 0. Done: the first 4 R bytes of `resources` and the first 54 D
+ * bytes of `devices` are the description, the count is their sum, and the rest is as it was. R and D are then
+ * sailgarnet_resource_count and sailgarnet_device_count of the table. Refused: nothing is written.
+ */
+uint64_t sailgarnet_describe(const uint8_t *table, size_t table_len, uint8_t *resources, size_t resources_len,
+                             uint8_t *devices, size_t devices_len);
+
 /* The parts of an answer: number in bits 0 to 7, count in bits 8 to 23, place in bits 24 to 63. */
 static inline unsigned sailgarnet_number_of(uint64_t answer) { return (unsigned)(answer & 0xffu); }
 static inline unsigned sailgarnet_count_of(uint64_t answer) { return (unsigned)((answer >> 8) & 0xffffu); }
@@ -109,6 +138,142 @@ static inline unsigned sailgarnet_call_state(const uint8_t *plan, size_t i) { re
 static inline int sailgarnet_call_wake_on(const uint8_t *plan, size_t i) { return plan[4 * i + 3] >= 128; }
 static inline unsigned sailgarnet_call_wake_sleep(const uint8_t *plan, size_t i) { return plan[4 * i + 2]; }
 static inline unsigned sailgarnet_call_wake_state(const uint8_t *plan, size_t i) { return plan[4 * i + 3] & 0x7fu; }
+
+/* R and D of a good table, the numbers of its resources and devices. */
+static inline unsigned sailgarnet_resource_count(const uint8_t *table) { return table[3]; }
+static inline unsigned sailgarnet_device_count(const uint8_t *table) { return table[6]; }
+
+/* A described resource. A value out of its range is answered 4. */
+struct sailgarnet_resource {
+    uint8_t systemlevel;    /* the deepest sleep state in which it can be on, 0 to 4 */
+    uint8_t reserved;       /* 0 */
+    uint16_t resourceorder; /* a lower order is turned on earlier and turned off later */
+};
+
+/*
+ * A described device. A new one begins as sailgarnet_device_none(), not as zeros: 0 is device 0 as a parent, and D0 as an
+ * _SxD or _SxW. There is no _S0D: sxd[0] is read as SAILGARNET_NONE, and is not written.
+ *
+ * In a set, bit r stands for resource r, and r is below R; the set of an object that does not exist is 0. Where both
+ * exist, _SxD is at most _SxW. A break of this, or a value out of its range, is answered 5. A break of one of the four
+ * object rules is answered 6: with any _PSx there are _PS0 and _PS3; with any _PRx there is _PR0; a device with both kinds
+ * has _PS1 exactly if it has _PR1, and _PS2 exactly if it has _PR2; with _DSW there is _PRW.
+ */
+struct sailgarnet_device {
+    uint8_t parent;      /* the device that this one is attached to, of a lower number than its own, or SAILGARNET_NONE */
+    uint8_t ps;          /* bit x, 0 to 3: _PSx exists */
+    uint8_t pr;          /* bit x, 0 to 3: _PRx exists */
+    uint8_t flags;       /* SAILGARNET_HAS_PRW, SAILGARNET_HAS_DSW */
+    uint64_t pr_sets[4]; /* _PRx at x: what it needs in D0, D1, D2 and D3hot */
+    uint64_t prw_set;    /* _PRW: what it needs to wake the system */
+    uint8_t sxd[5];      /* _SxD at x, 0 to 3 or SAILGARNET_NONE */
+    uint8_t sxw[5];      /* _SxW at x, 0 to 4 or SAILGARNET_NONE */
+    uint8_t deepest;     /* the deepest sleep state from which it can wake the system, 0 to 4; 0 without _PRW */
+};
+
+/* The flags of a device. */
+#define SAILGARNET_HAS_PRW 1u
+#define SAILGARNET_HAS_DSW 2u
+
+/* A device without parent and without any object. */
+static inline struct sailgarnet_device sailgarnet_device_none(void)
+{
+    struct sailgarnet_device device;
+
+    device.parent = SAILGARNET_NONE;
+    device.ps = 0;
+    device.pr = 0;
+    device.flags = 0;
+    for (unsigned x = 0; x < 4; x++)
+        device.pr_sets[x] = 0;
+    device.prw_set = 0;
+    for (unsigned x = 0; x < 5; x++) {
+        device.sxd[x] = SAILGARNET_NONE;
+        device.sxw[x] = SAILGARNET_NONE;
+    }
+    device.deepest = 0;
+    return device;
+}
+
+/* A set in a description: 8 bytes, lowest first. */
+static inline uint64_t sailgarnet_set_read(const uint8_t *bytes)
+{
+    uint64_t set = 0;
+
+    for (unsigned i = 0; i < 8; i++)
+        set |= (uint64_t)bytes[i] << 8 * i;
+    return set;
+}
+
+static inline void sailgarnet_set_write(uint8_t *bytes, uint64_t set)
+{
+    for (unsigned i = 0; i < 8; i++)
+        bytes[i] = (uint8_t)(set >> 8 * i & 0xffu);
+}
+
+/*
+ * Records of a description as structs and back. What is read from any bytes is written as the same bytes. The two for a
+ * resource touch the 4 bytes of resource r alone, the two for a device the 54 bytes of device d.
+ */
+static inline struct sailgarnet_resource sailgarnet_resource_read(const uint8_t *resources, size_t r)
+{
+    const uint8_t *bytes = resources + SAILGARNET_DESCRIBED_RESOURCE_SIZE * r;
+    struct sailgarnet_resource resource;
+
+    resource.systemlevel = bytes[0];
+    resource.reserved = bytes[1];
+    resource.resourceorder = (uint16_t)(bytes[2] | bytes[3] << 8);
+    return resource;
+}
+
+static inline void sailgarnet_resource_write(uint8_t *resources, size_t r, const struct sailgarnet_resource *resource)
+{
+    uint8_t *bytes = resources + SAILGARNET_DESCRIBED_RESOURCE_SIZE * r;
+
+    bytes[0] = resource->systemlevel;
+    bytes[1] = resource->reserved;
+    bytes[2] = (uint8_t)(resource->resourceorder & 0xffu);
+    bytes[3] = (uint8_t)(resource->resourceorder >> 8);
+}
+
+static inline struct sailgarnet_device sailgarnet_device_read(const uint8_t *devices, size_t d)
+{
+    const uint8_t *bytes = devices + SAILGARNET_DESCRIBED_DEVICE_SIZE * d;
+    struct sailgarnet_device device;
+
+    device.parent = bytes[0];
+    device.ps = bytes[1];
+    device.pr = bytes[2];
+    device.flags = bytes[3];
+    for (unsigned x = 0; x < 4; x++)
+        device.pr_sets[x] = sailgarnet_set_read(bytes + 4 + 8 * x);
+    device.prw_set = sailgarnet_set_read(bytes + 36);
+    device.sxd[0] = SAILGARNET_NONE;
+    for (unsigned x = 1; x < 5; x++)
+        device.sxd[x] = bytes[43 + x];
+    for (unsigned x = 0; x < 5; x++)
+        device.sxw[x] = bytes[48 + x];
+    device.deepest = bytes[53];
+    return device;
+}
+
+static inline void sailgarnet_device_write(uint8_t *devices, size_t d, const struct sailgarnet_device *device)
+{
+    uint8_t *bytes = devices + SAILGARNET_DESCRIBED_DEVICE_SIZE * d;
+
+    bytes[0] = device->parent;
+    bytes[1] = device->ps;
+    bytes[2] = device->pr;
+    bytes[3] = device->flags;
+    for (unsigned x = 0; x < 4; x++)
+        sailgarnet_set_write(bytes + 4 + 8 * x, device->pr_sets[x]);
+    sailgarnet_set_write(bytes + 36, device->prw_set);
+    for (unsigned x = 1; x < 5; x++)
+        bytes[43 + x] = device->sxd[x];
+    for (unsigned x = 0; x < 5; x++)
+        bytes[48 + x] = device->sxw[x];
+    bytes[53] = device->deepest;
+}
 
 #ifdef __cplusplus
 }

@@ -59,19 +59,17 @@ host() {
   rm -f "$log"
 }
 
-# the header is valid in each language
+# the header is valid in each language, and its own functions read and write what they say
 header() {
-  local strict=(-Wall -Wextra -Wpedantic -Werror -fsyntax-only -Iinclude)
-  echo '#include "sailgarnet.h"' > target/header.c
-  cp target/header.c target/header.cpp
-  gcc -std=c99 "${strict[@]}" target/header.c && gcc -std=c11 "${strict[@]}" target/header.c &&
-    g++ -std=c++17 "${strict[@]}" target/header.cpp
+  local strict=(-Wall -Wextra -Wpedantic -Wconversion -Werror -Iinclude tests/header.c -o target/header)
+  gcc -std=c99 "${strict[@]}" && target/header && gcc -std=c11 "${strict[@]}" && target/header &&
+    g++ -std=c++17 "${strict[@]}" && target/header
 }
 
-# the board's program against the proved library, with other flags in $@
-board() {
-  gcc -std=c99 -Wall -Wextra -Wpedantic -Werror -Iinclude "$@" examples/board.c target/staticlib/libsailgarnet.a -o target/board &&
-    target/board | diff - examples/board.out
+# the program $1 of examples/ against the proved library, with other flags in the rest
+example() {
+  gcc -std=c99 -Wall -Wextra -Wpedantic -Werror -Iinclude "${@:2}" "examples/$1.c" target/staticlib/libsailgarnet.a -o "target/$1" &&
+    "target/$1" | diff - "examples/$1.out"
 }
 
 # every exported function with each lent buffer beside a page that may not be touched
@@ -95,8 +93,10 @@ else
   step rt staticlib sailgarnet
 fi
 step header
-step board -O2
-step board -g -fsanitize=address,undefined
+step example board -O2
+step example board -g -fsanitize=address,undefined
+step example edit -O2
+step example edit -g -fsanitize=address,undefined
 step bash tests/stack.sh
 step fence
 host

@@ -11,15 +11,22 @@ def le(b):
     return int.from_bytes(b, "little")
 
 
+# a device by the bytes of its record; sets have w bytes, 4 in a table and 8 in a description
 class Device:
-    def __init__(self, b):
+    def __init__(self, b, w):
         self.parent, self.ps, self.pr, self.flags = b[0], b[1], b[2], b[3]
-        self.sets = [le(b[4 + 4 * k:8 + 4 * k]) for k in range(5)]  # _PR0 to _PR3, _PRW
-        self.sxd = {x: b[23 + x] for x in range(1, 5)}
-        self.sxw = {x: b[28 + x] for x in range(5)}
-        self.deepest = b[33]
-        self.zeros = b[34:40]
+        self.sets = [le(b[4 + w * k:4 + w * (k + 1)]) for k in range(5)]  # _PR0 to _PR3, _PRW
+        rest = b[4 + 5 * w:]
+        self.sxd = {x: rest[x - 1] for x in range(1, 5)}
+        self.sxw = {x: rest[4 + x] for x in range(5)}
+        self.deepest = rest[9]
+        self.zeros = rest[10:]
         self.prw, self.dsw = bool(self.flags & 1), bool(self.flags & 2)
+
+    # its fields as bytes, without the zeros
+    def fields(self, w):
+        sets = b"".join(s.to_bytes(w, "little") for s in self.sets)
+        return bytes([self.parent, self.ps, self.pr, self.flags]) + sets + bytes([*self.sxd.values(), *self.sxw.values(), self.deepest])
 
     # ---- RULES.md 2.4, device record
     def fields_good(self, number, R):
@@ -92,8 +99,21 @@ class Device:
 def split(t):
     R, D = t[3], t[6]
     resources = [t[8 + 4 * r:12 + 4 * r] for r in range(R)]
-    devices = [Device(t[8 + 4 * R + 40 * d:48 + 4 * R + 40 * d]) for d in range(D)]
+    devices = [Device(t[8 + 4 * R + 40 * d:48 + 4 * R + 40 * d], 4) for d in range(D)]
     return resources, devices
+
+
+# answers 4 to 6 of resources, each its bytes, and devices, of which one that is cut short is none
+def check_records(resources, devices):
+    for r, b in enumerate(resources):
+        if len(b) < 4 or b[0] > 4 or b[1]:
+            return 4, r
+    for d, device in enumerate(devices):
+        if device is None or not device.fields_good(d, len(resources)):
+            return 5, d
+        if not device.objects_good():
+            return 6, d
+    return 0, 0
 
 
 # ---- RULES.md 2.6, answers 1 to 6
@@ -105,16 +125,7 @@ def check_table(t):
         return 2, 0
     if len(t) != 8 + 4 * R + 40 * D:
         return 3, 0
-    resources, devices = split(t)
-    for r, b in enumerate(resources):
-        if b[0] > 4 or b[1]:
-            return 4, r
-    for d, device in enumerate(devices):
-        if not device.fields_good(d, R):
-            return 5, d
-        if not device.objects_good():
-            return 6, d
-    return 0, 0
+    return check_records(*split(t))
 
 
 # ---- RULES.md 4.2 and 4.3, answers 7 and 8 of a table that is accepted
@@ -165,6 +176,45 @@ def fresh(t, buffer):
     if len(buffer) != 132:
         return 7, 0, buffer
     return 0, 0, bytes(128) + (2 ** t[3] - 1).to_bytes(4, "little")
+
+
+# ---- RULES.md 11, descriptions: 4 bytes a resource, 54 a device. The last record may be cut short
+def in_records(b, size):
+    return [b[at:at + size] for at in range(0, len(b), size)]
+
+
+def at_front(b, buffer):
+    return b + buffer[len(b):]
+
+
+# number, place, count, the buffer of the table afterwards
+def write(version, resources, devices, buffer):
+    records, parts = in_records(resources, 4), in_records(devices, 54)
+    R, D = len(records), len(parts)
+    if version != 1:
+        return 1, 0, 0, buffer
+    if R > 32 or D > 32:
+        return 2, 0, 0, buffer
+    if len(buffer) < 8 + 4 * R + 40 * D:
+        return 9, 0, 0, buffer
+    described = [Device(b, 8) if len(b) == 54 else None for b in parts]
+    number, place = check_records(records, described)
+    if number:
+        return number, place, 0, buffer
+    t = b"PWT" + bytes([R, 1, 0, D, 0]) + resources + b"".join(device.fields(4) + bytes(6) for device in described)
+    return 0, 0, len(t), at_front(t, buffer)
+
+
+# number, place, count, the buffers of the two lists afterwards
+def describe(t, resources, devices):
+    number, place = check_table(t)
+    if number == 0 and (len(resources) < 4 * t[3] or len(devices) < 54 * t[6]):
+        number, place = 9, 0
+    if number:
+        return number, place, 0, resources, devices
+    records, found = split(t)
+    first, second = b"".join(records), b"".join(device.fields(8) for device in found)
+    return 0, 0, len(first) + len(second), at_front(first, resources), at_front(second, devices)
 
 
 # ---- RULES.md 5, answers 10 to 18. A request is four numbers: kind, device, a, b
@@ -308,6 +358,16 @@ class Script:
         told = "%d %d 0" % check_list(self.table, before, q, listed)
         return f" {number} {place} {len(calls)} calls{hexed(listed)} state{hexed(self.state)}: check {told}"
 
+    # the table's bytes are resources, then devices; a version has its lowest and its highest byte
+    def written(self, end, at, x, room, low, high=0):
+        lists = damaged(self.table, len(self.table), at, x)
+        number, place, count, table = write(low + (high << 24), lists[:end], lists[end:], blank(room))
+        return f" {number} {place} {count} table{hexed(table)}"
+
+    def described(self, n, m):
+        number, place, count, resources, devices = describe(self.table, blank(n), blank(m))
+        return f" {number} {place} {count} resources{hexed(resources)} devices{hexed(devices)}"
+
     # what is printed after a line, if anything
     def line(self, letter, args):
         if letter == "T":
@@ -333,11 +393,40 @@ class Script:
             return " check %d %d 0" % check_both(self.table, damaged(self.state, *args))
         elif letter == "R":
             return hexed(record(self.table, args[0]))
+        elif letter == "M":
+            return self.written(*args)
+        elif letter == "E":
+            return self.described(*args)
         return None
 
 
+# ---- a check of this script itself, on the bench station: what it describes is written as itself, and each refusal comes in its turn
+def check_descriptions(t):
+    R, D = t[3], t[6]
+    number, place, count, resources, devices = describe(t, blank(4 * R + 1), blank(54 * D + 2))
+    assert (number, place, count) == (0, 0, 4 * R + 54 * D) and resources[4 * R:] == blank(1) and devices[54 * D:] == blank(2)
+    resources, devices = resources[:-1], devices[:-2]
+    assert write(1, resources, devices, blank(len(t) + 3)) == (0, 0, len(t), t + blank(3))
+
+    def refused(number, place, resources=resources, devices=devices, version=1, room=len(t)):
+        assert write(version, resources, devices, blank(room)) == (number, place, 0, blank(room))
+
+    refused(1, 0, version=65537, resources=blank(200))
+    refused(2, 0, resources=blank(129), room=0)
+    refused(2, 0, devices=blank(32 * 54 + 1), room=0)
+    refused(9, 0, resources=blank(4 * R), room=len(t) - 1)
+    refused(4, R - 1, resources=resources[:-1], devices=blank(54 * D))
+    refused(5, D - 1, devices=devices[:-1])
+    refused(5, 1, devices=damaged(devices, 54 * D, 54 + 36 + 5, 1))  # bit 40 of the camera's _PRW
+    refused(6, 2, devices=damaged(devices, 54 * D, 2 * 54 + 1, 8))  # the lamp has _PS3 and no _PS0
+    assert describe(t, blank(4 * R - 1), blank(54 * D)) == (9, 0, 0, blank(4 * R - 1), blank(54 * D))
+    assert describe(t[:-1], blank(0), blank(0)) == (3, 0, 0, blank(0), blank(0))
+
+
 if __name__ == "__main__":
+    root = pathlib.Path(__file__).parent.parent
+    check_descriptions((root / "examples" / "station.pwt").read_bytes())
     script = Script()
-    for line in (pathlib.Path(__file__).parent.parent / "crates" / sys.argv[1] / "stdin").read_text().splitlines():
+    for line in (root / "crates" / sys.argv[1] / "stdin").read_text().splitlines():
         answer = script.line(line[:1], bytes.fromhex("" if line[:1] == "#" else line[1:]))
         print(line if answer is None else f"{line}:{answer}")

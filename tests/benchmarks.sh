@@ -11,8 +11,8 @@ make --no-print-directory bench > target/bench.md
 cat > docs/BENCHMARKS.md <<PAGE
 # Benchmarks
 
-Planner and checker of the library, beside the independent reference in \`host/reference\` on the same inputs. This page
-is written by \`make benchmarks\`; each table is what the command
+Planner, checker, writer and describer of the library, beside the independent reference in \`host/reference\` on the same
+inputs. This page is written by \`make benchmarks\`; each table is what the command
 above it prints.
 
 | | |
@@ -31,7 +31,11 @@ each device below the one before, each with every object and five sets that are
 not empty; seven devices are armed; the last device moves between D0 and D3cold, its own call and 24 resources to
 switch; *arming again* gives an armed device another wake pair. The other rows are refusals of the full table, each at
 the last place that can be bad
-where there is one: the answer number says at which stage. The inputs are in \`host/cases/src/workload.rs\`.
+where there is one: the answer number says at which stage.
+
+Writer and describer have the bench station, and a station of 32 resources and 32 devices with every object and
+every bit of every set. Their refusals are of that station: the last field of the last device for the writer, a buffer for
+the devices that is one byte too short for the describer. The inputs are in \`host/cases/src/workload.rs\`.
 
 ## Time
 
@@ -39,7 +43,7 @@ where there is one: the answer number says at which stage. The inputs are in \`h
 
 $(cat target/bench.md)
 
-Requests with 25 calls have the highest ratios of the full table, about 0.8: the planner sorts 24 keys by insertion, with a
+Neither side has a hint on what to inline. Requests with 25 calls have the highest ratios of the full table: the planner sorts 24 keys by insertion, with a
 branch for each key that the processor cannot foresee, and the checker looks at each word. On the bench station the table
 is small, and the call itself, the state, the change by value and the decoding of each word weigh more. There a value that
 is stored in parts and read as one soon after shows in the time and not in the instructions: the read waits until the

@@ -1,7 +1,8 @@
 /*
  * No exported function touches a byte beside what it is lent. Every lent buffer ends exactly at a page that may not be touched, and in a
  * second run starts exactly after one. Each call must answer and write what the same call does in ordinary memory, leave what it only
- * reads, and on a refusal leave every byte.
+ * reads and what is past its output, and on a refusal leave every byte. What write wrote must be described as what it was lent, and what
+ * describe described must be written as the table that it was lent.
  */
 #define _DEFAULT_SOURCE
 #include <setjmp.h>
@@ -15,37 +16,57 @@
 #include "../examples/station.h"
 #include "full.h"
 
-enum { PAGE = 4096, LONGEST = 200, ANSWERS = 20 };
+enum { PAGE = 4096, LONGEST = 200, RESOURCE = SAILGARNET_DESCRIBED_RESOURCE_SIZE, DEVICE = SAILGARNET_DESCRIBED_DEVICE_SIZE };
 /* The functions, and two that touch the byte before and the byte past a buffer, to see that both are caught. */
-enum function { FRESH, PLAN, CHECK, FUNCTIONS, BEFORE = FUNCTIONS, PAST };
-/* What is lent; a plan is lent to the planner, a list to the checker. */
-enum { TABLE, STATE, ROOM, LIST, LENT };
+enum function { FRESH, PLAN, CHECK, WRITE, DESCRIBE, FUNCTIONS, BEFORE = FUNCTIONS, PAST, TOUCHES };
+/* What is lent; ROOM is the plan of the planner. */
+enum { TABLE, STATE, ROOM, LIST, RESOURCES, DEVICES, LENT };
 enum { AT_END, AT_START, PLACES };
+/* What a function does with a buffer; it fills one without reading it. */
+enum use { NONE, READS, CHANGES, FILLS };
 
-static const char *const functions[] = {"sailgarnet_fresh", "sailgarnet_plan", "sailgarnet_check", "a touch before", "a touch past"};
-static const char *const names[LENT] = {"table", "state", "plan", "list"};
+static const char *const functions[TOUCHES] = {"sailgarnet_fresh", "sailgarnet_plan", "sailgarnet_check", "sailgarnet_write",
+                                               "sailgarnet_describe", "a touch before", "a touch past"};
+static const char *const names[LENT] = {"table", "state", "plan", "list", "resources", "devices"};
 static const char *const places[PLACES] = {"each ending at a forbidden page", "each starting after a forbidden page"};
+static const enum use uses[TOUCHES][LENT] = {
+    [FRESH] = {[TABLE] = READS, [STATE] = FILLS},
+    [PLAN] = {[TABLE] = READS, [STATE] = CHANGES, [ROOM] = FILLS},
+    [CHECK] = {[TABLE] = READS, [STATE] = READS, [LIST] = READS},
+    [WRITE] = {[RESOURCES] = READS, [DEVICES] = READS, [TABLE] = FILLS},
+    [DESCRIBE] = {[TABLE] = READS, [RESOURCES] = FILLS, [DEVICES] = FILLS},
+    [BEFORE] = {READS, READS, READS, READS, READS, READS},
+    [PAST] = {READS, READS, READS, READS, READS, READS},
+};
+/* The answers that a function can give, bit n for answer n. */
+static const uint32_t possible[FUNCTIONS] = {
+    [FRESH] = 0xff,     /* 0 to 7 */
+    [PLAN] = 0x7ffff,   /* 0 to 18 */
+    [CHECK] = 0xffdff,  /* 0 to 8, 10 to 19 */
+    [WRITE] = 0x277,    /* 0 to 2, 4 to 6, 9 */
+    [DESCRIBE] = 0x27f, /* 0 to 6, 9 */
+};
 
-/* A call. Its bytes are the first of content; a plan, and a state to be made, hold other bytes before. */
+/* A call. Its bytes are the first of content; what is to be filled holds those of content[ROOM] before. */
 static struct call {
     enum function function;
     size_t length[LENT];
     uint32_t kind, device, a, b;
+    uint32_t version;
     uint8_t *const *empty; /* where buffers without bytes are, if not at their fence */
 } in;
 static uint8_t content[LENT][PAGE];
 static uint8_t ordinary[LENT][PAGE + 1]; /* at odd addresses too */
 static uint8_t *fenced[LENT];
 static const char *where = "before any call";
-static unsigned long calls[FUNCTIONS], answers[ANSWERS];
+static unsigned long calls[FUNCTIONS];
+static uint32_t given[FUNCTIONS]; /* those that it gave */
 static sigjmp_buf back;
 static volatile sig_atomic_t inside;
 static uint8_t *volatile touched;
 
-static int lends(int i)
-{
-    return i == TABLE || i == STATE || (in.function == PLAN && i == ROOM) || (in.function == CHECK && i == LIST);
-}
+static enum use use(int i) { return uses[in.function][i]; }
+static int lends(int i) { return use(i) != NONE; }
 
 static void fail(const char *what)
 {
@@ -55,8 +76,10 @@ static void fail(const char *what)
             printf(" %s of %zu bytes,", names[i], in.length[i]);
     if (in.empty != NULL)
         printf(" empty ones at %p,", (void *)*in.empty);
-    if (in.function != FRESH)
+    if (in.function == PLAN || in.function == CHECK)
         printf(" request %u %u %u %u,", in.kind, in.device, in.a, in.b);
+    if (in.function == WRITE)
+        printf(" version %u,", in.version);
     printf(" %s: %s\n", where, what);
     exit(1);
 }
@@ -103,6 +126,10 @@ static uint64_t call(uint8_t *const at[LENT])
         return sailgarnet_plan(at[TABLE], length[TABLE], at[STATE], length[STATE], in.kind, in.device, in.a, in.b, at[ROOM], length[ROOM]);
     case CHECK:
         return sailgarnet_check(at[TABLE], length[TABLE], at[STATE], length[STATE], in.kind, in.device, in.a, in.b, at[LIST], length[LIST]);
+    case WRITE:
+        return sailgarnet_write(in.version, at[RESOURCES], length[RESOURCES], at[DEVICES], length[DEVICES], at[TABLE], length[TABLE]);
+    case DESCRIBE:
+        return sailgarnet_describe(at[TABLE], length[TABLE], at[RESOURCES], length[RESOURCES], at[DEVICES], length[DEVICES]);
     case BEFORE:
         return *((volatile uint8_t *)at[in.device] - 1);
     default:
@@ -123,29 +150,82 @@ static int call_guarded(uint8_t *const at[LENT], uint64_t *answer)
     return 1;
 }
 
-static const uint8_t *source(int i) { return in.function == FRESH && i == STATE ? content[ROOM] : content[i]; }
+static const uint8_t *source(int i) { return content[use(i) == FILLS ? ROOM : i]; }
 
 static int same(const uint8_t *one, const uint8_t *other, size_t length) { return length == 0 || memcmp(one, other, length) == 0; }
+
+/* How many bytes at the front of a buffer a call that is done may change. */
+static size_t output(int i, uint64_t answer)
+{
+    size_t count = sailgarnet_count_of(answer);
+
+    if (use(i) == NONE || use(i) == READS)
+        return 0;
+    if (i == STATE)
+        return SAILGARNET_STATE_SIZE;
+    if (in.function == PLAN)
+        return 4 * count;
+    if (in.function == WRITE)
+        return count;
+    return i == RESOURCES ? RESOURCE * (size_t)content[TABLE][3] : DEVICE * (size_t)content[TABLE][6];
+}
+
+static void describe_written(size_t count)
+{
+    static uint8_t resources[PAGE], devices[PAGE];
+    const size_t *length = in.length;
+    uint64_t answer = sailgarnet_describe(ordinary[TABLE], count, resources, length[RESOURCES], devices, length[DEVICES]);
+
+    if (sailgarnet_number_of(answer) != SAILGARNET_DONE || sailgarnet_count_of(answer) != length[RESOURCES] + length[DEVICES] ||
+        !same(resources, content[RESOURCES], length[RESOURCES]) || !same(devices, content[DEVICES], length[DEVICES]))
+        fail("what it wrote is not described as what it was lent");
+}
+
+static void write_described(size_t count, size_t resources_len, size_t devices_len)
+{
+    static uint8_t table[PAGE];
+    size_t length = in.length[TABLE];
+    uint64_t answer = sailgarnet_write(1, ordinary[RESOURCES], resources_len, ordinary[DEVICES], devices_len, table, length);
+
+    if (count != resources_len + devices_len || answer != (uint64_t)length << 8 || !same(table, content[TABLE], length))
+        fail("what it described is not written as what it was lent");
+}
+
+/* The answer is one that the function can give, and all is as it was but the output of a call that is done. */
+static void judge(uint64_t answer)
+{
+    unsigned number = sailgarnet_number_of(answer);
+
+    if (number >= 32 || !(possible[in.function] >> number & 1))
+        fail("it cannot give this answer");
+    if (number == SAILGARNET_DONE ? sailgarnet_place_of(answer) != 0 : sailgarnet_count_of(answer) != 0)
+        fail("a call that is done has no place, and a refusal no count");
+    for (int i = 0; i < LENT; i++) {
+        size_t front = number == SAILGARNET_DONE ? output(i, answer) : 0;
+        if (lends(i) && front > in.length[i])
+            fail("its output is longer than what it was lent");
+        if (lends(i) && !same(ordinary[i] + front, source(i) + front, in.length[i] - front))
+            fail("it changed bytes that it must leave");
+    }
+    if (number == SAILGARNET_DONE && in.function == WRITE)
+        describe_written(sailgarnet_count_of(answer));
+    if (number == SAILGARNET_DONE && in.function == DESCRIBE)
+        write_described(sailgarnet_count_of(answer), output(RESOURCES, answer), output(DEVICES, answer));
+    given[in.function] |= UINT32_C(1) << number;
+}
 
 /* The call in ordinary memory, which holds afterwards what is to be found at the fences too. */
 static uint64_t call_ordinary(void)
 {
     uint8_t *at[LENT];
     uint64_t answer = 0;
-    unsigned number;
 
     for (int i = 0; i < LENT; i++)
-        at[i] = memcpy(ordinary[i], source(i), in.length[i]);
+        at[i] = memcpy(ordinary[i], source(i), lends(i) ? in.length[i] : 0);
     where = "in ordinary memory";
     if (!call_guarded(at, &answer))
         fail_touched(at);
-    number = sailgarnet_number_of(answer);
-    if (number >= ANSWERS)
-        fail("there is no such answer");
-    for (int i = 0; i < LENT; i++)
-        if ((number != SAILGARNET_DONE || i == TABLE || in.function == CHECK) && !same(ordinary[i], source(i), in.length[i]))
-            fail("it changed bytes that it must leave");
-    answers[number]++;
+    judge(answer);
     return answer;
 }
 
@@ -154,6 +234,8 @@ static void lend(int place, uint8_t *at[LENT])
     where = places[place];
     for (int i = 0; i < LENT; i++) {
         at[i] = fenced[i] + (place == AT_END ? PAGE - in.length[i] : 0);
+        if (!lends(i))
+            continue;
         if (in.length[i] > 0)
             memcpy(at[i], source(i), in.length[i]);
         else if (in.empty != NULL)
@@ -174,17 +256,27 @@ static uint64_t compare(void)
         if (answer != expected)
             fail("its answer is not that in ordinary memory");
         for (int i = 0; i < LENT; i++)
-            if (!same(at[i], ordinary[i], in.length[i]))
+            if (lends(i) && !same(at[i], ordinary[i], in.length[i]))
                 fail("the bytes after it are not those in ordinary memory");
         calls[in.function]++;
     }
     return expected;
 }
 
-static void compare_all(void)
+/* Each function that is lent a buffer. All are lent a table. */
+static void compare_lent(int i)
 {
     for (in.function = FRESH; in.function < FUNCTIONS; in.function++)
-        compare();
+        if (lends(i))
+            compare();
+}
+
+/* Each function that reads a buffer. */
+static void compare_readers(int i)
+{
+    for (in.function = FRESH; in.function < FUNCTIONS; in.function++)
+        if (use(i) == READS || use(i) == CHANGES)
+            compare();
 }
 
 static void request(uint32_t kind, uint32_t device, uint32_t a, uint32_t b)
@@ -195,14 +287,21 @@ static void request(uint32_t kind, uint32_t device, uint32_t a, uint32_t b)
     in.b = b;
 }
 
-/* The table in content, of this length, in its fresh state. */
+/* The table in content, of this length, its description, and its fresh state. */
 static void begin(size_t length)
 {
+    uint64_t answer;
+
     memset(&in, 0, sizeof in);
     in.length[TABLE] = length;
     in.length[STATE] = SAILGARNET_STATE_SIZE;
     in.length[ROOM] = SAILGARNET_PLAN_SIZE;
-    if (sailgarnet_fresh(content[TABLE], length, content[STATE], SAILGARNET_STATE_SIZE) != SAILGARNET_DONE)
+    in.length[RESOURCES] = RESOURCE * (size_t)content[TABLE][3];
+    in.length[DEVICES] = DEVICE * (size_t)content[TABLE][6];
+    in.version = SAILGARNET_TABLE_VERSION_1;
+    answer = sailgarnet_describe(content[TABLE], length, content[RESOURCES], PAGE, content[DEVICES], PAGE);
+    if (sailgarnet_number_of(answer) != SAILGARNET_DONE ||
+        sailgarnet_fresh(content[TABLE], length, content[STATE], SAILGARNET_STATE_SIZE) != SAILGARNET_DONE)
         fail("the table of the test is refused");
 }
 
@@ -243,7 +342,7 @@ static void ask(uint32_t kind, uint32_t device, uint32_t a, uint32_t b)
     in.length[LIST] = length;
 }
 
-/* Every length of each lent buffer beside every length of each other one, the third as it is. */
+/* Every length of a lent buffer beside every length of another one, the third as it is. */
 static void pairs_of_lengths(int one, int other)
 {
     struct call before = in;
@@ -263,22 +362,25 @@ static void lengths(void)
                     pairs_of_lengths(one, other);
 }
 
-static void table_lengths(void)
+/* Every length of each lent buffer up to a record more than it has, the others as they are. */
+static void single_lengths(void)
 {
-    size_t before = in.length[TABLE];
+    for (int i = 0; i < LENT; i++) {
+        size_t before = in.length[i];
 
-    for (in.length[TABLE] = 0; in.length[TABLE] <= before + 4; in.length[TABLE]++)
-        compare_all();
-    in.length[TABLE] = before;
+        for (in.length[i] = 0; in.length[i] <= before + DEVICE; in.length[i]++)
+            compare_lent(i);
+        in.length[i] = before;
+    }
 }
 
-/* Every byte of a buffer changed to each other value. */
+/* Every byte of a buffer changed to each other value, for the functions that read it. */
 static void damage(int i)
 {
     for (size_t k = 0; k < in.length[i]; k++)
         for (unsigned change = 1; change < 256; change++) {
             content[i][k] ^= (uint8_t)change;
-            compare_all();
+            compare_readers(i);
             content[i][k] ^= (uint8_t)change;
         }
 }
@@ -288,6 +390,31 @@ static void damages(void)
     damage(TABLE);
     damage(STATE);
     damage(LIST);
+}
+
+static void damage_description(void)
+{
+    damage(RESOURCES);
+    damage(DEVICES);
+}
+
+/* A version is compared as a whole, and before all else. */
+static void versions(void)
+{
+    static const uint32_t others[] = {0, 2, 255, 256, 257, 65535, 65536, 65537, 0x1000001, UINT32_MAX};
+    struct call before = in;
+
+    in.function = WRITE;
+    for (size_t i = 0; i < sizeof others / sizeof others[0]; i++) {
+        in.version = others[i];
+        memcpy(in.length, before.length, sizeof in.length);
+        if (compare() != SAILGARNET_NOT_A_TABLE)
+            fail("there is no such version");
+        memset(in.length, 0, sizeof in.length);
+        if (compare() != SAILGARNET_NOT_A_TABLE)
+            fail("there is no such version, whatever else is lent");
+    }
+    in = before;
 }
 
 /* Requests within and beyond every range. */
@@ -302,11 +429,27 @@ static void requests(void)
             for (int a = 0; a < COUNT; a++)
                 for (int b = 0; b < COUNT; b++) {
                     ask(numbers[kind], d <= devices ? d : UINT32_MAX, numbers[a], numbers[b]);
-                    compare_all();
+                    compare_readers(STATE);
                 }
 }
 
-/* Buffers without bytes, in each choice of them, at this address. A missing table is seen first, then a missing state, then no room. */
+/* What the bench station gets where buffers are empty. Without resources, the sets of its bus have one that there is not. */
+static unsigned answer_to_empty(void)
+{
+    const size_t *length = in.length;
+
+    if (length[TABLE] == 0)
+        return in.function == WRITE ? SAILGARNET_NO_ROOM : SAILGARNET_NOT_A_TABLE;
+    if (in.function == WRITE)
+        return length[RESOURCES] == 0 && length[DEVICES] > 0 ? SAILGARNET_BAD_DEVICE : SAILGARNET_DONE;
+    if (in.function == DESCRIBE)
+        return length[RESOURCES] == 0 || length[DEVICES] == 0 ? SAILGARNET_NO_ROOM : SAILGARNET_DONE;
+    if (length[STATE] == 0)
+        return SAILGARNET_BAD_STATE;
+    return in.function == PLAN && length[ROOM] == 0 ? SAILGARNET_NO_ROOM : SAILGARNET_DONE;
+}
+
+/* Buffers without bytes, in each choice of them, at this address. */
 static void empty_at(uint8_t *const *address)
 {
     struct call before = in;
@@ -316,12 +459,9 @@ static void empty_at(uint8_t *const *address)
         for (int i = 0; i < LENT; i++)
             if (chosen >> i & 1)
                 in.length[i] = 0;
-        for (in.function = FRESH; in.function < FUNCTIONS; in.function++) {
-            int no_room = in.function == PLAN && in.length[ROOM] == 0;
-            unsigned expected = in.length[TABLE] == 0 ? 1 : in.length[STATE] == 0 ? 7 : no_room ? 9 : 0;
-            if (sailgarnet_number_of(compare()) != expected)
+        for (in.function = FRESH; in.function < FUNCTIONS; in.function++)
+            if (sailgarnet_number_of(compare()) != answer_to_empty())
                 fail("another answer was expected for what is empty");
-        }
         in = before;
     }
 }
@@ -335,7 +475,9 @@ static void empties(void)
                             fenced[TABLE] - PAGE,
                             fenced[STATE] - 1,
                             fenced[LIST] + PAGE,
-                            fenced[ROOM] + PAGE + 100};
+                            fenced[ROOM] + PAGE + 100,
+                            fenced[RESOURCES] + PAGE,
+                            fenced[DEVICES] - 1};
 
     begin_station();
     ask(SAILGARNET_MOVE, 2, SAILGARNET_D3COLD, 0);
@@ -343,9 +485,62 @@ static void empties(void)
         empty_at(&addresses[i]);
 }
 
+/* What the bench station gets where a buffer is longer than it need be. */
+static unsigned answer_to_long(int i)
+{
+    if (i == STATE)
+        return SAILGARNET_BAD_STATE;
+    if (use(i) == FILLS)
+        return SAILGARNET_DONE;
+    return i == TABLE ? SAILGARNET_WRONG_LENGTH : i == LIST ? SAILGARNET_NOT_CONFORMING : SAILGARNET_TOO_MANY;
+}
+
+/*
+ * The low bits of the length, or of the number of records, are those of the right one, or zero where a longer buffer is good: a function
+ * that looked at them alone would give another answer.
+ */
+static void long_buffer(uint8_t *vast, int i)
+{
+    static const unsigned bits[] = {8, 16, 32};
+    size_t unit = i == DEVICES ? DEVICE : i == RESOURCES || i == LIST ? RESOURCE : 1, before = in.length[i];
+    size_t low = answer_to_long(i) == SAILGARNET_DONE ? 0 : before;
+    uint8_t *at[LENT];
+    uint64_t answer = 0;
+
+    for (size_t k = 0; k < sizeof bits / sizeof bits[0]; k++) {
+        lend(AT_END, at);
+        where = "one longer than it need be";
+        at[i] = memcpy(vast, source(i), PAGE);
+        in.length[i] = low + (unit << bits[k]);
+        if (!call_guarded(at, &answer))
+            fail_touched(at);
+        if (sailgarnet_number_of(answer) != answer_to_long(i))
+            fail("another answer was expected for this length");
+        in.length[i] = before;
+    }
+}
+
+/* All of the long buffer may be read, and its first page be written: no output is longer. */
+static void long_buffers(void)
+{
+    size_t size = ((size_t)DEVICE << 32) + PAGE;
+    uint8_t *vast = mmap(NULL, size, PROT_READ, MAP_PRIVATE | MAP_ANONYMOUS | MAP_NORESERVE, -1, 0);
+
+    require(vast != MAP_FAILED && mprotect(vast, PAGE, PROT_READ | PROT_WRITE) == 0, "no address space to be had");
+    begin_station();
+    ask(SAILGARNET_MOVE, 1, SAILGARNET_D3HOT, 0);
+    for (in.function = FRESH; in.function < FUNCTIONS; in.function++)
+        for (int i = 0; i < LENT; i++)
+            if (lends(i))
+                long_buffer(vast, i);
+    munmap(vast, size);
+}
+
 static void bench_station(void)
 {
     begin_station();
+    versions();
+    damage_description();
     requests();
     ask(SAILGARNET_ARM, 1, 4, SAILGARNET_D2);
     damages();
@@ -370,22 +565,26 @@ static void full_table(void)
         walk(SAILGARNET_ARM, d, 3, SAILGARNET_D3HOT);
     requests();
     ask(SAILGARNET_MOVE, FULL - 1, SAILGARNET_D3COLD, 0);
-    table_lengths();
+    single_lengths();
     lengths();
     damages();
+    damage_description();
     walk(SAILGARNET_MOVE, FULL - 1, SAILGARNET_D3COLD, 0);
     ask(SAILGARNET_MOVE, FULL - 1, SAILGARNET_D0, 0);
     lengths();
 }
 
-/* Whole tables of every size. */
+/* Whole tables of every size. A buffer without bytes is a null pointer. */
 static void sizes(void)
 {
+    uint8_t *nothing = NULL;
+
     for (unsigned resources = 0; resources <= FULL; resources++)
         for (unsigned devices = 0; devices <= FULL; devices++) {
             begin(fill_table(content[TABLE], resources, devices));
+            in.empty = &nothing;
             ask(SAILGARNET_MOVE, devices - 1, SAILGARNET_D3COLD, 0);
-            compare_all();
+            compare_lent(TABLE);
         }
 }
 
@@ -417,7 +616,8 @@ static void build_fences(void)
         require(mprotect(fenced[i], PAGE, PROT_READ | PROT_WRITE) == 0, "no page can be opened");
     }
     for (size_t k = 0; k < PAGE; k++)
-        content[TABLE][k] = content[STATE][k] = content[ROOM][k] = content[LIST][k] = (uint8_t)(0xa5 ^ k);
+        for (int i = 0; i < LENT; i++)
+            content[i][k] = (uint8_t)(0xa5 ^ k);
     action.sa_sigaction = on_fault;
     action.sa_flags = SA_SIGINFO | SA_NODEFER;
     sigaction(SIGSEGV, &action, NULL);
@@ -429,12 +629,13 @@ int main(void)
     build_fences();
     control();
     empties();
+    long_buffers();
     bench_station();
     full_table();
     sizes();
-    for (int number = 0; number < ANSWERS; number++)
-        require(answers[number] > 0, "some answer was never given");
-    printf("%lu calls beside forbidden pages: fresh %lu, plan %lu, check %lu; each answer from 0 to %d was given\n",
-           calls[FRESH] + calls[PLAN] + calls[CHECK], calls[FRESH], calls[PLAN], calls[CHECK], ANSWERS - 1);
+    for (int i = 0; i < FUNCTIONS; i++) {
+        require(given[i] == possible[i], "some function never gave one of its answers");
+        printf("%s: %lu calls beside forbidden pages, with each of its answers\n", functions[i], calls[i]);
+    }
     return 0;
 }

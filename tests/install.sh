@@ -1,5 +1,5 @@
 #!/usr/bin/env bash
-# What `make install` installs is enough by itself: a C program elsewhere is built with the words of sailgarnet.pc and runs, and so does the
+# What `make install` installs is enough by itself: C programs elsewhere are built with the words of sailgarnet.pc and run, and so does the
 # command. Needs no pkg-config; where there is one, it must read the file as this test does.
 set -euo pipefail
 cd "$(dirname "$0")/.."
@@ -35,16 +35,18 @@ pkg_config_agrees() {
 }
 
 use() {
-  local prefix=$work/prefix pc=$work/prefix/lib/pkgconfig/sailgarnet.pc flags libs
+  local prefix=$work/prefix pc=$work/prefix/lib/pkgconfig/sailgarnet.pc flags libs program
   run_make install '' "$prefix"
   [ "$(list "$prefix")" = "$files" ] || fail "installed: $(list "$prefix")"
   read -ra flags <<< "$(field "$pc" Cflags)"
   read -ra libs <<< "$(field "$pc" Libs)"
   if command -v pkg-config > /dev/null; then pkg_config_agrees "$pc"; fi
-  cp examples/board.c examples/station.h "$work"
+  cp examples/board.c examples/edit.c examples/station.h "$work"
   cd "$work"
-  gcc -std=c99 -Wall -Wextra -Wpedantic -Werror "${flags[@]}" board.c "${libs[@]}" -o board
-  ./board | diff - "$repository/examples/board.out"
+  for program in board edit; do
+    gcc -std=c99 -Wall -Wextra -Wpedantic -Werror "${flags[@]}" "$program.c" "${libs[@]}" -o "$program"
+    "./$program" | diff - "$repository/examples/$program.out"
+  done
   "$prefix/bin/sailgarnet" demo | diff - "$repository/examples/demo.out"
   "$prefix/bin/sailgarnet" --version | grep -x 'planner: the proved library' > /dev/null || fail "the command plans with something else"
   run_make uninstall '' "$prefix"

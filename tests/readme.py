@@ -1,6 +1,6 @@
 #!/usr/bin/env python3
 """What README.md and host/README.md show is true: their programs are the files they name, their commands print what they say, their links
-lead to a file and a heading of it, and the map has every crate."""
+and those of docs/STATION-TEXT.md and docs/changes lead to a file and a heading of it, and the map has every crate."""
 
 import os
 import re
@@ -104,3 +104,6 @@ plans(readme)
 mapped(readme)
 links("README.md")
 links("host/README.md")
+links("docs/STATION-TEXT.md")
+links("docs/changes/README.md")
+links("docs/changes/CR-1.md")

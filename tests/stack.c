@@ -1,7 +1,7 @@
 /*
  * The stack that the exported functions use, on the bench station, on a table of full size, on refusals at each stage and on long lists.
- * Each call runs on a stack of its own, filled with one byte value before. What was overwritten, less what an empty function of as many
- * arguments overwrites, is the call's. Two values are tried, since a function may write the one that was there.
+ * Each call runs on a stack of its own, filled with one byte value before. What was overwritten, less what an empty function with as many
+ * arguments on the stack overwrites, is the call's. Two values are tried, since a function may write the one that was there.
  */
 #define _XOPEN_SOURCE 700
 #include <stdio.h>
@@ -24,6 +24,13 @@ struct input {
     size_t plan_len;
     const uint8_t *list;
     size_t list_len;
+    uint32_t version;
+    uint8_t resources[SAILGARNET_MAX_RESOURCES_SIZE + 1];
+    size_t resources_len;
+    uint8_t devices[SAILGARNET_MAX_DEVICES_SIZE];
+    size_t devices_len;
+    uint8_t written[SAILGARNET_MAX_TABLE_SIZE];
+    size_t written_len;
 };
 
 static struct input in;
@@ -32,8 +39,24 @@ static unsigned char stack[STACK] __attribute__((aligned(64)));
 static ucontext_t outside, inside;
 static int failures;
 
-static uint64_t __attribute__((noinline)) empty(const uint8_t *table, size_t table_len, uint8_t *state, size_t state_len, uint32_t kind,
-                                                uint32_t device, uint32_t a, uint32_t b, uint8_t *plan, size_t plan_len)
+/* Empty functions; the arguments past the sixth are on the stack. */
+static uint64_t __attribute__((noinline)) empty_of_6(const uint8_t *one, size_t one_len, const uint8_t *other, size_t other_len,
+                                                     const uint8_t *third, size_t third_len)
+{
+    __asm__ volatile("" : : "r"(one), "r"(other), "r"(third) : "memory");
+    return one_len + other_len + third_len;
+}
+
+static uint64_t __attribute__((noinline)) empty_of_7(uint32_t version, const uint8_t *resources, size_t resources_len,
+                                                     const uint8_t *devices, size_t devices_len, uint8_t *table, size_t table_len)
+{
+    __asm__ volatile("" : : "r"(resources), "r"(devices), "r"(table) : "memory");
+    return version + resources_len + devices_len + table_len;
+}
+
+static uint64_t __attribute__((noinline)) empty_of_10(const uint8_t *table, size_t table_len, uint8_t *state, size_t state_len,
+                                                      uint32_t kind, uint32_t device, uint32_t a, uint32_t b, uint8_t *plan,
+                                                      size_t plan_len)
 {
     __asm__ volatile("" : : "r"(table), "r"(state), "r"(plan) : "memory");
     return table_len + state_len + kind + device + a + b + plan_len;
@@ -49,7 +72,18 @@ static uint64_t __attribute__((noinline)) large(size_t size)
     return buffer[size % sizeof buffer];
 }
 
-static void run_empty(void) { answer = empty(in.table, in.table_len, in.state, in.state_len, in.kind, in.device, in.a, in.b, in.plan, in.plan_len); }
+static void run_empty_of_6(void)
+{
+    answer = empty_of_6(in.table, in.table_len, in.resources, in.resources_len, in.devices, in.devices_len);
+}
+static void run_empty_of_7(void)
+{
+    answer = empty_of_7(in.version, in.resources, in.resources_len, in.devices, in.devices_len, in.written, in.written_len);
+}
+static void run_empty_of_10(void)
+{
+    answer = empty_of_10(in.table, in.table_len, in.state, in.state_len, in.kind, in.device, in.a, in.b, in.plan, in.plan_len);
+}
 static void run_large(void) { answer = large(in.table_len); }
 static void run_fresh(void) { answer = sailgarnet_fresh(in.table, in.table_len, in.state, in.state_len); }
 static void run_plan(void)
@@ -60,6 +94,30 @@ static void run_check(void)
 {
     answer = sailgarnet_check(in.table, in.table_len, in.state, in.state_len, in.kind, in.device, in.a, in.b, in.list, in.list_len);
 }
+static void run_write(void)
+{
+    answer = sailgarnet_write(in.version, in.resources, in.resources_len, in.devices, in.devices_len, in.written, in.written_len);
+}
+static void run_describe(void)
+{
+    answer = sailgarnet_describe(in.table, in.table_len, in.resources, in.resources_len, in.devices, in.devices_len);
+}
+
+/* What is measured, and the empty one with as many arguments on the stack. */
+struct function {
+    const char *name;
+    void (*run)(void), (*run_empty)(void);
+};
+
+enum { FRESH, PLAN, CHECK, WRITE, DESCRIBE, LARGE };
+static const struct function functions[] = {
+    [FRESH] = {"fresh", run_fresh, run_empty_of_6},
+    [PLAN] = {"plan", run_plan, run_empty_of_10},
+    [CHECK] = {"check", run_check, run_empty_of_10},
+    [WRITE] = {"write", run_write, run_empty_of_7},
+    [DESCRIBE] = {"describe", run_describe, run_empty_of_6},
+    [LARGE] = {"large", run_large, run_empty_of_6},
+};
 
 /* How many bytes of the stack a run overwrites, with this value in them before. The input is as before afterwards. */
 static size_t overwritten(void (*run)(void), unsigned char value)
@@ -87,20 +145,20 @@ static size_t deepest(void (*run)(void))
     return first > second ? first : second;
 }
 
-/* The bytes of a run alone, whose answer is kept. */
-static size_t used(void (*run)(void))
+/* The bytes of a function alone, whose answer is kept. */
+static size_t used(int function)
 {
-    size_t harness = deepest(run_empty), whole = deepest(run);
+    size_t harness = deepest(functions[function].run_empty), whole = deepest(functions[function].run);
 
     return whole > harness ? whole - harness : 0;
 }
 
 /* Measures one call, which must give the answer number that its title says. */
-static void measure(const char *function, void (*run)(void), const char *title, unsigned number)
+static void measure(int function, const char *title, unsigned number)
 {
-    size_t bytes = used(run);
+    size_t bytes = used(function);
 
-    printf("| %s | %s | %u | %zu |\n", function, title, sailgarnet_number_of(answer), bytes);
+    printf("| %s | %s | %u | %zu |\n", functions[function].name, title, sailgarnet_number_of(answer), bytes);
     if (sailgarnet_number_of(answer) != number || bytes >= LIMIT) {
         printf("FAILED: answer %u was expected, and less than %d bytes\n", number, LIMIT);
         failures++;
@@ -109,8 +167,8 @@ static void measure(const char *function, void (*run)(void), const char *title, 
 
 static void both(const char *title, unsigned number)
 {
-    measure("plan", run_plan, title, number);
-    measure("check", run_check, title, number);
+    measure(PLAN, title, number);
+    measure(CHECK, title, number);
 }
 
 static void request(uint32_t kind, uint32_t device, uint32_t a, uint32_t b)
@@ -121,7 +179,7 @@ static void request(uint32_t kind, uint32_t device, uint32_t a, uint32_t b)
     in.b = b;
 }
 
-/* Lends a table and its fresh state, and no list. */
+/* Lends a table, its fresh state and its description, and no list. */
 static void lend(const uint8_t *table, size_t table_len)
 {
     memset(&in, 0, sizeof in);
@@ -129,7 +187,12 @@ static void lend(const uint8_t *table, size_t table_len)
     in.table_len = table_len;
     in.state_len = sizeof in.state;
     in.plan_len = sizeof in.plan;
-    if (sailgarnet_fresh(table, table_len, in.state, in.state_len) != SAILGARNET_DONE)
+    in.version = SAILGARNET_TABLE_VERSION_1;
+    in.resources_len = SAILGARNET_DESCRIBED_RESOURCE_SIZE * (size_t)sailgarnet_resource_count(table);
+    in.devices_len = SAILGARNET_DESCRIBED_DEVICE_SIZE * (size_t)sailgarnet_device_count(table);
+    in.written_len = table_len;
+    run_describe();
+    if (sailgarnet_number_of(answer) != SAILGARNET_DONE || sailgarnet_fresh(table, table_len, in.state, in.state_len) != SAILGARNET_DONE)
         failures++;
 }
 
@@ -159,7 +222,9 @@ static void own_list(uint32_t kind, uint32_t device, uint32_t a, uint32_t b)
 static void bench_station(void)
 {
     lend(station, sizeof station);
-    measure("fresh", run_fresh, "bench", 0);
+    measure(FRESH, "bench", 0);
+    measure(DESCRIBE, "bench", 0);
+    measure(WRITE, "bench", 0);
     walk(SAILGARNET_MOVE, 2, SAILGARNET_D3COLD, 0);
     own_list(SAILGARNET_MOVE, 1, SAILGARNET_D3HOT, 0);
     both("bench W4", 0);
@@ -179,7 +244,9 @@ static void lend_full(const uint8_t *table)
 static void full_table(const uint8_t *table)
 {
     lend_full(table);
-    measure("fresh", run_fresh, "full", 0);
+    measure(FRESH, "full", 0);
+    measure(DESCRIBE, "full", 0);
+    measure(WRITE, "full", 0);
     own_list(SAILGARNET_MOVE, FULL - 1, SAILGARNET_D3COLD, 0);
     both("full, 25 calls to D3cold", 0);
     walk(SAILGARNET_MOVE, FULL - 1, SAILGARNET_D3COLD, 0);
@@ -195,15 +262,17 @@ static void refused_tables_and_states(uint8_t *table)
 {
     lend_full(table);
     in.table_len = 0;
-    measure("fresh", run_fresh, "empty table", 1);
+    measure(FRESH, "empty table", 1);
+    measure(DESCRIBE, "empty table", 1);
     both("empty table", 1);
     in.table_len = FULL_TABLE;
     table[FULL_TABLE - 1] = 1;
-    measure("fresh", run_fresh, "table, last field", 5);
+    measure(FRESH, "table, last field", 5);
+    measure(DESCRIBE, "table, last field", 5);
     both("table, last field", 5);
     table[FULL_TABLE - 1] = 0;
     in.state_len--;
-    measure("fresh", run_fresh, "state of 131 bytes", 7);
+    measure(FRESH, "state of 131 bytes", 7);
     both("state of 131 bytes", 7);
     in.state_len++;
     in.state[131] = 0x7f;
@@ -221,18 +290,45 @@ static void refused_requests_and_lists(const uint8_t *table)
     both("request, child", 14);
     request(SAILGARNET_ARM, 31, 4, SAILGARNET_D3COLD);
     in.plan_len--;
-    measure("plan", run_plan, "room", 9);
+    measure(PLAN, "room", 9);
     in.list = list;
     in.list_len = sizeof list;
-    measure("check", run_check, "list of 10000 words", 19);
+    measure(CHECK, "list of 10000 words", 19);
     in.list_len--;
-    measure("check", run_check, "list of 39999 bytes", 19);
+    measure(CHECK, "list of 39999 bytes", 19);
+}
+
+/* What is refused stays, since what is refused after it is looked at before it. */
+static void refused_descriptions(const uint8_t *table)
+{
+    struct sailgarnet_resource resource;
+    struct sailgarnet_device device;
+
+    lend(table, FULL_TABLE);
+    in.devices_len--;
+    measure(DESCRIBE, "room", 9);
+    measure(WRITE, "last device cut short", 5);
+    in.devices_len++;
+    device = sailgarnet_device_read(in.devices, FULL - 1);
+    device.ps = 1;
+    sailgarnet_device_write(in.devices, FULL - 1, &device);
+    measure(WRITE, "objects, last device", 6);
+    resource = sailgarnet_resource_read(in.resources, FULL - 1);
+    resource.systemlevel = 5;
+    sailgarnet_resource_write(in.resources, FULL - 1, &resource);
+    measure(WRITE, "last resource", 4);
+    in.written_len--;
+    measure(WRITE, "room", 9);
+    in.resources_len++;
+    measure(WRITE, "33 resources", 2);
+    in.version = 2;
+    measure(WRITE, "version", 1);
 }
 
 /* The measurement itself: a buffer of 3000 bytes must be seen, and not much more. */
 static void control(void)
 {
-    size_t bytes = used(run_large);
+    size_t bytes = used(LARGE);
 
     if (bytes < 3000 || bytes > 3000 + 256) {
         printf("FAILED: a function with a buffer of 3000 bytes was measured as %zu\n", bytes);
@@ -250,6 +346,7 @@ int main(void)
     full_table(table);
     refused_tables_and_states(table);
     refused_requests_and_lists(table);
+    refused_descriptions(table);
     control();
     return failures != 0;
 }

@@ -3,13 +3,14 @@ use mathlib.Core.Path.{_≡_, refl, sym, ap, _∙_}
 use mathlib.Core.List.{List}
 use Prim.Native.Nat.{ℕ, _+_}
 use borrow.Author.Tests.{ne-eqb}
-use lib.ListN.{getD}
+use lib.ListN.{length, getD}
 use Rattle.rules.specs.declared.Request.{Request}
 use Rattle.rules.specs.declared.Verdict.{Verdict}
 use Rattle.rules.specs.Answers.{numberOf}
 use Rattle.bench.specs.Script.{byteAt, requestAt}
 use Rattle.bench.specs.Cases.{more, added, sizeBy, sizeAfter, tableBy, tableAfter, started, moved, stateBy, stateThen}
-use Rattle.bench.specs.Cases.{tableAnswer, stateAnswer, statusGiven, listAnswer, wordsGiven, recordLength, seenBy, seen}
+use Rattle.bench.specs.Cases.{tableAnswer, stateAnswer, statusGiven, listAnswer, wordsGiven, recordLength}
+use Rattle.bench.specs.Cases.{writeAnswer, describeAnswer, seenBy, seen}
 
 of : {A : Type 0} (f : ℕ → A) (x y : ℕ) → x ≡ y → (n : ℕ) (r : A) → x ≡ n → r ≡ f n → r ≡ f y
 of f x y e n r k h = h ∙ ap f (sym k ∙ e)
@@ -82,11 +83,20 @@ module _ (l : List ℕ) (x : ℕ) (e : x ≡ getD l 0 0) (t whole b : List ℕ) 
   unfolding seenBy
   seen-r k h = of (λ z. seenBy z t whole b l) x _ e 0x52 r k h
 
-  pub not-seen : (x ≡ 0x44 → ⊥) → (x ≡ 0x53 → ⊥) → (x ≡ 0x56 → ⊥) → (x ≡ 0x4c → ⊥) → (x ≡ 0x57 → ⊥) → (x ≡ 0x52 → ⊥) → r ≡ 0
-      → r ≡ seen t whole b l
+  pub seen-m : x ≡ 0x4d → r ≡ writeAnswer whole (length t) l → r ≡ seen t whole b l
   unfolding seenBy
-  not-seen d s v i w o h =
-      h ∙ rw (← e) (rw (ne-eqb _ _ d, ne-eqb _ _ s, ne-eqb _ _ v, ne-eqb _ _ i, ne-eqb _ _ w, ne-eqb _ _ o) refl)
+  seen-m k h = of (λ z. seenBy z t whole b l) x _ e 0x4d r k h
+
+  pub seen-e : x ≡ 0x45 → r ≡ describeAnswer t l → r ≡ seen t whole b l
+  unfolding seenBy
+  seen-e k h = of (λ z. seenBy z t whole b l) x _ e 0x45 r k h
+
+  pub not-seen : (x ≡ 0x44 → ⊥) → (x ≡ 0x53 → ⊥) → (x ≡ 0x56 → ⊥) → (x ≡ 0x4c → ⊥) → (x ≡ 0x57 → ⊥) → (x ≡ 0x52 → ⊥)
+      → (x ≡ 0x4d → ⊥) → (x ≡ 0x45 → ⊥) → r ≡ 0 → r ≡ seen t whole b l
+  unfolding seenBy
+  not-seen d s v i w o m n h =
+      h ∙ rw (← e) (rw (ne-eqb _ _ d, ne-eqb _ _ s, ne-eqb _ _ v, ne-eqb _ _ i) (
+      rw (ne-eqb _ _ w, ne-eqb _ _ o, ne-eqb _ _ m, ne-eqb _ _ n) refl))
 
 pub ruleset letters = (
   size-t,
@@ -105,5 +115,7 @@ pub ruleset letters = (
   seen-l,
   seen-w,
   seen-r,
+  seen-m,
+  seen-e,
   not-seen,
 )

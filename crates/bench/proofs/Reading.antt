@@ -6,8 +6,8 @@ use Prim.Native.Nat.{ℕ, _+_, _*_, _/_, _%_, _-_, _≤_, _<_, min}
 use native.Mathlib.Nat.{mod-lt, mod-le, mod-zero, mul-le-mul}
 use native.Mathlib.Omega.{arith}
 use native.Mathlib.Numerals.{add-one}
-use lib.ListN.{length, getD, set, take, replicate, List·getD-eq-default}
-use lib.Seq.{length-take-le}
+use lib.ListN.{length, getD, set, take, drop, replicate, length-drop, List·getD-eq-default}
+use lib.Seq.{take-all, length-take-le}
 use borrow.Author.Tests.{eq-eqb, ne-eqb}
 use Rattle.words.specs.Words.{put, byteWords}
 use Rattle.words.proofs.Laws.{byte-words-length}
@@ -17,7 +17,8 @@ use Rattle.rules.specs.declared.Verdict.{Verdict}
 use Rattle.rules.specs.Index.{leastFrom}
 use Rattle.rules.specs.Outcomes.{checkWords}
 use Rattle.rules.proofs.Index.{starts, found, next, done}
-use Rattle.sailgarnet.specs.Packed.{asked}
+use Rattle.rules.specs.Write.{write}
+use Rattle.sailgarnet.specs.Packed.{packed, asked}
 use Rattle.bench.specs.Cases.{more, added, listLength, listBytes, wordsGiven}
 use Rattle.bench.specs.Script.{endsAt, digitOf, byteAt, numberAt, requestAt, filled}
 
@@ -85,12 +86,12 @@ turn-none i p e = rw e (sym (mod-zero i))
 pub turn-small : (i p : ℕ) → i % p ≤ i
 turn-small i p = mod-le i p
 
-pub product-fits : (t p : ℕ) → t < 256 → p ≤ 40 → t * p < 0x1_0000_0000_0000_0000
-product-fits t p h k = let q : t * p ≤ 256 * 40 = mul-le-mul {n₁ = t} {m₁ = p} {n₂ = 256} {m₂ = 40} (omega arith) k in omega (arith, q)
+pub product-fits : (t p : ℕ) → t < 256 → p ≤ 54 → t * p < 0x1_0000_0000_0000_0000
+product-fits t p h k = let q : t * p ≤ 256 * 54 = mul-le-mul {n₁ = t} {m₁ = p} {n₂ = 256} {m₂ = 54} (omega arith) k in omega (arith, q)
 
 -- ---- `+`, and q, p, t and n as it works them out
-module _ (l b : List ℕ) (size q p t n : ℕ) (e : q ≡ length l / 3 - 1) (f : p ≡ min q 40) (g : t ≡ byteAt l 0)
-    (h : n ≡ min (t * p) (1328 - size)) where
+module _ (l b : List ℕ) (size q p t n : ℕ) (e : q ≡ length l / 3 - 1) (f : p ≡ min q 54) (g : t ≡ byteAt l 0)
+    (h : n ≡ min (t * p) (1782 - size)) where
   pub added-size : size + n ≡ size + more size l
   added-size = rw (h, f, g, e) refl
 
@@ -111,6 +112,13 @@ module _ (t : List ℕ) (i n v : ℕ) (inv : leastFrom (endsAt t) i (n - i) ≡ 
 pub part-long : (n m : ℕ) (l : List ℕ) → length l ≡ m → n ≤ m → n ≡ length (take n l)
 part-long n m l e h = sym (length-take-le n l (omega arith))
 
+-- ---- `M`: the devices are the rest of the lists
+pub rest-is :
+    (version end r : ℕ) (lists table : List ℕ) →
+    r ≡ packed (write version (take end lists) (take (length lists - end) (drop end lists)) table .verdict) →
+    r ≡ packed (write version (take end lists) (drop end lists) table .verdict)
+rest-is version end r lists table e = rw (take-all (length lists - end) (drop end lists) (omega (arith, length-drop end lists))) at e
+
 -- ---- `W`, and the n bytes that it makes words of
 pub words-fit : (n m : ℕ) (l : List ℕ) → length l ≡ m → n ≤ m → 4 * (n / 4) ≤ length (take n l)
 words-fit n m l e h = omega (arith, part-long n m l e h)
@@ -118,7 +126,7 @@ words-fit n m l e h = omega (arith, part-long n m l e h)
 pub words-are :
     (t b l list d ws : List ℕ) (n : ℕ) (q : Request) (v : Verdict) →
     n ≡ listLength l →
-    list ≡ listBytes (replicate 1328 0) l →
+    list ≡ listBytes (replicate 1782 0) l →
     ws ≡ put d 0 (byteWords (n / 4) (take n list)) →
     q ≡ requestAt l 4096 →
     v ≡ checkWords t b q (take (n / 4) ws) →

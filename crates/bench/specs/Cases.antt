@@ -3,24 +3,25 @@ use Prim.Native.Nat.{ℕ, _+_, _*_, _/_, _-_, min}
 use mathlib.Core.Bool.{cond}
 use mathlib.Core.List.{List, []}
 use lib.Dec.{eqb}
-use lib.ListN.{length, take, replicate, getD, set}
+use lib.ListN.{length, take, drop, replicate, getD, set}
 use Rattle.words.specs.Words.{byteWords}
 use Rattle.rules.specs.declared.Request.{Request}
 use Rattle.rules.specs.declared.Verdict.{Verdict}
 use Rattle.rules.specs.Answers.{numberOf}
 use Rattle.rules.specs.Rows.{blank}
 use Rattle.rules.specs.Outcomes.{fresh, planBytes, checkWords, checkBytes, tableAndStateVerdict, recordPart}
+use Rattle.rules.specs.Write.{write, describe}
 use Rattle.sailgarnet.specs.Packed.{packed}
-use Rattle.bench.specs.Script.{byteAt, requestAt, filled}
+use Rattle.bench.specs.Script.{byteAt, numberAt, requestAt, filled}
 
--- ---- T and +: a table, the first bytes of 1328
+-- ---- T and +: a table, or the two lists of records that one is written from, the first bytes of 1782
 
--- the bytes of the line past its first, 40 at most; as many of them as there is room for
+-- the bytes of the line past its first, 54 at most; as many of them as there is room for
 abbrev pub period : List ℕ → ℕ
-period l = min (length l / 3 - 1) 40
+period l = min (length l / 3 - 1) 54
 
 abbrev pub more : ℕ → List ℕ → ℕ
-more size l = min (byteAt l 0 * period l) (1328 - size)
+more size l = min (byteAt l 0 * period l) (1782 - size)
 
 abbrev pub added : ℕ → List ℕ → List ℕ → List ℕ
 added size l b = filled b size l 1 (period l) (more size l)
@@ -55,10 +56,14 @@ stateBy letter t b l =
 abbrev pub stateThen : List ℕ → List ℕ → List ℕ → List ℕ
 stateThen t b l = stateBy (getD l 0 0) t b l
 
--- ---- D, S, V, L, W and R: answers
+-- ---- D, S, V, L, W, R, M and E: answers
+
+-- the table with one byte changed: the line has a place, and what is then there
+abbrev pub damagedTable : List ℕ → List ℕ → List ℕ
+damagedTable b l = set b (byteAt l 1) (byteAt l 2)
 
 abbrev pub tableAnswer : List ℕ → List ℕ → ℕ
-tableAnswer whole l = packed (fresh (take (byteAt l 0) (set whole (byteAt l 1) (byteAt l 2))) (take (byteAt l 3) (blank 255)) .verdict)
+tableAnswer whole l = packed (fresh (take (byteAt l 0) (damagedTable whole l)) (take (byteAt l 3) (blank 255)) .verdict)
 
 -- the state with one byte changed, and its first bytes: the line has from byte `from` on how many, a place, and what is then there
 abbrev pub damagedState : List ℕ → List ℕ → ℕ → List ℕ
@@ -73,15 +78,15 @@ stateAnswer t b l = packed (checkBytes t (stateGiven b l 4) (requestAt l 4096) [
 abbrev pub statusGiven : List ℕ → List ℕ → List ℕ → Verdict
 statusGiven t b l = tableAndStateVerdict t (stateGiven b l 0)
 
--- the bytes of a line past the request, 1328 at most
+-- the bytes of a line past the request, 1782 at most
 abbrev pub listLength : List ℕ → ℕ
-listLength l = min (length l / 3 - 4) 1328
+listLength l = min (length l / 3 - 4) 1782
 
 abbrev pub listBytes : List ℕ → List ℕ → List ℕ
 listBytes b l = filled b 0 l 4 0 (listLength l)
 
 abbrev pub listGiven : List ℕ → List ℕ
-listGiven l = take (listLength l) (listBytes (replicate 1328 0) l)
+listGiven l = take (listLength l) (listBytes (replicate 1782 0) l)
 
 abbrev pub listAnswer : List ℕ → List ℕ → List ℕ → ℕ
 listAnswer t b l = packed (checkBytes t b (requestAt l 4096) (listGiven l))
@@ -93,13 +98,25 @@ wordsGiven t b l = checkWords t b (requestAt l 4096) (byteWords (listLength l / 
 abbrev pub recordLength : List ℕ → List ℕ → ℕ
 recordLength t l = length (recordPart t (byteAt l 0))
 
+-- a table from resources, and devices past them, which end at `size`
+abbrev pub writeAnswer : List ℕ → ℕ → List ℕ → ℕ
+writeAnswer whole size l =
+    let end = min (byteAt l 0) size in
+    let lists = take size (damagedTable whole l) in
+    packed (write (numberAt l 4 5) (take end lists) (drop end lists) (take (byteAt l 3) (blank 255)) .verdict)
+
+abbrev pub describeAnswer : List ℕ → List ℕ → ℕ
+describeAnswer t l = packed (describe t (take (byteAt l 0) (blank 255)) (take (byteAt l 1) (blank 255)) .verdict)
+
 unfoldable pub seenBy : ℕ → List ℕ → List ℕ → List ℕ → List ℕ → ℕ
 seenBy letter t whole b l =
     cond (eqb letter 0x44) (tableAnswer whole l)
     (cond (eqb letter 0x53) (stateAnswer t b l)
     (cond (eqb letter 0x56) (numberOf (statusGiven t b l))
     (cond (eqb letter 0x4c) (listAnswer t b l)
-    (cond (eqb letter 0x57) (numberOf (wordsGiven t b l)) (cond (eqb letter 0x52) (recordLength t l) 0)))))
+    (cond (eqb letter 0x57) (numberOf (wordsGiven t b l))
+    (cond (eqb letter 0x52) (recordLength t l)
+    (cond (eqb letter 0x4d) (writeAnswer whole (length t) l) (cond (eqb letter 0x45) (describeAnswer t l) 0)))))))
 
 abbrev pub seen : List ℕ → List ℕ → List ℕ → List ℕ → ℕ
 seen t whole b l = seenBy (getD l 0 0) t whole b l

@@ -1,8 +1,11 @@
 // The lines that look at the table and the state, and change neither.
+use crate::descriptions;
 use crate::print;
 use crate::script;
 use crate::states;
 use crate::states::Image;
+use crate::tables;
+use crate::tables::Whole;
 use rules::Verdict;
 ghost use mathlib.Core.Path.{_≡_};
 ghost use Prim.Native.Nat.{_≤_};
@@ -11,16 +14,14 @@ ghost use Rattle.bench.specs.Cases.{tableAnswer, stateAnswer, listAnswer
 ghost use Rattle.bench.specs.Cases.{damagedState, statusGiven, listLength, listBytes, wordsGiven};
 
 // `D`: the table's first bytes, with one of them changed, and a fresh state in as many bytes as the line says last.
-fn damaged_table(table: [u8; 1328], line: &[u8]) -> u64
-    requires { ⌜ length table ≡ 1328 ⌝ }
+fn damaged_table(table: Whole, line: &[u8]) -> u64
+    requires { ⌜ length table ≡ 1782 ⌝ }
     ensures { λ r. ⌜ r ≡ tableAnswer table (now (line .entry)) ⌝ }
 {
-    let mut bytes = table;
+    let bytes = tables::changed(table, line);
     let mut state = [0xa5u8; 255];
     let n = script::size(line, 0);
     let room = script::size(line, 3);
-    let at = script::size(line, 1);
-    bytes[at] = script::byte(line, 2);
     states::fresh(&bytes[..n], &mut state[..room])
 }
 
@@ -57,11 +58,11 @@ fn status_verdict(table: &[u8], state: Image, line: &[u8]) -> Verdict
 
 // Stores the bytes of a line past the request, as many as there is room for, and answers how many.
 fn store_list(list: &mut [u8], line: &[u8]) -> usize
-    requires { ⌜ length (now list) ≡ 1328 ⌝ }
-    ensures { λ r. ⌜ (r ≡ listLength (now (line .entry))) × (r ≤ 1328) ⌝ }
+    requires { ⌜ length (now list) ≡ 1782 ⌝ }
+    ensures { λ r. ⌜ (r ≡ listLength (now (line .entry))) × (r ≤ 1782) ⌝ }
     ensures list { λ _. ⌜ now (list .exit) ≡ listBytes (now (list .entry)) (now (line .entry)) ⌝ }
 {
-    let n = script::within(script::past(line.len() / 3, 4), 1328);
+    let n = script::within(script::past(line.len() / 3, 4), 1782);
     script::fill(list, 0, line, 4, 0, n);
     n
 }
@@ -70,7 +71,7 @@ fn store_list(list: &mut [u8], line: &[u8]) -> usize
 fn list(table: &[u8], state: &[u8], line: &[u8]) -> u64
     ensures { λ r. ⌜ r ≡ listAnswer (now (table .entry)) (now (state .entry)) (now (line .entry)) ⌝ }
 {
-    let mut list = [0u8; 1328];
+    let mut list = [0u8; 1782];
     let n = store_list(&mut list, line);
     states::check(table, state, script::request(line, 4096), &list[..n])
 }
@@ -79,10 +80,10 @@ fn list(table: &[u8], state: &[u8], line: &[u8]) -> u64
 fn words_verdict(table: &[u8], state: &[u8], line: &[u8]) -> Verdict
     ensures { λ r. ⌜ r ≡ wordsGiven (now (table .entry)) (now (state .entry)) (now (line .entry)) ⌝ }
 {
-    let mut list = [0u8; 1328];
+    let mut list = [0u8; 1782];
     let size = store_list(&mut list, line);
     let n = size / 4;
-    let mut calls = [0u32; 332];
+    let mut calls = [0u32; 445];
     words::read_words(&list[..size], n, &mut calls);
     checker::check::check_words(table, state, script::request(line, 4096), &calls[..n])
 }
@@ -95,8 +96,8 @@ fn record(table: &[u8], line: &[u8]) -> usize
 }
 
 // What such a line answers. `whole` has the table, and the room past it.
-pub fn look(table: &[u8], whole: [u8; 1328], state: Image, line: &[u8]) -> u64
-    requires { ⌜ (length whole ≡ 1328) × (length state ≡ 132) ⌝ }
+pub fn look(table: &[u8], whole: Whole, state: Image, line: &[u8]) -> u64
+    requires { ⌜ (length whole ≡ 1782) × (length (now table) ≤ 1782) × (length state ≡ 132) ⌝ }
     ensures { λ r. ⌜ r ≡ seen (now (table .entry)) whole state (now (line .entry)) ⌝ }
 {
     match script::letter(line, 0) {
@@ -106,6 +107,8 @@ pub fn look(table: &[u8], whole: [u8; 1328], state: Image, line: &[u8]) -> u64
         b'L' => list(table, &state, line),
         b'W' => print::verdict(words_verdict(table, &state, line)),
         b'R' => record(table, line) as u64,
+        b'M' => descriptions::write(whole, table.len(), line),
+        b'E' => descriptions::describe(table, line),
         _ => 0,
     }
 }

@@ -1,5 +1,6 @@
 // Runs the cases of the file `stdin`, a line each, through the exported functions and some below them. It prints each line as it stands,
 // and after it what was answered.
+mod descriptions;
 mod looks;
 mod print;
 mod script;
@@ -9,7 +10,7 @@ mod tables;
 fn main() {
     let mut text = io::large_buffer();
     let n = io::read_full(libc::STDIN_FILENO, &mut text);
-    let mut table = [0u8; 1328];
+    let mut table = [0u8; 1782];
     let mut size = 0;
     let mut state = [0u8; 132];
     let mut at = 0;

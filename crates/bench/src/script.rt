@@ -78,8 +78,8 @@ pub fn size(line: &[u8], i: usize) -> usize
     words::wide(byte(line, i)) as usize
 }
 
-// A number of a request: a byte, and its highest byte, which a line that has no such byte leaves zero.
-fn number(line: &[u8], at: usize, high: usize) -> u32
+// A number of 32 bits: a byte, and its highest byte, which a line that has no such byte leaves zero.
+pub fn number(line: &[u8], at: usize, high: usize) -> u32
     requires { ⌜ (at ≤ 4099) × (high ≤ 4099) ⌝ }
     ensures { λ r. ⌜ r ≡ numberAt (now (line .entry)) at high ⌝ }
 {
@@ -110,7 +110,7 @@ fn turn(i: usize, period: usize) -> usize
 
 // Sets n bytes from `at` on to those of a line that start at byte `from`, again after each period.
 pub fn fill(bytes: &mut [u8], at: usize, line: &[u8], from: usize, period: usize, n: usize)
-    requires { ⌜ (from ≤ 64) × (at + n ≤ length (now bytes)) × (length (now bytes) ≡ 1328) ⌝ }
+    requires { ⌜ (from ≤ 64) × (at + n ≤ length (now bytes)) × (length (now bytes) ≡ 1782) ⌝ }
     ensures { λ _. ⌜ now (bytes .exit) ≡ filled (now (bytes .entry)) at (now (line .entry)) from period n ⌝ }
 {
     let mut i = 0;

@@ -1,9 +1,11 @@
--- How large an answer can be: its place is below 8w, for it is a resource or a device, and the checks themselves count nothing.
+-- How large an answer can be: its place is below 8w, for it is a resource or a device, and the checks themselves count nothing, so that a
+-- count is at most what a done answer counts.
 use mathlib.Core.Path.{_≡_, refl, sym, _∙_}
 use mathlib.Core.Bool.{Bool, true, false, true≢false}
 use mathlib.Core.List.{List, [], _∷_}
 use mathlib.Core.Logic.{⊎-elim}
-use Prim.Native.Nat.{ℕ, _≤_, _<_}
+use Prim.Native.Nat.{ℕ, _+_, _*_, _≤_, _<_}
+use native.Mathlib.Nat.{mul-le-mul-left}
 use native.Mathlib.Omega.{arith}
 use borrow.Author.Tests.{ltb-true, ltb-false, leb-true}
 use lib.Dec.{ltb}
@@ -17,12 +19,14 @@ use Rattle.rules.specs.declared.Reason.{Reason}
 use Rattle.rules.specs.declared.Reason.the-variants.{BadResource, Inconsistent, ParentDeeper, ChildShallower}
 use Rattle.rules.specs.Index.{least}
 use Rattle.rules.specs.Answers.{placeOf, countOf, passes, firstOf, unless, lowest}
-use Rattle.rules.specs.Station.{Station, width, limit, countR, countD, stationOf, station}
-use Rattle.rules.specs.Table.{countsGood, parentGood, deviceRefusal, tableVerdict}
+use Rattle.rules.specs.Station.{Station, versionWidth, width, limit, recordSize, tableSize, countR, countD, stationOf, station}
+use Rattle.rules.specs.Table.{countsGood, parentGood, fieldsGood, fieldsOrObjects, tableVerdict}
+use Rattle.rules.specs.Describe.{describedSize, describedR, describedD}
+use Rattle.rules.specs.Write.{describedFieldsGood, recordsVerdict, describedCountsGood, writeVerdict, describeVerdict}
 use Rattle.rules.specs.Status.{status, parentAllows, consistencyVerdict, stateVerdict}
 use Rattle.rules.specs.Request.{isMove, isArm, moveVerdict, armVerdict, kindVerdict, requestVerdict}
-use Rattle.rules.specs.Outcomes.{requestStage, freshVerdict, planRoom, stagesVerdict, planned, planVerdict, checkBytes}
-use Rattle.rules.proofs.Width.{width-wide}
+use Rattle.rules.specs.Outcomes.{requestStage, freshVerdict, stagesVerdict, planned, planVerdict, checkBytes}
+use Rattle.rules.proofs.Width.{version-wide, width-wide}
 use Rattle.rules.proofs.Answers.{first-pass, first-stop, first-none, unless-of, unless-stop, unless-at, lowest-stop, lowest-none}
 use Rattle.laws.proofs.Tests.{both-true, or-cases, or-left}
 use Rattle.laws.proofs.Accepted.{accepted}
@@ -50,29 +54,41 @@ module _ (P : Verdict → Type 0) where
       (λ e. rw (lowest-none bad n (least bad n) refusal refl (ltb-false (least bad n) n e)) p)
 
 -- ---- the bound
-pub record Bounded (w : ℕ) (v : Verdict) : Type 0 where
+pub record Bounded (w most : ℕ) (v : Verdict) : Type 0 where
   pub place : placeOf v < limit w
-  pub count : countOf v ≤ planRoom w
+  pub count : countOf v ≤ most
 
-module _ (w : ℕ) (h : 4 ≤ w) where
-  done : Bounded w (Done 0)
+module _ (w most : ℕ) (h : 4 ≤ w) where
+  done : Bounded w most (Done 0)
   done = record { place = omega arith; count = omega arith }
 
-  refused : (why : Reason) (n i : ℕ) → n ≤ limit w → i < n → Bounded w (Refused why i)
+  refused : (why : Reason) (n i : ℕ) → n ≤ limit w → i < n → Bounded w most (Refused why i)
   refused why n i l u = record { place = omega arith; count = omega arith }
 
   -- a check whose refusal has no place, and the checks after it
   next : (good : Bool) (why : Reason) (vs : List Verdict) (last : Verdict) → (passes (unless good why 0) ≡ true
-      → Bounded w (firstOf vs last))
-      → Bounded w (firstOf (unless good why 0 ∷ vs) last)
+      → Bounded w most (firstOf vs last))
+      → Bounded w most (firstOf (unless good why 0 ∷ vs) last)
   next good why vs last rest =
-      chain-holds (Bounded w) (unless good why 0) vs last (unless-holds (Bounded w) good why 0 done
+      chain-holds (Bounded w most) (unless good why 0) vs last (unless-holds (Bounded w most) good why 0 done
       (λ _. refused why 1 0 (omega arith) (omega arith))) rest
+
+  -- 4 to 6: a resource or a device, of which there are at most 8w
+  records : (bad worse fields : ℕ → Bool) (resources devices : ℕ) → resources ≤ limit w → devices ≤ limit w
+      → Bounded w most (firstOf (lowest bad resources (Refused BadResource) ∷ lowest worse devices (λ d. fieldsOrObjects (fields d) d) ∷ [])
+      (Done 0))
+  unfolding fieldsOrObjects
+  records bad worse fields resources devices many more =
+      chain-holds (Bounded w most) _ _ _ (lowest-holds (Bounded w most) bad resources (Refused BadResource) done
+      (λ i u. refused BadResource resources i many u))
+      (λ _. chain-holds (Bounded w most) _ _ _ (lowest-holds (Bounded w most) worse devices (λ d. fieldsOrObjects (fields d) d) done
+      (λ i u. refused _ devices i more u))
+      (λ _. last-holds (Bounded w most) (Done 0) done))
 
   module _ (s : Station) (few : s .devices ≤ limit w) (rules : StationRules s) (entries : ℕ → Entry) where
     -- 13: a parent that bars the move is there, so it is lower than its child
     parent-bounded : (d x : ℕ) → d < s .devices → parentAllows s entries d x ≡ false
-        → Bounded w (Refused ParentDeeper (s .device d .parent))
+        → Bounded w most (Refused ParentDeeper (s .device d .parent))
     unfolding parentAllows parentGood
     parent-bounded d x u e =
         ⊎-elim
@@ -81,90 +97,121 @@ module _ (w : ℕ) (h : 4 ≤ w) where
         (λ a. absurd (true≢false (sym (or-left _ _ a) ∙ e)))
         (or-cases _ _ (rules .parents d u))
 
-    move-bounded : (d x : ℕ) → d < s .devices → Bounded w (moveVerdict s entries d x)
+    move-bounded : (d x : ℕ) → d < s .devices → Bounded w most (moveVerdict s entries d x)
     unfolding moveVerdict
     move-bounded d x u =
         next _ _ _ _
         (λ _. next _ _ _ _
-        (λ _. chain-holds (Bounded w) _ _ _ (unless-holds (Bounded w) _ ParentDeeper (s .device d .parent) done (parent-bounded d x u))
-        (λ _. chain-holds (Bounded w) _ _ _ (lowest-holds (Bounded w) _ (s .devices) (Refused ChildShallower) done
+        (λ _. chain-holds (Bounded w most) _ _ _
+        (unless-holds (Bounded w most) _ ParentDeeper (s .device d .parent) done (parent-bounded d x u))
+        (λ _. chain-holds (Bounded w most) _ _ _ (lowest-holds (Bounded w most) _ (s .devices) (Refused ChildShallower) done
         (λ i v. refused ChildShallower (s .devices) i few v))
-        (λ _. next _ _ _ _ (λ _. last-holds (Bounded w) (Done 0) done)))))
+        (λ _. next _ _ _ _ (λ _. last-holds (Bounded w most) (Done 0) done)))))
 
-    arm-bounded : (d x y : ℕ) → Bounded w (armVerdict s entries d x y)
+    arm-bounded : (d x y : ℕ) → Bounded w most (armVerdict s entries d x y)
     unfolding armVerdict
-    arm-bounded d x y = next _ _ _ _ (λ _. next _ _ _ _ (λ _. next _ _ _ _ (λ _. last-holds (Bounded w) (Done 0) done)))
+    arm-bounded d x y = next _ _ _ _ (λ _. next _ _ _ _ (λ _. next _ _ _ _ (λ _. last-holds (Bounded w most) (Done 0) done)))
 
     -- 10 to 18
-    pub request-bounded : (q : Request) → Bounded w (requestVerdict s entries q)
+    pub request-bounded : (q : Request) → Bounded w most (requestVerdict s entries q)
     unfolding requestVerdict kindVerdict
     request-bounded q =
         next _ _ _ _
         (λ e.
         let u = form-device s q (unless-at _ _ _ e) in
-        chain-holds (Bounded w) _ _ _
+        chain-holds (Bounded w most) _ _ _
         (decide (isMove q) (λ m. rw m (move-bounded (q .device) (q .a) u))
         (λ m. decide (isArm q) (λ a. rw (m, a) (arm-bounded (q .device) (q .a) (q .b))) (λ a. rw (m, a) done)))
-        (λ _. last-holds (Bounded w) (Done 0) done))
+        (λ _. last-holds (Bounded w most) (Done 0) done))
 
 -- ---- a table's answers, at its own width
-module _ (t : List ℕ) where
+module _ (t : List ℕ) (most : ℕ) where
   low : 4 ≤ width t
   low = width-wide t .low
 
   -- 1 to 6
-  pub table-bounded : Bounded (width t) (tableVerdict t)
-  unfolding tableVerdict countsGood deviceRefusal
+  pub table-bounded : Bounded (width t) most (tableVerdict t)
+  unfolding tableVerdict countsGood
   table-bounded =
-      next _ low _ _ _ _
-      (λ _. next _ low _ _ _ _
+      next _ _ low _ _ _ _
+      (λ _. next _ _ low _ _ _ _
       (λ e.
       let counts = both-true _ _ (unless-at _ _ _ e) in
-      let many = leb-true (countR t) (limit (width t)) (counts .0) in
-      let more = leb-true (countD t) (limit (width t)) (counts .1) in
-      next _ low _ _ _ _
-      (λ _. chain-holds (Bounded (width t)) _ _ _ (lowest-holds (Bounded (width t)) _ (countR t) (Refused BadResource) (done _ low)
-      (λ i u. refused _ low BadResource (countR t) i many u))
-      (λ _. chain-holds (Bounded (width t)) _ _ _ (lowest-holds (Bounded (width t)) _ (countD t) (deviceRefusal t) (done _ low)
-      (λ i u. refused _ low _ (countD t) i more u))
-      (λ _. last-holds (Bounded (width t)) (Done 0) (done _ low))))))
+      next _ _ low _ _ _ _
+      (λ _. records _ _ low _ _ (fieldsGood t) (countR t) (countD t) (leb-true _ _ (counts .0)) (leb-true _ _ (counts .1)))))
 
-  pub fresh-bounded : (b : List ℕ) → Bounded (width t) (freshVerdict t b)
+  pub fresh-bounded : (b : List ℕ) → Bounded (width t) most (freshVerdict t b)
   unfolding freshVerdict
-  fresh-bounded b = chain-holds (Bounded (width t)) _ _ _ table-bounded
-      (λ _. next _ low _ _ _ _ (λ _. last-holds (Bounded (width t)) (Done 0) (done _ low)))
+  fresh-bounded b = chain-holds (Bounded (width t) most) _ _ _ table-bounded
+      (λ _. next _ _ low _ _ _ _ (λ _. last-holds (Bounded (width t) most) (Done 0) (done _ _ low)))
 
   -- 7 and 8
-  state-bounded : (b : List ℕ) → station t .devices ≤ limit (width t) → Bounded (width t) (stateVerdict t b)
+  state-bounded : (b : List ℕ) → station t .devices ≤ limit (width t) → Bounded (width t) most (stateVerdict t b)
   unfolding stateVerdict consistencyVerdict
   state-bounded b few =
-      next _ low _ _ _ _
-      (λ _. chain-holds (Bounded (width t)) _ _ _ (lowest-holds (Bounded (width t)) _ (station t .devices) (Refused Inconsistent)
-      (done _ low) (λ i u. refused _ low Inconsistent (station t .devices) i few u))
-      (λ _. last-holds (Bounded (width t)) (Done 0) (done _ low)))
+      next _ _ low _ _ _ _
+      (λ _. chain-holds (Bounded (width t) most) _ _ _ (lowest-holds (Bounded (width t) most) _ (station t .devices) (Refused Inconsistent)
+      (done _ _ low) (λ i u. refused _ _ low Inconsistent (station t .devices) i few u))
+      (λ _. last-holds (Bounded (width t) most) (Done 0) (done _ _ low)))
 
   module _ (b : List ℕ) (q : Request) where
-    pub stages-bounded : (room : Bool) → Bounded (width t) (stagesVerdict room t b q)
+    pub stages-bounded : (room : Bool) → Bounded (width t) most (stagesVerdict room t b q)
     unfolding stagesVerdict requestStage
     stages-bounded room =
-        chain-holds (Bounded (width t)) _ _ _ table-bounded
+        chain-holds (Bounded (width t) most) _ _ _ table-bounded
         (λ e.
         let a = accepted t e in
         let few : station t .devices ≤ limit (width t) = unfold stationOf in a .devices in
-        chain-holds (Bounded (width t)) _ _ _ (state-bounded b few)
-        (λ _. next _ low _ _ _ _
-        (λ _. chain-holds (Bounded (width t)) _ _ _ (request-bounded _ low (station t) few (station-rules t a) (status t b .entries) q)
-        (λ _. last-holds (Bounded (width t)) (Done 0) (done _ low)))))
+        chain-holds (Bounded (width t) most) _ _ _ (state-bounded b few)
+        (λ _. next _ _ low _ _ _ _
+        (λ _. chain-holds (Bounded (width t) most) _ _ _
+        (request-bounded _ _ low (station t) few (station-rules t a) (status t b .entries) q)
+        (λ _. last-holds (Bounded (width t) most) (Done 0) (done _ _ low)))))
 
-    pub plan-bounded : (room : Bool) → (Stages t b q → length (planned t b q) ≤ planRoom (width t))
-        → Bounded (width t) (planVerdict room t b q)
+    pub plan-bounded : (room : Bool) → (Stages t b q → length (planned t b q) ≤ most)
+        → Bounded (width t) most (planVerdict room t b q)
     unfolding planVerdict
     plan-bounded room short =
-        chain-holds (Bounded (width t)) _ _ _ (stages-bounded room)
-        (λ e. last-holds (Bounded (width t)) _ (record { place = omega (arith, low); count = short (stages-of room t b q e) }))
+        chain-holds (Bounded (width t) most) _ _ _ (stages-bounded room)
+        (λ e. last-holds (Bounded (width t) most) _ (record { place = omega (arith, low); count = short (stages-of room t b q e) }))
 
-    pub check-bounded : (list : List ℕ) → Bounded (width t) (checkBytes t b q list)
+    pub check-bounded : (list : List ℕ) → Bounded (width t) most (checkBytes t b q list)
     unfolding checkBytes
     check-bounded list =
-        chain-holds (Bounded (width t)) _ _ _ (stages-bounded true)
-        (λ _. next _ low _ _ _ _ (λ _. last-holds (Bounded (width t)) (Done 0) (done _ low)))
+        chain-holds (Bounded (width t) most) _ _ _ (stages-bounded true)
+        (λ _. next _ _ low _ _ _ _ (λ _. last-holds (Bounded (width t) most) (Done 0) (done _ _ low)))
+
+-- ---- 11: the bytes of the largest table of a width, and of the lists that it describes
+abbrev pub mostWritten : ℕ → ℕ
+mostWritten w = tableSize w (limit w) (limit w)
+
+abbrev pub mostDescribed : ℕ → ℕ
+mostDescribed w = 4 * limit w + describedSize * limit w
+
+pub write-bounded : (version : ℕ) (rs ds : List ℕ) (room : ℕ)
+    → Bounded (versionWidth version) (mostWritten (versionWidth version)) (writeVerdict version rs ds room)
+unfolding writeVerdict describedCountsGood recordsVerdict
+write-bounded version rs ds room =
+    let w = versionWidth version in
+    let wide = version-wide version .low in
+    next w _ wide _ _ _ _
+    (λ _. next w _ wide _ _ _ _
+    (λ e.
+    let counts = both-true _ _ (unless-at _ _ _ e) in
+    let many = leb-true (describedR rs) (limit w) (counts .0) in
+    let more = leb-true (describedD ds) (limit w) (counts .1) in
+    next w _ wide _ _ _ _
+    (λ _. chain-holds (Bounded w (mostWritten w)) _ _ _
+    (records w _ wide _ _ (describedFieldsGood (describedR rs) ds) (describedR rs) (describedD ds) many more)
+    (λ _. last-holds (Bounded w (mostWritten w)) _
+    (record { place = omega arith; count = omega (arith, mul-le-mul-left (recordSize w) more) })))))
+
+pub describe-bounded : (t : List ℕ) (roomR roomD : ℕ) → Bounded (width t) (mostDescribed (width t)) (describeVerdict t roomR roomD)
+unfolding describeVerdict
+describe-bounded t roomR roomD =
+    let w = width t in
+    let wide = width-wide t .low in
+    chain-holds (Bounded w (mostDescribed w)) _ _ _ (table-bounded t (mostDescribed w))
+    (λ e.
+    let a = accepted t e in
+    next w _ wide _ _ _ _ (λ _. last-holds (Bounded w (mostDescribed w)) _ (record { place = omega arith; count = omega arith })))

@@ -9,20 +9,19 @@ use lib.Pow.{pow-mono}
 use native.Mathlib.Omega.{arith}
 use borrow.Author.Tests.{ltb-true, ltb-false, ne-eqb}
 use lib.Dec.{eqb, ltb}
-use lib.ListN.{length, getD, take, drop, length-append, length-take, length-drop, take-append-drop, List·getD-eq-default}
+use lib.ListN.{length, getD, take, drop, replicate, length-append, length-take, length-drop, length-replicate, take-append-drop}
+use lib.ListN.{List·getD-eq-default}
 use lib.Seq.{length-take-le, getD-take, getD-drop}
 use Rattle.sets.proofs.Laws.{decide}
 use Rattle.words.specs.Words.{readLE, bytesLE}
 use Rattle.words.proofs.Laws.{read-drop, read-append, read-lt, bytes-length, read-bytes-at, bytes-read}
 use Rattle.rules.specs.Index.{below, eachFrom, each, joinFrom, join}
-use Rattle.rules.specs.Station.{Device, absent, fieldsSize, deviceAt, fieldBytes}
+use Rattle.rules.specs.Station.{Device, absent, recordSize, fieldsSize, zerosSize, deviceAt, fieldBytes}
+use Rattle.rules.specs.Describe.{recordBytes}
 use Rattle.rules.proofs.Index.{below-in, below-out}
+use Rattle.laws.specs.Inverse.{AllBytes}
 use Rattle.laws.proofs.Image.{bytes-bits}
 use Rattle.laws.proofs.Parts.{parts-meet, each-part, join-part, join-same, join-length, join-at, get-each, each-length, get-past}
-
--- every element is a byte
-abbrev pub AllBytes : List ℕ → Type 0
-AllBytes t = (i : ℕ) → getD t i 0 < 256
 
 part-bytes : (t : List ℕ) → AllBytes t → (x n : ℕ) → AllBytes (take n (drop x t))
 part-bytes t h x n i =
@@ -41,7 +40,7 @@ number-part w t h x l =
     rw (← same) (bytes-read w p long (part-bytes t h x w))
 
 -- set k ends before the fields do
-set-inside : (w k : ℕ) → k < 5 → w * k + w ≤ 5 * w
+pub set-inside : (w k : ℕ) → k < 5 → w * k + w ≤ 5 * w
 set-inside w k h =
     let m : w * suc k ≤ w * 5 = mul-le-mul {n₁ = w} {m₁ = suc k} {n₂ = w} {m₂ = 5} (omega arith) (omega arith) in
     omega (arith, m, mul-suc w k)
@@ -120,6 +119,11 @@ fields-long w v =
       each-length (v .sxw) 0 5,
       mul-comm w 5,
     )
+
+pub record-long : (w : ℕ) (v : Device) → length (recordBytes w v) ≡ recordSize w
+unfolding recordBytes
+record-long w v =
+    length-append (fieldBytes w v) (replicate (zerosSize w) 0) ∙ omega (arith, fields-long w v, length-replicate {A = ℕ} (zerosSize w) 0)
 
 -- a device whose numbers outside their ranges stand for nothing, as they do in one that was read, and whose sets fit in w bytes
 pub record FieldsFit (w : ℕ) (v : Device) : Type 0 where
@@ -218,72 +222,22 @@ module _ (w : ℕ) (v : Device) (g : FieldsFit w v) where
       let h = head-back in
       rw (sets, states, limits, deepest-back, h .0, h .1, h .2, h .3) refl
 
--- the fields that were read fit
-pub read-fits : (w : ℕ) (t : List ℕ) (at : ℕ) → AllBytes t → FieldsFit w (deviceAt w t at)
+-- the fields that were read with some width fit where their sets do, since what stands for nothing was read so
+pub read-fits : (w u : ℕ) (t : List ℕ) (at : ℕ) → ((k : ℕ) → k < 5 → deviceAt w t at .sets k < 256 ^ u) → FieldsFit u (deviceAt w t at)
 unfolding deviceAt below
-read-fits w t at h =
-    let number : ℕ → ℕ = λ k. readLE w t (at + 4 + w * k) in
-    let state : ℕ → ℕ = λ x. cond (eqb x 0) absent (getD t (at + 3 + 5 * w + x) 0) in
-    let limit : ℕ → ℕ = λ x. getD t (at + 8 + 5 * w + x) 0 in
+read-fits w u t at h =
     record {
-      sets = λ k l. rw (below-in 5 0 number k l) (read-lt w t (at + 4 + w * k) h);
-      noSet = λ k l. below-out 5 0 number k l;
+      sets = h;
+      noSet = λ k l. below-out 5 0 (λ j. readLE w t (at + 4 + w * j)) k l;
       noS0D = refl;
-      noSxD = λ x l. below-out 5 absent state x l;
-      noSxW = λ x l. below-out 5 absent limit x l;
+      noSxD = λ x l. below-out 5 absent (λ y. cond (eqb y 0) absent (getD t (at + 3 + 5 * w + y) 0)) x l;
+      noSxW = λ x l. below-out 5 absent (λ y. getD t (at + 8 + 5 * w + y) 0) x l;
     }
 
--- where the sets fit in u bytes, a device fits that was read with another width
-pub fit-again : (w u : ℕ) (x : Device) → FieldsFit w x → ((k : ℕ) → k < 5 → x .sets k < 256 ^ u) → FieldsFit u x
-fit-again w u x g h = record { sets = h; noSet = g .noSet; noS0D = g .noS0D; noSxD = g .noSxD; noSxW = g .noSxW }
-
--- wider sets have room for it too
-pub widen : (w u : ℕ) (x : Device) → w ≤ u → FieldsFit w x → FieldsFit u x
-widen w u x h g = fit-again w u x g
-    (λ k l. rw (bytes-bits u) (lt-of-lt-of-le (rw (bytes-bits w) at (g .sets k l)) (pow-mono (omega arith))))
-
--- ---- two places with the same bytes have the same device
-
-read-same : (k : ℕ) (s t : List ℕ) (x y : ℕ) → ((i : ℕ) → i < k → getD s (x + i) 0 ≡ getD t (y + i) 0) → readLE k s x ≡ readLE k t y
-unfolding readLE
-read-same zero s t x y h = refl
-read-same (suc k) s t x y h =
-    let first : getD s x 0 ≡ getD t y 0 = rw (add-zero x, add-zero y) at (h 0 (omega arith)) in
-    let rest = read-same k s t (x + 1) (y + 1)
-    (λ i l.
-    let a : x + 1 + i ≡ x + (i + 1) = omega arith in
-    let b : y + 1 + i ≡ y + (i + 1) = omega arith in
-    rw (a, b) (h (i + 1) (omega arith))) in
-    rw (first, rest) refl
-
-below-same : (n other : ℕ) (f g : ℕ → ℕ) → ((i : ℕ) → i < n → f i ≡ g i) → below n other f ≡ below n other g
-below-same n other f g h =
-    fun-ext (λ i. decide (ltb i n)
-    (λ e. let l = ltb-true i n e in below-in n other f i l ∙ h i l ∙ sym (below-in n other g i l))
-    (λ e. let l = ltb-false i n e in below-out n other f i l ∙ sym (below-out n other g i l)))
-
-module _ (w : ℕ) (s t : List ℕ) (a b : ℕ) (byte : (i : ℕ) → i < fieldsSize w → getD s (a + i) 0 ≡ getD t (b + i) 0) where
-  byte-at : (i x y : ℕ) → x ≡ a + i → y ≡ b + i → i < fieldsSize w → getD s x 0 ≡ getD t y 0
-  byte-at i x y e f h = rw (e, f) (byte i h)
-
-  pub same-device : deviceAt w s a ≡ deviceAt w t b
-  unfolding deviceAt
-  same-device =
-      let sets = below-same 5 0 (λ k. readLE w s (a + 4 + w * k)) (λ k. readLE w t (b + 4 + w * k))
-      (λ k h. read-same w s t (a + 4 + w * k) (b + 4 + w * k)
-      (λ i u. byte-at (4 + w * k + i) _ _ (omega arith) (omega arith) (omega (arith, set-inside w k h)))) in
-      let states = below-same 5 absent (λ x. cond (eqb x 0) absent (getD s (a + 3 + 5 * w + x) 0))
-      (λ x. cond (eqb x 0) absent (getD t (b + 3 + 5 * w + x) 0))
-      (λ x h. ap (cond (eqb x 0) absent) (byte-at (3 + 5 * w + x) _ _ (omega arith) (omega arith) (omega arith))) in
-      let limits = below-same 5 absent (λ x. getD s (a + 8 + 5 * w + x) 0) (λ x. getD t (b + 8 + 5 * w + x) 0)
-      (λ x h. byte-at (8 + 5 * w + x) _ _ (omega arith) (omega arith) (omega arith)) in
-      rw (
-        byte-at 0 a b (omega arith) (omega arith) (omega arith),
-        byte-at 1 (a + 1) (b + 1) refl refl (omega arith),
-        byte-at 2 (a + 2) (b + 2) refl refl (omega arith),
-        byte-at 3 (a + 3) (b + 3) refl refl (omega arith),
-        sets,
-        states,
-        limits,
-        byte-at (13 + 5 * w) (a + 13 + 5 * w) (b + 13 + 5 * w) (omega arith) (omega arith) (omega arith),
-      ) refl
+-- what was read from bytes fits where sets are as wide or wider
+pub wider-fits : (w u : ℕ) (t : List ℕ) (at : ℕ) → AllBytes t → w ≤ u → FieldsFit u (deviceAt w t at)
+unfolding deviceAt
+wider-fits w u t at b h =
+    read-fits w u t at
+    (λ k l. rw (below-in 5 0 (λ j. readLE w t (at + 4 + w * j)) k l, bytes-bits u)
+    (lt-of-lt-of-le (rw (bytes-bits w) at (read-lt w t (at + 4 + w * k) b)) (pow-mono (omega arith))))

@@ -2,9 +2,15 @@ pub mod Tests
 pub mod Every
 pub mod All
 pub mod Parts
+pub mod Joined
 pub mod Fields
+pub mod Same
+pub mod Write
 pub mod Describe
+pub mod Verdict
+pub mod Inverse
 pub mod Execution
+pub mod Good
 pub mod Accepted
 pub mod Needed
 pub mod Image

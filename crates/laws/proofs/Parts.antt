@@ -4,9 +4,9 @@ use mathlib.Core.List.{List, _∷_, _++_, append-assoc}
 use Prim.Native.Nat.{ℕ, zero, suc, _+_, _*_, _-_, _≤_, _<_}
 use native.Mathlib.Nat.{add-assoc, add-comm, add-zero, mul-zero, mul-suc}
 use native.Mathlib.Omega.{arith}
-use lib.ListN.{length, getD, take, drop, replicate, length-append}
+use lib.ListN.{length, getD, take, drop, replicate, length-append, List·getD-append}
 use lib.Seq.{take-add, drop-drop, drop-cons, getD-append-add}
-use Rattle.rules.specs.Index.{eachFrom, joinFrom}
+use Rattle.rules.specs.Index.{eachFrom, joinFrom, join}
 
 -- n elements from x on, and then m more
 pub parts-meet : (t : List ℕ) (x n m : ℕ) → take n (drop x t) ++ take m (drop (x + n) t) ≡ take (n + m) (drop x t)
@@ -83,3 +83,11 @@ each-length f i (suc k) = ap suc (each-length f (suc i) k)
 
 pub get-past : (p q : List ℕ) (n i : ℕ) → length p ≡ n → getD (p ++ q) (n + i) 0 ≡ getD q i 0
 get-past p q n i e = rw (← e) (getD-append-add p q i 0)
+
+-- element i of the list at number d, in the whole that is put together
+pub get-join : (f : ℕ → List ℕ) (n : ℕ) → ((j : ℕ) → length (f j) ≡ n) → (k d i : ℕ) → d < k → i < n
+    → getD (join f k) (n * d + i) 0 ≡ getD (f d) i 0
+get-join f n h k d i l u =
+    let z : 0 + d ≡ d = omega arith in
+    ap (λ (s : List ℕ). getD s (n * d + i) 0) (rw z at (join-at f 0 k d l))
+    ∙ get-past (joinFrom f 0 d) _ (n * d) i (join-length f n h 0 d) ∙ List·getD-append (f d) _ 0 i (omega (arith, h d))

@@ -2,3 +2,4 @@ pub mod Carried
 pub mod Runs
 pub mod Demand2
 pub mod Demand3
+pub mod Inverse

@@ -15,7 +15,7 @@ use Rattle.rules.specs.declared.State.{State}
 use Rattle.rules.specs.declared.Verdict.{Verdict}
 use Rattle.rules.specs.declared.Verdict.the-variants.{Done}
 use Rattle.rules.specs.Answers.{numberOf, countOf, passes}
-use Rattle.rules.specs.Station.{width, station}
+use Rattle.rules.specs.Station.{versionWidth, width, station}
 use Rattle.rules.specs.Status.{Status, status}
 use Rattle.rules.specs.Calls.{turnOn, turnOff, calls, changeOf}
 use Rattle.rules.specs.Outcomes.{Outcome, outcome, planRoom, planned, stagesVerdict, planVerdict, stateAfter, planWords, planBytes}
@@ -65,11 +65,11 @@ plan-written t b q n b′ plan plan′ after s before c m l on i h k w g =
 
 -- ---- what the code asks of its parts
 pub image-132 : (t b : List ℕ) (q : Request) → PermittedRequest t b q → length b ≡ 132
-unfolding width
+unfolding versionWidth width
 image-132 t b q g = g .long
 
 pub device-32 : (t b : List ℕ) (q : Request) → PermittedRequest t b q → q .device < 32
-unfolding width
+unfolding versionWidth width
 device-32 t b q g = omega (arith, g .device, g .ready .sized .devices)
 
 pub sized-table : (t b : List ℕ) (q : Request) → PermittedRequest t b q → WellSized t

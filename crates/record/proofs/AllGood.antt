@@ -3,11 +3,11 @@
 -- Where the code asks another function, that function's answer comes with what it says.
 use mathlib.Core.Path.{_≡_, refl, sym, ap, _∙_}
 use mathlib.Core.Bool.{Bool, true, false, not, _&&_, _||_, and-assoc, and-true, or-true, true≢false}
-use mathlib.Core.List.{List, [], _∷_, _++_}
-use Prim.Native.Nat.{ℕ, zero, suc, _+_, _*_, _%_, _^_, _<_}
+use mathlib.Core.List.{List}
+use Prim.Native.Nat.{ℕ, zero, suc, _+_, _*_, _%_, _^_, _≤_, _<_}
 use native.Mathlib.Nat.{mul-zero, mul-le-mul-right, pow-suc}
 use native.Mathlib.Omega.{arith}
-use borrow.Author.Tests.{eqb-true, eq-eqb, ne-eqb, ltb-true, lt-ltb, not-true, not-false}
+use borrow.Author.Tests.{eqb-true, eq-eqb, ltb-true, lt-ltb, not-true, not-false}
 use lib.Bits.{bitOr, and-le-l, and-le-r, or-lt, or-add-and}
 use lib.Dec.{eqb, ltb}
 use lib.ListN.{getD}
@@ -16,48 +16,19 @@ use Rattle.sets.proofs.Laws.{decide, or-none}
 use Rattle.words.specs.Words.{readLE}
 use Rattle.words.proofs.Twice.{read-split}
 use Rattle.rules.specs.Index.{eachFrom, each, every}
-use Rattle.rules.specs.Station.{Device, recordSize, deviceAt}
-use Rattle.rules.specs.Table.{Field, field, firstBad, parentGood, present, setGood, sxdGood, sxwGood, deepestGood, headFields}
-use Rattle.rules.specs.Table.{setFields, sxdFields, sxwFields, lastFields, deviceFields, objectsGood}
+use Rattle.rules.specs.Station.{Device, recordSize, fieldsSize, deviceAt}
+use Rattle.rules.specs.Table.{Field, field, firstBad, allGood, parentGood, present, setGood, sxdGood, sxwGood, deepestGood, headFields}
+use Rattle.rules.specs.Table.{setFields, sxdFields, sxwFields, deepestFields, valueFields, zeroFields, deviceFields, objectsGood}
 use Rattle.rules.proofs.Index.{every-at, every-of}
-use Rattle.laws.specs.Carried.{All}
-use Rattle.laws.proofs.All.{all-append, all-each, each-at}
-use Rattle.laws.proofs.Accepted.{field-good, field-bad}
+use Rattle.laws.proofs.All.{all-each, each-at}
+use Rattle.laws.proofs.Good.{none-bad, joined, Good, good-each, good-all}
+use Rattle.laws.proofs.Accepted.{values-inside, fields-inside}
 use Rattle.laws.proofs.Tests.{both-true}
 use Rattle.laws.proofs.Every.{same-test}
 use Rattle.laws.proofs.Tests as tests
-use Rattle.record.specs.Good.{allGood, setsFit, absentSet, setsAbsent}
+use Rattle.record.specs.Good.{setsFit, absentSet, setsAbsent, sizeWith, goodWith}
 use Rattle.record.proofs.Tests.{objects-test}
-use Rattle.record.proofs.FirstBad.{zeroField, Inside, head-in, sets-in, sxd-in, sxw-in, last-in}
-
--- ---- every field of a list is good: by the first bad one, of two lists joined, and field by field
-none-bad : (end : ℕ) (fs : List Field) → All (λ f. f .at < end) fs → eqb (firstBad end fs) end ≡ allGood fs
-unfolding firstBad allGood All
-none-bad end [] a = eq-eqb end end refl
-none-bad end (f ∷ fs) a =
-    let rest = none-bad end fs (a .1) in
-    let h = a .0 in
-    decide (f .good)
-    (λ g. rw (field-good end f fs g, g) rest)
-    (λ g. rw (field-bad end f fs g, g) (ne-eqb (f .at) end (omega arith)))
-
-joined : (l r : List Field) → allGood (l ++ r) ≡ allGood l && allGood r
-unfolding allGood
-joined [] r = refl
-joined (f ∷ l) r = rw (joined l r) (sym (and-assoc (f .good) (allGood l) (allGood r)))
-
-abbrev Good : Field → Type 0
-Good f = f .good ≡ true
-
-good-each : (fs : List Field) → allGood fs ≡ true → All Good fs
-unfolding allGood All
-good-each [] e = tt
-good-each (f ∷ fs) e = let h = both-true (f .good) (allGood fs) e in (h .0, good-each fs (h .1))
-
-good-all : (fs : List Field) → All Good fs → allGood fs ≡ true
-unfolding allGood All
-good-all [] a = refl
-good-all (f ∷ fs) a = tests.and-true (f .good) (allGood fs) (a .0) (good-all fs (a .1))
+use Rattle.record.proofs.FirstBad.{zeroField}
 
 -- ---- two tests that say the same, and two tests as one: zeros in a number's parts and in a union, and a union's bits
 both-zero : (a b c : ℕ) → (c ≡ 0 → a ≡ 0) → (c ≡ 0 → b ≡ 0) → (a ≡ 0 → b ≡ 0 → c ≡ 0) → eqb c 0 ≡ eqb a 0 && eqb b 0
@@ -192,7 +163,30 @@ state-bad k w v b h e p =
     let good : ℕ → Bool = λ j. sxdGood v (j + 1) in
     one-bad good 4 k b h e p ∙ sym (every-field (λ j. 4 + 5 * w + j) good 4)
 
--- ---- the deepest sleep state, then zeros
+-- ---- the five sets: their rule is its two halves, which the code asks one after the other
+halves : (w resources : ℕ) (v : Device) → allGood (setFields w resources v) ≡ setsFit resources v && setsAbsent v
+unfolding setFields setGood setsFit setsAbsent
+halves w resources v =
+    every-field (λ k. 4 + w * k) (setGood resources v) 5
+    ∙ every-both (λ k. ltb (v .sets k) (2 ^ resources)) (λ k. present v k || eqb (v .sets k) 0) 5
+
+module _ (w resources : ℕ) (v : Device) (a b c d e : ℕ) (p : a ≡ v .sets 0) (q : b ≡ v .sets 1) (r : c ≡ v .sets 2) (s : d ≡ v .sets 3)
+    (u : e ≡ v .sets 4) (f : Bool) (g : f ≡ ltb (bitOr (bitOr (bitOr (bitOr a b) c) d) e) (2 ^ resources)) where
+  pub sets-unfit : not f ≡ true → false ≡ allGood (setFields w resources v)
+  sets-unfit h = rw (halves w resources v, sym (fit-test v resources a b c d e f p q r s u g) ∙ not-true f h) refl
+
+  module _ (h : not f ≡ false) where
+    past-fit : setsAbsent v ≡ allGood (setFields w resources v)
+    past-fit = rw (halves w resources v, sym (fit-test v resources a b c d e f p q r s u g) ∙ not-false f h) refl
+
+    pub sets-there : (pr : ℕ) (o : Bool) → pr ≡ v .pr → o ≡ present v 4 → eqb pr 15 && o ≡ true → true ≡ allGood (setFields w resources v)
+    sets-there pr o x y z = all-present v pr o x y z ∙ past-fit
+
+    pub sets-left : (i j k l m : ℕ) → i ≡ absentSet v 0 → j ≡ absentSet v 1 → k ≡ absentSet v 2 → l ≡ absentSet v 3 → m ≡ absentSet v 4
+        → eqb (bitOr (bitOr (bitOr (bitOr i j) k) l) m) 0 ≡ allGood (setFields w resources v)
+    sets-left i j k l m x y z t o = absent-test v i j k l m x y z t o ∙ past-fit
+
+-- ---- zeros to the record's end
 bytes-pos : (k : ℕ) → 0 < 256 ^ k
 bytes-pos zero = omega arith
 bytes-pos (suc k) = omega (arith, pow-suc 256 k, bytes-pos k)
@@ -205,79 +199,107 @@ zeros w t at (suc k) i =
     let next : at + 14 + 5 * w + suc i ≡ at + 14 + 5 * w + i + 1 = omega arith in
     rw (zeros w t at k (suc i), next) (sym (sum-zero 256 byte (readLE k t (at + 14 + 5 * w + i + 1)) (omega arith)))
 
-module _ (w : ℕ) (t : List ℕ) (at : ℕ) (v : Device) (b : Bool) (e : b ≡ deepestGood v) where
-  pub last-bad : not b ≡ true → false ≡ allGood (lastFields w t at v)
-  unfolding lastFields allGood
-  last-bad p = rw (sym e ∙ not-true b p)
+pub zeros-test : (w : ℕ) (t : List ℕ) (at n m : ℕ) → n ≡ readLE w t (at + 14 + 5 * w) → m ≡ readLE 2 t (at + 14 + 6 * w)
+    → eqb n 0 && eqb m 0 ≡ allGood (zeroFields w t at)
+unfolding zeroFields
+zeros-test w t at n m f g =
+    let start = at + 14 + 5 * w in
+    let i : start + 0 ≡ start = omega arith in
+    let j : start + w ≡ at + 14 + 6 * w = omega arith in
+    let c : 2 + w ≡ w + 2 = omega arith in
+    let split = read-split w 2 t start in
+    let apart = sum-zero (256 ^ w) (readLE w t start) (readLE 2 t (start + w)) (bytes-pos w) in
+    rw (c, zeros w t at (w + 2) 0, i, split, apart, j, f, g) refl
 
-  pub last-test : (n m : ℕ) → not b ≡ false → n ≡ readLE w t (at + 14 + 5 * w) → m ≡ readLE 2 t (at + 14 + 6 * w)
-      → eqb n 0 && eqb m 0 ≡ allGood (lastFields w t at v)
-  unfolding lastFields allGood
-  last-test n m p f g =
-      let start = at + 14 + 5 * w in
-      let i : start + 0 ≡ start = omega arith in
-      let j : start + w ≡ at + 14 + 6 * w = omega arith in
-      let c : 2 + w ≡ w + 2 = omega arith in
-      let split = read-split w 2 t start in
-      let apart = sum-zero (256 ^ w) (readLE w t start) (readLE 2 t (start + w)) (bytes-pos w) in
-      rw (sym e ∙ not-false b p, c, zeros w t at (w + 2) 0, i, split, apart, j, f, g)
+-- ---- a record as the check of a run asks: values, zeros where there are any, objects
+module _ (zeros : Bool) (w resources : ℕ) (t : List ℕ) (d at : ℕ) (v : Bool)
+    (e : v ≡ allGood (valueFields w resources d (deviceAt w t at))) where
+  pub values-bad : not v ≡ true → true ≡ not (goodWith zeros w resources t d at)
+  unfolding goodWith
+  values-bad p = rw (sym e ∙ not-true v p) refl
 
--- ---- the parts of a device's record
-module _ (w resources : ℕ) (t : List ℕ) (d at : ℕ) where
-  abbrev dev : Device
-  dev = deviceAt w t at
+  module _ (p : not v ≡ false) (z : Bool) (f : z ≡ (not zeros || allGood (zeroFields w t at))) where
+    pub zeros-bad : not z ≡ true → true ≡ not (goodWith zeros w resources t d at)
+    unfolding goodWith
+    zeros-bad q = rw (sym e ∙ not-false v p, sym f ∙ not-true z q) refl
 
-  -- a record without a bad field is one whose fields are all good
-  pub device-good : eqb (firstBad (recordSize w) (deviceFields w resources t d at)) (recordSize w) ≡ allGood
-      (deviceFields w resources t d at)
-  unfolding deviceFields
-  device-good =
-      let In = Inside w in
-      let sets = all-append In (headFields d dev) (setFields w resources dev) (head-in w d dev) (sets-in w resources dev) in
-      let sxd = all-append In _ (sxdFields w dev) sets (sxd-in w dev) in
-      let sxw = all-append In _ (sxwFields w dev) sxd (sxw-in w dev) in
-      none-bad (recordSize w) _ (all-append In _ (lastFields w t at dev) sxw (last-in w t at dev))
+    pub objects-left : (o : Bool) → not z ≡ false → o ≡ objectsGood (deviceAt w t at) → not o ≡ not (goodWith zeros w resources t d at)
+    unfolding goodWith
+    objects-left o q g = rw (sym e ∙ not-false v p, sym f ∙ not-false z q, g) refl
 
-  -- the five sets' rule is its two halves
-  halves : allGood (setFields w resources dev) ≡ setsFit resources dev && setsAbsent dev
-  unfolding setFields setGood setsFit setsAbsent
-  halves =
-      every-field (λ k. 4 + w * k) (setGood resources dev) 5
-      ∙ every-both (λ k. ltb (dev .sets k) (2 ^ resources)) (λ k. present dev k || eqb (dev .sets k) 0) 5
+pub zeros-none : (zeros b : Bool) → not zeros ≡ true → true ≡ (not zeros || b)
+zeros-none zeros b p = rw p refl
 
+pub zeros-there : (zeros z b : Bool) → not zeros ≡ false → z ≡ b → z ≡ (not zeros || b)
+zeros-there zeros z b p e = rw p e
+
+-- with or without zeros, the fields end inside the record
+pub fields-in-record : (zeros : Bool) (w at n : ℕ) → at + sizeWith zeros w ≤ n → at + fieldsSize w ≤ n
+fields-in-record true w at n h = omega arith
+fields-in-record false w at n h = h
+
+pub zeros-in-record : (zeros : Bool) (w at n : ℕ) → not zeros ≡ false → at + sizeWith zeros w ≤ n → at + recordSize w ≤ n
+zeros-in-record zeros w at n e h = rw (not-false zeros e) at h
+
+pub size-with : (zeros : Bool) (w n : ℕ) → zeros ≡ true → n ≡ recordSize w → n ≡ sizeWith zeros w
+size-with zeros w n e f = rw e f
+
+pub size-without : (zeros : Bool) (w : ℕ) → zeros ≡ false → 14 + 5 * w ≡ sizeWith zeros w
+size-without zeros w e = rw e refl
+
+pub ruleset run-tests = (
+  values-bad,
+  zeros-bad,
+  objects-left,
+  zeros-none,
+  zeros-there,
+  fields-in-record,
+  zeros-in-record,
+  size-with,
+  size-without,
+)
+
+-- a table's record is one with zeros
+pub table-record : (w resources : ℕ) (t : List ℕ) (d at : ℕ)
+    → goodWith true w resources t d at
+    ≡ eqb (firstBad (recordSize w) (deviceFields w resources t d at)) (recordSize w) && objectsGood (deviceAt w t at)
+unfolding goodWith deviceFields
+table-record w resources t d at =
+    let fields = deviceFields w resources t d at in
+    rw (none-bad (recordSize w) fields (fields-inside w resources t d at)) (rw joined refl)
+
+-- the values are good where none is bad
+pub value-good : (w resources d : ℕ) (v : Device) → eqb (firstBad (recordSize w) (valueFields w resources d v)) (recordSize w) ≡ allGood
+    (valueFields w resources d v)
+value-good w resources d v = none-bad (recordSize w) _ (values-inside w resources d v)
+
+-- ---- the parts of a device's values
+module _ (w resources d : ℕ) (dev : Device) where
   -- the parts in the order in which the code asks
   abbrev part : ℕ → Bool
   part zero = allGood (headFields d dev)
-  part (suc zero) = setsFit resources dev
-  part (suc (suc zero)) = setsAbsent dev
-  part (suc (suc (suc zero))) = allGood (sxdFields w dev)
-  part (suc (suc (suc (suc zero)))) = allGood (sxwFields w dev)
-  part (suc (suc (suc (suc (suc k))))) = allGood (lastFields w t at dev)
+  part (suc zero) = allGood (setFields w resources dev)
+  part (suc (suc zero)) = allGood (sxdFields w dev)
+  part (suc (suc (suc zero))) = allGood (sxwFields w dev)
+  part (suc (suc (suc (suc k)))) = deepestGood dev
 
-  all-parts : part 0 && part 1 && part 2 && part 3 && part 4 && part 5 ≡ allGood (deviceFields w resources t d at)
-  unfolding deviceFields
-  all-parts = sym (simp (joined, halves, and-assoc))
+  all-parts : part 0 && part 1 && part 2 && part 3 && part 4 ≡ allGood (valueFields w resources d dev)
+  unfolding valueFields deepestFields allGood
+  all-parts = sym (simp (joined, and-assoc, and-true))
 
-  every-part : every part 6 ≡ allGood (deviceFields w resources t d at)
+  every-part : every part 5 ≡ allGood (valueFields w resources d dev)
   unfolding allGood eachFrom
-  every-part = let all = every-field (λ k. k) part 6 in rw (← all) (simp (and-true, and-assoc)) ∙ all-parts
+  every-part = let all = every-field (λ k. k) part 5 in rw (← all) (simp (and-true, and-assoc)) ∙ all-parts
 
-  pub last-decides : (h f a x y b : Bool) → h ≡ part 0 → f ≡ part 1 → a ≡ part 2 → x ≡ part 3 → y ≡ part 4 → b ≡ part 5
-      → not h ≡ false → not f ≡ false → not a ≡ false → not x ≡ false → not y ≡ false → b ≡ allGood (deviceFields w resources t d at)
-  last-decides h f a x y b p q r s u v hh ff aa xx yy =
-      v ∙ rw (
-        sym p ∙ not-false h hh,
-        sym q ∙ not-false f ff,
-        sym r ∙ not-false a aa,
-        sym s ∙ not-false x xx,
-        sym u
-            ∙ not-false y yy,
-      ) at all-parts
+  pub last-decides : (h s x y b : Bool) → h ≡ part 0 → s ≡ part 1 → x ≡ part 2 → y ≡ part 3 → b ≡ part 4
+      → not h ≡ false → not s ≡ false → not x ≡ false → not y ≡ false → b ≡ allGood (valueFields w resources d dev)
+  last-decides h s x y b p q r u v hh ss xx yy =
+      v ∙ rw (sym p ∙ not-false h hh, sym q ∙ not-false s ss, sym r ∙ not-false x xx, sym u ∙ not-false y yy) at all-parts
 
 -- one part that is bad is enough
-pub part-bad : (k w resources : ℕ) (t : List ℕ) (d at : ℕ) (b : Bool) → k < 6 → b ≡ part w resources t d at k → not b ≡ true
-    → false ≡ allGood (deviceFields w resources t d at)
-part-bad k w resources t d at b h e p = one-bad (part w resources t d at) 6 k b h e p ∙ every-part w resources t d at
+pub part-bad : (k w resources d : ℕ) (dev : Device) (b : Bool) → k < 5 → b ≡ part w resources d dev k → not b ≡ true
+    → false ≡ allGood (valueFields w resources d dev)
+part-bad k w resources d dev b h e p = one-bad (part w resources d dev) 5 k b h e p ∙ every-part w resources d dev
 
 pub ruleset quick-tests = (
   head-test,
@@ -285,10 +307,9 @@ pub ruleset quick-tests = (
   states-test,
   present-none,
   absent-same,
-  absent-test,
-  all-present,
-  fit-test,
-  last-bad,
-  last-test,
+  sets-unfit,
+  sets-there,
+  sets-left,
+  zeros-test,
   same-masks-agree,
 )

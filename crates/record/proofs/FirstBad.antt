@@ -14,10 +14,10 @@ use Rattle.sets.proofs.Laws.{decide}
 use Rattle.rules.specs.Index.{eachFrom}
 use Rattle.rules.specs.Station.{Device, recordSize, deviceAt}
 use Rattle.rules.specs.Table.{Field, field, firstBad, resourceFields, parentGood, setGood, sxdGood, sxwGood, deepestGood, headFields}
-use Rattle.rules.specs.Table.{setFields, sxdFields, sxwFields, lastFields, deviceFields}
+use Rattle.rules.specs.Table.{setFields, sxdFields, sxwFields, deepestFields, valueFields, zeroFields, deviceFields}
 use Rattle.laws.specs.Carried.{All}
 use Rattle.laws.proofs.All.{all-each}
-use Rattle.laws.proofs.Accepted.{field-good, field-bad}
+use Rattle.laws.proofs.Accepted.{field-good, field-bad, values-inside}
 
 -- ---- two lists joined: a bad field of the first is the answer; without one it is the second's, since every field starts before the end
 module _ (end : ℕ) where
@@ -120,17 +120,24 @@ sxwField w v x = field (8 + 5 * w + x) (sxwGood v x)
 abbrev pub zeroField : ℕ → List ℕ → ℕ → ℕ → Field
 zeroField w t at k = field (14 + 5 * w + k) (eqb (getD t (at + 14 + 5 * w + k) 0) 0)
 
--- deepest, before the zeros
-module _ (end w : ℕ) (t : List ℕ) (at : ℕ) (v : Device) (b : Bool) (e : b ≡ deepestGood v) where
-  pub deepest-bad : not b ≡ true → 13 + 5 * w ≡ firstBad end (lastFields w t at v)
-  unfolding lastFields
+-- the deepest sleep state, one field
+module _ (end w : ℕ) (v : Device) (b : Bool) (e : b ≡ deepestGood v) where
+  pub deepest-bad : not b ≡ true → 13 + 5 * w ≡ firstBad end (deepestFields w v)
+  unfolding deepestFields
   deepest-bad p = sym (field-bad end _ _ (sym e ∙ not-true b p))
 
-  pub zeros-left : not b ≡ false → firstBad end (eachFrom (zeroField w t at) 0 (2 + w - 0)) ≡ firstBad end (lastFields w t at v)
-  unfolding lastFields
-  zeros-left p = rw (sub-zero (2 + w)) (sym (field-good end _ _ (sym e ∙ not-false b p)))
+  pub deepest-fine : (n : ℕ) → n ≡ end → not b ≡ false → n ≡ firstBad end (deepestFields w v)
+  unfolding deepestFields
+  deepest-fine n f p = f ∙ sym (field-good end _ _ (sym e ∙ not-false b p) ∙ none-bad end)
 
-pub ruleset bad-last-laws = (deepest-bad, zeros-left, bad-loop)
+pub ruleset bad-one = (deepest-bad, deepest-fine)
+
+pub zeros-left : (end w : ℕ) (t : List ℕ) (at : ℕ)
+    → firstBad end (eachFrom (zeroField w t at) 0 (2 + w - 0)) ≡ firstBad end (zeroFields w t at)
+unfolding zeroFields
+zeros-left end w t at = rw (sub-zero (2 + w)) refl
+
+pub ruleset bad-zeros = (zeros-left, bad-loop)
 
 -- ---- every field starts before the record's end
 module _ (w : ℕ) where
@@ -153,22 +160,15 @@ module _ (w : ℕ) where
   unfolding sxwFields
   sxw-in v = all-each _ (sxwField w v) 0 5 (λ k l u. omega arith)
 
-  pub last-in : (t : List ℕ) (at : ℕ) (v : Device) → All Inside (lastFields w t at v)
-  unfolding lastFields All
-  last-in t at v = (omega arith, all-each _ (zeroField w t at) 0 (2 + w) (λ k l u. omega arith))
-
--- ---- the parts of a device's record, one after the other: the first part with a bad field has the answer
+-- ---- the parts of a device's values, one after the other: the first part with a bad field has the answer
 -- The code compares with the record's size, which comes as `end`
-module _ (w resources : ℕ) (t : List ℕ) (d at end : ℕ) (size : end ≡ recordSize w) where
-  abbrev dev : Device
-  dev = deviceAt w t at
-
+module _ (w resources d : ℕ) (dev : Device) (end : ℕ) (size : end ≡ recordSize w) where
   abbrev first : List Field → ℕ
   first l = firstBad (recordSize w) l
 
-  -- the parts from `_SxW`, from `_SxD` and from the sets on, and all of them
+  -- the parts from `_SxW`, from `_SxD` and from the sets on
   abbrev from-sxw : List Field
-  from-sxw = sxwFields w dev ++ lastFields w t at dev
+  from-sxw = sxwFields w dev ++ deepestFields w dev
 
   abbrev from-sxd : List Field
   from-sxd = sxdFields w dev ++ from-sxw
@@ -182,36 +182,52 @@ module _ (w resources : ℕ) (t : List ℕ) (d at end : ℕ) (size : end ≡ rec
   goes-on : (l r : List Field) (n : ℕ) → All (Inside w) l → n ≡ first l → n ≡ end → first r ≡ first (l ++ r)
   goes-on l r n a e h = sym (join-pass (recordSize w) l r a (sym e ∙ h ∙ size))
 
-  whole : first (headFields d dev ++ from-sets) ≡ first (deviceFields w resources t d at)
-  unfolding deviceFields
+  whole : first (headFields d dev ++ from-sets) ≡ first (valueFields w resources d dev)
+  unfolding valueFields
   whole = simp append-assoc
 
-  pub in-head : (r : ℕ) → r ≡ first (headFields d dev) → (r ≡ end → ⊥) → r ≡ first (deviceFields w resources t d at)
+  pub in-head : (r : ℕ) → r ≡ first (headFields d dev) → (r ≡ end → ⊥) → r ≡ first (valueFields w resources d dev)
   in-head r e n = stops (headFields d dev) from-sets r e n ∙ whole
 
   module _ (h : ℕ) (a : h ≡ first (headFields d dev)) (x : h ≡ end) where
-    past-head : first from-sets ≡ first (deviceFields w resources t d at)
+    past-head : first from-sets ≡ first (valueFields w resources d dev)
     past-head = goes-on (headFields d dev) from-sets h (head-in w d dev) a x ∙ whole
 
-    pub in-sets : (r : ℕ) → r ≡ first (setFields w resources dev) → (r ≡ end → ⊥) → r ≡ first (deviceFields w resources t d at)
+    pub in-sets : (r : ℕ) → r ≡ first (setFields w resources dev) → (r ≡ end → ⊥) → r ≡ first (valueFields w resources d dev)
     in-sets r e n = stops (setFields w resources dev) from-sxd r e n ∙ past-head
 
     module _ (s : ℕ) (b : s ≡ first (setFields w resources dev)) (y : s ≡ end) where
-      past-sets : first from-sxd ≡ first (deviceFields w resources t d at)
+      past-sets : first from-sxd ≡ first (valueFields w resources d dev)
       past-sets = goes-on (setFields w resources dev) from-sxd s (sets-in w resources dev) b y ∙ past-head
 
-      pub in-sxd : (r : ℕ) → r ≡ first (sxdFields w dev) → (r ≡ end → ⊥) → r ≡ first (deviceFields w resources t d at)
+      pub in-sxd : (r : ℕ) → r ≡ first (sxdFields w dev) → (r ≡ end → ⊥) → r ≡ first (valueFields w resources d dev)
       in-sxd r e n = stops (sxdFields w dev) from-sxw r e n ∙ past-sets
 
       module _ (p : ℕ) (c : p ≡ first (sxdFields w dev)) (z : p ≡ end) where
-        past-sxd : first from-sxw ≡ first (deviceFields w resources t d at)
+        past-sxd : first from-sxw ≡ first (valueFields w resources d dev)
         past-sxd = goes-on (sxdFields w dev) from-sxw p (sxd-in w dev) c z ∙ past-sets
 
-        pub in-sxw : (r : ℕ) → r ≡ first (sxwFields w dev) → (r ≡ end → ⊥) → r ≡ first (deviceFields w resources t d at)
-        in-sxw r e n = stops (sxwFields w dev) (lastFields w t at dev) r e n ∙ past-sxd
+        pub in-sxw : (r : ℕ) → r ≡ first (sxwFields w dev) → (r ≡ end → ⊥) → r ≡ first (valueFields w resources d dev)
+        in-sxw r e n = stops (sxwFields w dev) (deepestFields w dev) r e n ∙ past-sxd
 
-        pub in-last : (q r : ℕ) → q ≡ first (sxwFields w dev) → q ≡ end → r ≡ first (lastFields w t at dev)
-            → r ≡ first (deviceFields w resources t d at)
-        in-last q r f g e = e ∙ goes-on (sxwFields w dev) (lastFields w t at dev) q (sxw-in w dev) f g ∙ past-sxd
+        pub in-last : (q r : ℕ) → q ≡ first (sxwFields w dev) → q ≡ end → r ≡ first (deepestFields w dev)
+            → r ≡ first (valueFields w resources d dev)
+        in-last q r f g e = e ∙ goes-on (sxwFields w dev) (deepestFields w dev) q (sxw-in w dev) f g ∙ past-sxd
 
 pub ruleset bad-parts = (in-head, in-sets, in-sxd, in-sxw, in-last)
+
+-- ---- a record is its values, then zeros
+module _ (w resources : ℕ) (t : List ℕ) (d at v end : ℕ) (e : v ≡ firstBad (recordSize w) (valueFields w resources d (deviceAt w t at)))
+    (size : end ≡ recordSize w) where
+  pub in-values : (v ≡ end → ⊥) → v ≡ firstBad (recordSize w) (deviceFields w resources t d at)
+  unfolding deviceFields
+  in-values n = stops w resources d (deviceAt w t at) end size _ (zeroFields w t at) v e n
+
+  pub in-zeros : (r : ℕ) → v ≡ end → r ≡ firstBad (recordSize w) (zeroFields w t at)
+      → r ≡ firstBad (recordSize w) (deviceFields w resources t d at)
+  unfolding deviceFields
+  in-zeros r g f =
+      f ∙ goes-on w resources d (deviceAt w t at) end size (valueFields w resources d (deviceAt w t at)) (zeroFields w t at) v
+      (values-inside w resources d (deviceAt w t at)) e g
+
+pub ruleset bad-record = (in-values, in-zeros)

@@ -1,13 +1,14 @@
 -- What the bytes of a record say, field by field: what the readers of a record cite. Each law is of any width.
-use mathlib.Core.Path.{_≡_, refl, sym, _∙_}
+use mathlib.Core.Path.{_≡_, refl, sym, ap, _∙_}
 use mathlib.Core.Bool.{cond}
 use mathlib.Core.List.{List}
-use Prim.Native.Nat.{ℕ, _+_, _*_, _^_, _<_}
+use Prim.Native.Nat.{ℕ, _+_, _*_, _%_, _^_, _<_}
 use native.Mathlib.Omega.{arith}
 use borrow.Author.Tests.{ne-eqb}
 use lib.Dec.{eqb}
 use lib.ListN.{getD}
-use Rattle.words.specs.Words.{readLE}
+use Rattle.words.specs.Words.{readLE, bytesLE, put}
+use Rattle.words.proofs.Twice.{bytes-low}
 use Rattle.rules.specs.Index.{below}
 use Rattle.rules.specs.Station.{Wide, absent, deviceAt}
 use Rattle.rules.proofs.Index.{below-in}
@@ -22,6 +23,14 @@ module _ (w : ℕ) (s : List ℕ) (at r : ℕ) where
 
   pub read-4 : Wide w → (w ≡ 8 → ⊥) → r ≡ readLE 4 s at → r ≡ readLE w s at
   read-4 h n f = rw (four w h n) f
+
+-- only the w low bytes of x are written
+module _ (w : ℕ) (d l : List ℕ) (at x : ℕ) where
+  pub write-8 : w ≡ 8 → l ≡ put d at (bytesLE 8 x) → l ≡ put d at (bytesLE w x)
+  write-8 e f = rw e f
+
+  pub write-4 : Wide w → (w ≡ 8 → ⊥) → l ≡ put d at (bytesLE 4 (x % 256 ^ 4)) → l ≡ put d at (bytesLE w x)
+  write-4 h n f = rw (four w h n) (f ∙ ap (put d at) (bytes-low 4 x))
 
 pub fits-8 : (w r : ℕ) → w ≡ 8 → r < 2 ^ 64 → r < 256 ^ w
 fits-8 w r e f = rw e f
@@ -76,6 +85,6 @@ module _ (w : ℕ) (t : List ℕ) (at : ℕ) where
   unfolding deviceAt
   deepest-at = refl
 
-pub ruleset at-width = (read-8, read-4, fits-8, fits-4, start-8, start-4)
+pub ruleset at-width = (read-8, read-4, write-8, write-4, fits-8, fits-4, start-8, start-4)
 
 pub ruleset fields-at = (parent-at, ps-at, pr-at, flags-at, set-at, sxd-at, sxd-none, sxw-at, deepest-at)

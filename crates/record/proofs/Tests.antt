@@ -3,7 +3,7 @@
 use mathlib.Core.Path.{_≡_, refl, sym}
 use mathlib.Core.Bool.{Bool, not, _&&_, _||_, or-false}
 use mathlib.Core.List.{List}
-use Prim.Native.Nat.{ℕ, _+_, _*_, _%_, _^_, _≤_, _<_}
+use Prim.Native.Nat.{ℕ, _%_, _^_, _≤_, _<_}
 use native.Mathlib.Omega.{arith}
 use borrow.Author.Tests.{eqb-true, eq-eqb, ne-eqb, le-leb, lt-leb}
 use lib.Dec.{eqb, leb, ltb}
@@ -17,9 +17,9 @@ use Rattle.rules.specs.Table.{objectsGood}
 pub bit-is : (mask n x : ℕ) (b : Bool) → n ≡ mask → b ≡ member n x → b ≡ member mask x
 bit-is mask n x b e f = rw e at f
 
-pub resource-test : (t : List ℕ) (r v : ℕ) → v ≡ firstBad 4 (resourceFields t (8 + 4 * r)) → eqb v 4 ≡ resourceGood t r
+pub resource-test : (t : List ℕ) (at v : ℕ) → v ≡ firstBad 4 (resourceFields t at) → eqb v 4 ≡ resourceGood t at
 unfolding resourceGood
-resource-test t r v e = rw e refl
+resource-test t at v e = rw e refl
 
 module _ (v : Device) where
   pub parent-test : (d p : ℕ) → p ≡ v .parent → ltb p d || eqb p 255 ≡ parentGood d v

@@ -2,12 +2,12 @@
 ghost use mathlib.Core.Path.{_≡_};
 ghost use Prim.Native.Nat.{_+_, _*_, _<_, _≤_};
 ghost use lib.ListN.{length};
-ghost use Rattle.rules.specs.Station.{Wide, limit, recordSize, deviceAt};
-ghost use Rattle.rules.specs.Table.{firstBad, resourceFields, resourceGood, headFields, setFields, sxdFields, sxwFields, lastFields};
-ghost use Rattle.rules.specs.Table.{deviceFields};
+ghost use Rattle.rules.specs.Station.{Wide, limit, recordSize, fieldsSize, deviceAt};
+ghost use Rattle.rules.specs.Table.{firstBad, resourceFields, resourceGood, headFields, setFields, sxdFields, sxwFields};
+ghost use Rattle.rules.specs.Table.{deepestFields, valueFields, zeroFields, deviceFields};
 
 // Where a resource's first bad field starts, 4 if none is bad.
-pub fn bad_resource(table: &[u8], at: usize) -> usize
+fn bad_resource(table: &[u8], at: usize) -> usize
     requires { ⌜ at + 4 ≤ length (now table) ⌝ }
     ensures { λ r. ⌜ r ≡ firstBad 4 (resourceFields (now (table .entry)) at) ⌝ }
 {
@@ -20,17 +20,17 @@ pub fn bad_resource(table: &[u8], at: usize) -> usize
     4
 }
 
-// Whether every field of resource r is good.
-pub fn resource_good(table: &[u8], r: usize) -> bool
-    requires { ⌜ 8 + 4 * r + 4 ≤ length (now table) ⌝ }
-    ensures { λ b. ⌜ b ≡ resourceGood (now (table .entry)) r ⌝ }
+// Whether every field of a resource is good.
+pub fn resource_good(table: &[u8], at: usize) -> bool
+    requires { ⌜ at + 4 ≤ length (now table) ⌝ }
+    ensures { λ b. ⌜ b ≡ resourceGood (now (table .entry)) at ⌝ }
 {
-    bad_resource(table, 8 + 4 * r) == 4
+    bad_resource(table, at) == 4
 }
 
-// Where the first bad field of a device's bytes 0 to 3 starts, the record's size if none is bad; so the four after it, of the other bytes.
+// Where the first bad field of a device's bytes 0 to 3 starts, the record's size if none is bad; so the four after it, of other values.
 fn bad_head(table: &[u8], at: usize, w: usize, d: usize) -> usize
-    requires { ⌜ Wide w × (at + recordSize w ≤ length (now table)) × (d < 256) ⌝ }
+    requires { ⌜ Wide w × (at + fieldsSize w ≤ length (now table)) × (d < 256) ⌝ }
     ensures { λ r. ⌜ r ≡ firstBad (recordSize w) (headFields d (deviceAt w (now (table .entry)) at)) ⌝ }
 {
     if !crate::good::parent_good(table, at, w, d) {
@@ -50,7 +50,7 @@ fn bad_head(table: &[u8], at: usize, w: usize, d: usize) -> usize
 
 // The five sets.
 fn bad_set(table: &[u8], at: usize, w: usize, resources: usize) -> usize
-    requires { ⌜ Wide w × (at + recordSize w ≤ length (now table)) × (resources ≤ limit w) ⌝ }
+    requires { ⌜ Wide w × (at + fieldsSize w ≤ length (now table)) × (resources ≤ limit w) ⌝ }
     ensures { λ r. ⌜ r ≡ firstBad (recordSize w) (setFields w resources (deviceAt w (now (table .entry)) at)) ⌝ }
 {
     let mut i = 0;
@@ -66,7 +66,7 @@ fn bad_set(table: &[u8], at: usize, w: usize, resources: usize) -> usize
 
 // `_S1D` to `_S4D`.
 fn bad_sxd(table: &[u8], at: usize, w: usize) -> usize
-    requires { ⌜ Wide w × (at + recordSize w ≤ length (now table)) ⌝ }
+    requires { ⌜ Wide w × (at + fieldsSize w ≤ length (now table)) ⌝ }
     ensures { λ r. ⌜ r ≡ firstBad (recordSize w) (sxdFields w (deviceAt w (now (table .entry)) at)) ⌝ }
 {
     let mut i = 0;
@@ -82,7 +82,7 @@ fn bad_sxd(table: &[u8], at: usize, w: usize) -> usize
 
 // `_S0W` to `_S4W`.
 fn bad_sxw(table: &[u8], at: usize, w: usize) -> usize
-    requires { ⌜ Wide w × (at + recordSize w ≤ length (now table)) ⌝ }
+    requires { ⌜ Wide w × (at + fieldsSize w ≤ length (now table)) ⌝ }
     ensures { λ r. ⌜ r ≡ firstBad (recordSize w) (sxwFields w (deviceAt w (now (table .entry)) at)) ⌝ }
 {
     let mut i = 0;
@@ -96,30 +96,21 @@ fn bad_sxw(table: &[u8], at: usize, w: usize) -> usize
     crate::read::size(w)
 }
 
-// The deepest sleep state, then 2 + w zeros to the record's end.
-fn bad_last(table: &[u8], at: usize, w: usize) -> usize
-    requires { ⌜ Wide w × (at + recordSize w ≤ length (now table)) ⌝ }
-    ensures { λ r. ⌜ r ≡ firstBad (recordSize w) (lastFields w (now (table .entry)) at (deviceAt w (now (table .entry)) at)) ⌝ }
+// The deepest sleep state.
+fn bad_deepest(table: &[u8], at: usize, w: usize) -> usize
+    requires { ⌜ Wide w × (at + fieldsSize w ≤ length (now table)) ⌝ }
+    ensures { λ r. ⌜ r ≡ firstBad (recordSize w) (deepestFields w (deviceAt w (now (table .entry)) at)) ⌝ }
 {
     if !crate::good::deepest_good(table, at, w) {
         return 13 + 5 * w;
     }
-    let mut i = 0;
-    while i < 2 + w {
-        let k = i;
-        i += 1;
-        let good = table[at + 14 + 5 * w + k] == 0;
-        if !good {
-            return 14 + 5 * w + k;
-        }
-    }
     crate::read::size(w)
 }
 
-// Where the first bad field of device d's record starts, the record's size if none is bad.
-pub fn bad_field(table: &[u8], at: usize, w: usize, d: usize, resources: usize) -> usize
-    requires { ⌜ Wide w × (at + recordSize w ≤ length (now table)) × (d < 256) × (resources ≤ limit w) ⌝ }
-    ensures { λ r. ⌜ r ≡ firstBad (recordSize w) (deviceFields w resources (now (table .entry)) d at) ⌝ }
+// Where the first bad value of device d starts, the record's size if none is bad.
+pub fn bad_value(table: &[u8], at: usize, w: usize, d: usize, resources: usize) -> usize
+    requires { ⌜ Wide w × (at + fieldsSize w ≤ length (now table)) × (d < 256) × (resources ≤ limit w) ⌝ }
+    ensures { λ r. ⌜ r ≡ firstBad (recordSize w) (valueFields w resources d (deviceAt w (now (table .entry)) at)) ⌝ }
 {
     let end = crate::read::size(w);
     let head = bad_head(table, at, w, d);
@@ -138,5 +129,34 @@ pub fn bad_field(table: &[u8], at: usize, w: usize, d: usize, resources: usize) 
     if sxw != end {
         return sxw;
     }
-    bad_last(table, at, w)
+    bad_deepest(table, at, w)
+}
+
+// The 2 + w zeros to the record's end.
+fn bad_zero(table: &[u8], at: usize, w: usize) -> usize
+    requires { ⌜ Wide w × (at + recordSize w ≤ length (now table)) ⌝ }
+    ensures { λ r. ⌜ r ≡ firstBad (recordSize w) (zeroFields w (now (table .entry)) at) ⌝ }
+{
+    let mut i = 0;
+    while i < 2 + w {
+        let k = i;
+        i += 1;
+        let good = table[at + 14 + 5 * w + k] == 0;
+        if !good {
+            return 14 + 5 * w + k;
+        }
+    }
+    crate::read::size(w)
+}
+
+// Where the first bad field of device d's record starts, the record's size if none is bad.
+pub fn bad_field(table: &[u8], at: usize, w: usize, d: usize, resources: usize) -> usize
+    requires { ⌜ Wide w × (at + recordSize w ≤ length (now table)) × (d < 256) × (resources ≤ limit w) ⌝ }
+    ensures { λ r. ⌜ r ≡ firstBad (recordSize w) (deviceFields w resources (now (table .entry)) d at) ⌝ }
+{
+    let value = bad_value(table, at, w, d, resources);
+    if value != crate::read::size(w) {
+        return value;
+    }
+    bad_zero(table, at, w)
 }

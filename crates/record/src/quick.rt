@@ -1,11 +1,11 @@
-// Whether every field of a device's record is good. Each device of every table is asked, and nearly always the answer is yes:
+// Whether every field of a device is good. Each device of every table and list is asked, and nearly always the answer is yes:
 // so the tests do without the place of a bad field, share what they can, and leave at the first that fails.
 ghost use mathlib.Core.Path.{_≡_};
 ghost use Prim.Native.Nat.{_+_, _<_, _≤_};
 ghost use lib.ListN.{length};
 ghost use Rattle.rules.specs.Station.{Wide, limit, recordSize, fieldsSize, deviceAt};
-ghost use Rattle.rules.specs.Table.{headFields, sxdFields, sxwFields, lastFields, deviceFields, objectsGood};
-ghost use Rattle.record.specs.Good.{allGood, setsFit, absentSet, setsAbsent};
+ghost use Rattle.rules.specs.Table.{allGood, headFields, setFields, sxdFields, sxwFields, valueFields, zeroFields, objectsGood};
+ghost use Rattle.record.specs.Good.{absentSet};
 
 // Bytes 0 to 3.
 fn head_good(table: &[u8], at: usize, w: usize, d: usize) -> bool
@@ -18,44 +18,40 @@ fn head_good(table: &[u8], at: usize, w: usize, d: usize) -> bool
         & (crate::read::flags(table, at, w) < 4)
 }
 
-// No set has a bit at or above R: their union has none.
-fn sets_fit(table: &[u8], at: usize, w: usize, resources: usize) -> bool
+// Set k, which has been read, where its object is absent, else none.
+fn absent_set(table: &[u8], at: usize, w: usize, k: usize, s: u64) -> u64
+    requires { ⌜ Wide w × (at + fieldsSize w ≤ length (now table)) × (k < 5) × (s ≡ deviceAt w (now table) at .sets k) ⌝ }
+    ensures { λ r. ⌜ r ≡ absentSet (deviceAt w (now (table .entry)) at) k ⌝ }
+{
+    if crate::good::present(table, at, w, k) {
+        return 0;
+    }
+    s
+}
+
+// The five sets, each read once: their union has no bit at or above R, and the union of those whose objects are absent is none. Where all
+// five objects are there, nothing is left to ask.
+fn sets_good(table: &[u8], at: usize, w: usize, resources: usize) -> bool
     requires { ⌜ Wide w × (at + fieldsSize w ≤ length (now table)) × (resources ≤ limit w) ⌝ }
-    ensures { λ b. ⌜ b ≡ setsFit resources (deviceAt w (now (table .entry)) at) ⌝ }
+    ensures { λ b. ⌜ b ≡ allGood (setFields w resources (deviceAt w (now (table .entry)) at)) ⌝ }
 {
     let a = crate::read::set(table, at, w, 0);
     let b = crate::read::set(table, at, w, 1);
     let c = crate::read::set(table, at, w, 2);
     let d = crate::read::set(table, at, w, 3);
     let e = crate::read::set(table, at, w, 4);
-    crate::word::fits(a | b | c | d | e, resources as u32)
-}
-
-// Set k where its object is absent, else none.
-fn absent_set(table: &[u8], at: usize, w: usize, k: usize) -> u64
-    requires { ⌜ Wide w × (at + fieldsSize w ≤ length (now table)) × (k < 5) ⌝ }
-    ensures { λ s. ⌜ s ≡ absentSet (deviceAt w (now (table .entry)) at) k ⌝ }
-{
-    if crate::good::present(table, at, w, k) {
-        return 0;
+    if !crate::word::fits(a | b | c | d | e, resources as u32) {
+        return false;
     }
-    crate::read::set(table, at, w, k)
-}
-
-// The sets of absent objects are zero: their union is. Where all five objects are there, no set need be looked at.
-fn sets_absent(table: &[u8], at: usize, w: usize) -> bool
-    requires { ⌜ Wide w × (at + fieldsSize w ≤ length (now table)) ⌝ }
-    ensures { λ b. ⌜ b ≡ setsAbsent (deviceAt w (now (table .entry)) at) ⌝ }
-{
     if (crate::read::pr(table, at, w) == 15) & crate::good::present(table, at, w, 4) {
         return true;
     }
-    let a = absent_set(table, at, w, 0);
-    let b = absent_set(table, at, w, 1);
-    let c = absent_set(table, at, w, 2);
-    let d = absent_set(table, at, w, 3);
-    let e = absent_set(table, at, w, 4);
-    (a | b | c | d | e) == 0
+    let f = absent_set(table, at, w, 0, a);
+    let g = absent_set(table, at, w, 1, b);
+    let h = absent_set(table, at, w, 2, c);
+    let i = absent_set(table, at, w, 3, d);
+    let j = absent_set(table, at, w, 4, e);
+    (f | g | h | i | j) == 0
 }
 
 // `_S1D` to `_S4D`.
@@ -87,31 +83,15 @@ fn limits_good(table: &[u8], at: usize, w: usize) -> bool
         & crate::good::sxw_good(table, at, w, 4)
 }
 
-// The deepest sleep state, then zeros to the record's end, read as one number of w bytes and one of two.
-fn last_good(table: &[u8], at: usize, w: usize) -> bool
-    requires { ⌜ Wide w × (at + recordSize w ≤ length (now table)) ⌝ }
-    ensures { λ b. ⌜ b ≡ allGood (lastFields w (now (table .entry)) at (deviceAt w (now (table .entry)) at)) ⌝ }
-{
-    if !crate::good::deepest_good(table, at, w) {
-        return false;
-    }
-    let zeros = crate::word::read(table, at + 14 + 5 * w, w);
-    let rest = words::read16(table, at + 14 + 6 * w);
-    (zeros == 0) & (rest == 0)
-}
-
-// Every field of device d's record.
-pub fn record_good(table: &[u8], at: usize, w: usize, d: usize, resources: usize) -> bool
-    requires { ⌜ Wide w × (at + recordSize w ≤ length (now table)) × (d < 256) × (resources ≤ limit w) ⌝ }
-    ensures { λ b. ⌜ b ≡ allGood (deviceFields w resources (now (table .entry)) d at) ⌝ }
+// Every value of device d, wherever its record is: in a table, or in a list of described devices, which has no zeros.
+pub fn values_good(table: &[u8], at: usize, w: usize, d: usize, resources: usize) -> bool
+    requires { ⌜ Wide w × (at + fieldsSize w ≤ length (now table)) × (d < 256) × (resources ≤ limit w) ⌝ }
+    ensures { λ b. ⌜ b ≡ allGood (valueFields w resources d (deviceAt w (now (table .entry)) at)) ⌝ }
 {
     if !head_good(table, at, w, d) {
         return false;
     }
-    if !sets_fit(table, at, w, resources) {
-        return false;
-    }
-    if !sets_absent(table, at, w) {
+    if !sets_good(table, at, w, resources) {
         return false;
     }
     if !states_good(table, at, w) {
@@ -120,11 +100,21 @@ pub fn record_good(table: &[u8], at: usize, w: usize, d: usize, resources: usize
     if !limits_good(table, at, w) {
         return false;
     }
-    last_good(table, at, w)
+    crate::good::deepest_good(table, at, w)
+}
+
+// Zeros to the record's end, read as one number of w bytes and one of two.
+pub fn zeros_good(table: &[u8], at: usize, w: usize) -> bool
+    requires { ⌜ Wide w × (at + recordSize w ≤ length (now table)) ⌝ }
+    ensures { λ b. ⌜ b ≡ allGood (zeroFields w (now (table .entry)) at) ⌝ }
+{
+    let zeros = crate::word::read(table, at + 14 + 5 * w, w);
+    let rest = words::read16(table, at + 14 + 6 * w);
+    (zeros == 0) & (rest == 0)
 }
 
 // Whether the objects agree. Where the states with `_PS` are those with `_PR`, D0 and D3hot among them, only `_DSW` is left to ask;
-// any other device is held to the whole rule.
+// any other device is deviceValue to the whole rule.
 pub fn objects_agree(table: &[u8], at: usize, w: usize) -> bool
     requires { ⌜ Wide w × (at + fieldsSize w ≤ length (now table)) ⌝ }
     ensures { λ b. ⌜ b ≡ objectsGood (deviceAt w (now (table .entry)) at) ⌝ }

@@ -1,4 +1,4 @@
-// The fields of a device's record. Only these functions know at which byte a field stands.
+// The fields of a device's record. Only this crate knows at which byte a field stands.
 ghost use mathlib.Core.Path.{_≡_};
 ghost use Prim.Native.Nat.{_+_, _*_, _^_, _<_, _≤_};
 ghost use lib.ListN.{length};

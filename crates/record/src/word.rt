@@ -3,7 +3,7 @@ ghost use mathlib.Core.Path.{_≡_};
 ghost use Prim.Native.Nat.{_+_, _^_, _<_, _≤_};
 ghost use lib.Dec.{ltb};
 ghost use lib.ListN.{length};
-ghost use Rattle.words.specs.Words.{readLE};
+ghost use Rattle.words.specs.Words.{readLE, bytesLE, put};
 ghost use Rattle.rules.specs.Station.{Wide};
 
 // The number that the eight bytes from `at` on make.
@@ -23,6 +23,27 @@ pub fn read(s: &[u8], at: usize, w: usize) -> u64
         return read64(s, at);
     }
     words::read32(s, at) as u64
+}
+
+// The eight bytes of x, from `at` on.
+fn write64(s: &mut [u8], at: usize, x: u64)
+    requires { ⌜ at + 8 ≤ length (now s) ⌝ }
+    ensures { λ _. ⌜ now (s .exit) ≡ put (now (s .entry)) at (bytesLE 8 x) ⌝ }
+{
+    words::write32(s, at, (x % 0x1_0000_0000) as u32);
+    words::write32(s, at + 4, (x / 0x1_0000_0000) as u32);
+}
+
+// The w low bytes of x, from `at` on.
+pub fn write(s: &mut [u8], at: usize, w: usize, x: u64)
+    requires { ⌜ Wide w × (at + w ≤ length (now s)) ⌝ }
+    ensures { λ _. ⌜ now (s .exit) ≡ put (now (s .entry)) at (bytesLE w x) ⌝ }
+{
+    if w == 8 {
+        write64(s, at, x);
+        return;
+    }
+    words::write32(s, at, (x % 0x1_0000_0000) as u32);
 }
 
 // Whether s has no resource from n on.

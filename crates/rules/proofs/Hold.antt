@@ -1,16 +1,22 @@
 -- W1 to W12 and our own rows hold, by one computation on the bytes of the tables: the list of the rows that fail is empty.
 use mathlib.Core.Path.{_≡_, refl}
 use mathlib.Core.Bool.{true, false}
-use mathlib.Core.List.{[], _∷_}
+use mathlib.Core.List.{[], _∷_, _++_, map}
+use lib.ListN.{replicate}
 use Rattle.sets.specs.Sets.{member, union, minus, single, firstN, subset}
 use Rattle.words.specs.Words.{readLE, bytesLE, put, wordBytes, byteWords}
 use Rattle.rules.specs.Index.{leastFrom, every, below, eachFrom, each, joinFrom}
 use Rattle.rules.specs.Answers.{passes, firstOf, unless, lowest}
-use Rattle.rules.specs.Station.{width, deviceStart, resourceAt, deviceAt, stationOf, fieldBytes}
+use Rattle.rules.specs.Station.{versionGood, versionWidth, width, deviceStart, resourceAt, deviceAt, stationOf, fieldBytes}
 use Rattle.rules.specs.Describe.{resourcesOf, devicesOf, headerBytes, recordBytes, tableBytes}
-use Rattle.rules.specs.Table.{headerGood, countsGood, lengthGood, firstBad, resourceGood, parentGood, present, setGood, sxdGood}
-use Rattle.rules.specs.Table.{sxwGood, deepestGood, headFields, setFields, sxdFields, sxwFields, lastFields, deviceFields}
-use Rattle.rules.specs.Table.{badField, fieldsGood, objectsGood, deviceRefusal, deviceGood, tableVerdict}
+use Rattle.rules.specs.Table.{headerGood, countsGood, lengthGood, firstBad, allGood, resourceGood, parentGood, present, setGood}
+use Rattle.rules.specs.Table.{sxdGood}
+use Rattle.rules.specs.Table.{sxwGood, deepestGood, headFields, setFields, sxdFields, sxwFields, deepestFields, valueFields}
+use Rattle.rules.specs.Table.{zeroFields}
+use Rattle.rules.specs.Table.{deviceFields, badField, fieldsGood, objectsGood, fieldsOrObjects, deviceGood, tableVerdict}
+use Rattle.rules.specs.Write.{describedResourceGood, describedFieldsGood, describedDeviceGood, recordsVerdict, describedCountsGood}
+use Rattle.rules.specs.Write.{writeVerdict, write, describeVerdict, describe}
+use Rattle.rules.specs.WriteRows.{benchResources, writeRows, answered, describing}
 use Rattle.rules.specs.Power.{supported, ownSet, listedSet, stateNeeds, wakeNeeds, needs, neededBelow, needed, wakeRange}
 use Rattle.rules.specs.Power.{wakeFrom, wakePowered, wakeState, wakePair}
 use Rattle.rules.specs.Status.{entryAt, entryBytes, entriesOf, statusOf, imageOf, freshStatus, entryGood}
@@ -25,7 +31,7 @@ use Rattle.rules.specs.Check.{onWord, offWord, andThen, takeWords, mayCo
 use Rattle.rules.specs.Outcomes.{outcome, freshVerdict, fresh, requestStage, stagesVerdict, planned, planVerdict, stateAfter}
 use Rattle.rules.specs.Outcomes.{planWords, planBytes, checkWords, checkBytes, recordPart}
 use Rattle.rules.specs.Execution.{carryOut, execution}
-use Rattle.rules.specs.Rows.{rows, benchTable, benchDevices}
+use Rattle.rules.specs.Rows.{bytes, rows, benchTable, benchDevices}
 use Rattle.rules.specs.OwnStation.{ownTable, ownState, wideTable}
 use Rattle.rules.specs.OwnRows.{ownRows, callWords, otherWords}
 use Rattle.rules.specs.Holds.{same, answers, freshAnswers, startOf, stateOf, endState, leaves, wordRead, wordsRead, agree}
@@ -33,9 +39,10 @@ use Rattle.rules.specs.Holds.{changes, carried, checks, checksAll, holds
 
 pub all-hold : (wrong 1 rows ≡ []) × (wrong 1 ownRows ≡ [])
 unfolding member union minus single firstN subset readLE bytesLE put wordBytes byteWords leastFrom every below eachFrom passes firstOf
-    unless lowest width deviceStart resourceAt deviceAt stationOf headerGood countsGood lengthGood firstBad resourceGood parentGood
-    present setGood sxdGood sxwGood deepestGood headFields setFields sxdFields sxwFields lastFields deviceFields badField fieldsGood
-    objectsGood deviceRefusal deviceGood tableVerdict supported ownSet listedSet stateNeeds wakeNeeds needs neededBelow needed wakeRange
+    unless lowest versionGood versionWidth width deviceStart resourceAt deviceAt stationOf headerGood countsGood lengthGood firstBad
+    resourceGood parentGood present setGood sxdGood sxwGood deepestGood headFields setFields sxdFields sxwFields deepestFields valueFields
+    zeroFields deviceFields badField fieldsGood objectsGood fieldsOrObjects deviceGood tableVerdict supported ownSet listedSet stateNeeds
+    wakeNeeds needs neededBelow needed wakeRange
     wakeFrom wakePowered wakeState wakePair entryAt entryBytes entriesOf statusOf joinFrom imageOf freshStatus entryGood entryZero
     entriesGood onGood parentAllows wakeConsistent consistentButPower powered consistent valuesGood consistencyVerdict stateVerdict
     numbersGood formGood notShallowerOrD0 childBars wakeAllows moveVerdict armVerdict kindVerdict requestVerdict newEntry replaceEntry
@@ -60,11 +67,46 @@ pub in-order : (execution (member 0) (onWord 5 ∷ offWord 5 ∷ []) 5 ≡ false
 unfolding member carryOut execution
 in-order = (refl, refl)
 
--- the bench station is described byte for byte, and the descriptions of it and of the station of our own make their tables
+-- the bench station is described byte for byte, and the descriptions of it, of the station of our own and of one with large sets make their
+-- tables
 pub described-holds :
     (devicesOf benchTable ≡ benchDevices)
-    × (tableBytes 1 4 (resourcesOf benchTable) benchDevices ≡ benchTable)
-    × (tableBytes 1 4 (resourcesOf ownTable) (devicesOf ownTable) ≡ ownTable)
-unfolding readLE bytesLE below eachFrom joinFrom width deviceStart deviceAt fieldBytes resourcesOf devicesOf headerBytes recordBytes
-    tableBytes ownTable
-described-holds = (refl, refl, refl)
+    × (tableBytes 1 (resourcesOf benchTable) benchDevices ≡ benchTable)
+    × (tableBytes 1 (resourcesOf ownTable) (devicesOf ownTable) ≡ ownTable)
+    × (tableBytes 1 (resourcesOf wideTable) (devicesOf wideTable) ≡ wideTable)
+unfolding readLE bytesLE below eachFrom joinFrom versionWidth width deviceStart deviceAt fieldBytes resourcesOf devicesOf headerBytes
+    recordBytes tableBytes ownTable wideTable
+described-holds = (refl, refl, refl, refl)
+
+-- the writer answers as its rows say; describing answers 9 if either buffer is a byte short, after what is wrong with the table
+pub written-holds :
+    (map answered writeRows ≡ map (λ r. r .answer) writeRows)
+    × (describing benchTable 12 162 ≡ 0 ∷ 0 ∷ 174 ∷ [])
+    × (describing benchTable 11 162 ≡ 9 ∷ 0 ∷ 0 ∷ [])
+    × (describing benchTable 12 161 ≡ 9 ∷ 0 ∷ 0 ∷ [])
+    × (describing (put benchTable 12 (5 ∷ [])) 0 0 ≡ 4 ∷ 1 ∷ 0 ∷ [])
+    × (describing (bytes 8 0x5057540001000000) 0 0 ≡ 0 ∷ 0 ∷ 0 ∷ [])
+unfolding member readLE put leastFrom below eachFrom joinFrom passes firstOf unless lowest versionGood versionWidth width deviceStart
+    deviceAt
+    headerGood countsGood lengthGood firstBad allGood resourceGood parentGood present setGood sxdGood sxwGood deepestGood headFields
+    setFields sxdFields sxwFields deepestFields valueFields zeroFields deviceFields badField fieldsGood objectsGood fieldsOrObjects
+    deviceGood tableVerdict describedResourceGood describedFieldsGood describedDeviceGood recordsVerdict describedCountsGood writeVerdict
+    describeVerdict
+written-holds = (refl, refl, refl, refl, refl, refl)
+
+-- what is written and described stands at the front of the lent buffers, and what is refused leaves them
+pub lent-holds :
+    (write 1 benchResources benchDevices (replicate 142 7) .table ≡ benchTable ++ 7 ∷ 7 ∷ [])
+    × (write 1 benchResources benchDevices (replicate 139 7) .table ≡ replicate 139 7)
+    × (write 1 benchResources (put benchDevices 161 (1 ∷ [])) (replicate 142 7) .table ≡ replicate 142 7)
+    × (describe benchTable (replicate 13 7) (replicate 163 7) .resources ≡ benchResources ++ 7 ∷ [])
+    × (describe benchTable (replicate 13 7) (replicate 163 7) .devices ≡ benchDevices ++ 7 ∷ [])
+    × (describe benchTable (replicate 13 7) (replicate 161 7) .resources ≡ replicate 13 7)
+    × (describe benchTable (replicate 11 7) (replicate 163 7) .devices ≡ replicate 163 7)
+    × (describe (put benchTable 9 (1 ∷ [])) (replicate 13 7) (replicate 163 7) .devices ≡ replicate 163 7)
+unfolding member readLE bytesLE put leastFrom below eachFrom joinFrom passes firstOf unless lowest versionGood versionWidth width
+    deviceStart deviceAt fieldBytes headerGood countsGood lengthGood firstBad allGood resourceGood parentGood present setGood sxdGood
+    sxwGood deepestGood headFields setFields sxdFields sxwFields deepestFields valueFields zeroFields deviceFields badField fieldsGood
+    objectsGood fieldsOrObjects deviceGood tableVerdict resourcesOf devicesOf headerBytes recordBytes tableBytes describedResourceGood
+    describedFieldsGood describedDeviceGood recordsVerdict describedCountsGood writeVerdict describeVerdict write describe
+lent-holds = (refl, refl, refl, refl, refl, refl, refl, refl)

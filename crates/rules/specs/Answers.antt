@@ -44,7 +44,7 @@ abbrev pub placeOf : Verdict → ℕ
 placeOf (Done n) = 0
 placeOf (Refused why at) = at
 
--- its count: that of the calls where it is done, else 0
+-- its count where it is done, of calls or of bytes written, else 0
 abbrev pub countOf : Verdict → ℕ
 countOf (Done n) = n
 countOf (Refused why at) = 0

@@ -3,6 +3,7 @@ pub mod Answers
 pub mod Station
 pub mod Table
 pub mod Describe
+pub mod Write
 pub mod Power
 pub mod Status
 pub mod Request
@@ -16,3 +17,4 @@ pub mod Holds
 pub mod OwnStation
 pub mod Damaged
 pub mod OwnRows
+pub mod WriteRows

@@ -43,9 +43,20 @@ pub record Station : Type 0 where
 abbrev pub absent : ℕ
 absent = 255
 
--- the bytes of a set in a table: 4, for at most 32 resources
+-- which versions of table there are
+unfoldable pub versionGood : ℕ → Bool
+versionGood version = eqb version 1
+
+-- the bytes of a set in a table of a version: 4, for at most 32 resources
+unfoldable pub versionWidth : ℕ → ℕ
+versionWidth version = 4
+
+-- the version that a table's header states
+abbrev pub versionOf : List ℕ → ℕ
+versionOf t = readLE 2 t 4
+
 unfoldable pub width : List ℕ → ℕ
-width t = 4
+width t = versionWidth (versionOf t)
 
 -- a width of 4, or of 8 for larger sets, as facts on numbers
 pub record Wide (w : ℕ) : Type 0 where
@@ -61,9 +72,16 @@ limit w = 8 * w
 abbrev pub recordSize : ℕ → ℕ
 recordSize w = 16 + 6 * w
 
--- a record's fields end here; zeros follow to its end
+-- a record's fields end here, and so many zeros follow to its end
 abbrev pub fieldsSize : ℕ → ℕ
 fieldsSize w = 14 + 5 * w
+
+abbrev pub zerosSize : ℕ → ℕ
+zerosSize w = 2 + w
+
+-- the bytes of a table of R resources and D devices; so device D's record would start there
+abbrev pub tableSize : ℕ → ℕ → ℕ → ℕ
+tableSize w resources devices = 8 + 4 * resources + recordSize w * devices
 
 abbrev pub countR : List ℕ → ℕ
 countR t = getD t 3 0
@@ -75,7 +93,7 @@ abbrev pub resourceStart : ℕ → ℕ
 resourceStart r = 8 + 4 * r
 
 unfoldable pub deviceStart : ℕ → List ℕ → ℕ → ℕ
-deviceStart w t d = 8 + 4 * countR t + recordSize w * d
+deviceStart w t d = tableSize w (countR t) d
 
 unfoldable pub resourceAt : List ℕ → ℕ → Resource
 resourceAt t at = record { level = getD t at 0; order = readLE 2 t (at + 2) }

@@ -4,24 +4,35 @@ use mathlib.Core.Bool.{Bool, true, false, _&&_, _||_, not, cond}
 use mathlib.Core.List.{List, [], _∷_, _++_}
 use lib.ListN.{length, getD}
 use lib.Dec.{eqb, leb, ltb}
-use Rattle.words.specs.Words.{readLE}
 use Rattle.rules.specs.declared.Verdict.{Verdict}
 use Rattle.rules.specs.declared.Verdict.the-variants.{Done, Refused}
 use Rattle.rules.specs.declared.Reason.the-variants.{NotATable, TooMany, WrongLength, BadResource, BadDevice, BadObjects}
 use Rattle.rules.specs.Index.{each}
 use Rattle.rules.specs.Answers.{firstOf, unless, lowest}
-use Rattle.rules.specs.Station.{Device, absent, width, limit, recordSize, countR, countD, resourceStart, deviceStart, deviceAt}
+use Rattle.rules.specs.Station.{Device, absent, versionGood, versionOf, width, limit, recordSize, countR, countD, resourceStart}
+use Rattle.rules.specs.Station.{zerosSize, deviceStart, deviceAt}
 use Rattle.rules.specs.Station.{hasPS, hasPR, hasPRW, hasDSW}
 
--- 1: the table has its 8 bytes, the mark PWT, version 1 and a zero at byte 7
+-- the letters PWT
+abbrev pub mark : List ℕ
+mark = 0x50 ∷ 0x57 ∷ 0x54 ∷ []
+
+-- 1: the table has its 8 bytes, the mark, a version that there is and a zero at byte 7
 unfoldable pub headerGood : List ℕ → Bool
 headerGood t =
-    leb 8 (length t) && eqb (getD t 0 0) 0x50 && eqb (getD t 1 0) 0x57 && eqb (getD t 2 0) 0x54 && eqb (readLE 2 t 4) 1
+    leb 8 (length t)
+    && eqb (getD t 0 0) (getD mark 0 0)
+    && eqb (getD t 1 0) (getD mark 1 0)
+    && eqb (getD t 2 0) (getD mark 2 0)
+    && versionGood (versionOf t)
     && eqb (getD t 7 0) 0
 
 -- 2: at most as many resources and devices as the width allows, 32
+abbrev pub countsFit : ℕ → ℕ → ℕ → Bool
+countsFit w resources devices = leb resources (limit w) && leb devices (limit w)
+
 unfoldable pub countsGood : List ℕ → Bool
-countsGood t = leb (countR t) (limit (width t)) && leb (countD t) (limit (width t))
+countsGood t = countsFit (width t) (countR t) (countD t)
 
 -- 3: the bytes end where a record D would start: 8 + 4R + 40D for a width of 4
 unfoldable pub lengthGood : List ℕ → Bool
@@ -40,13 +51,18 @@ unfoldable pub firstBad : ℕ → List Field → ℕ
 firstBad end [] = end
 firstBad end (f ∷ fs) = elim (f .good) [ true ↦ firstBad end fs | false ↦ f .at ]
 
+-- every field of a list is good
+unfoldable pub allGood : List Field → Bool
+allGood [] = true
+allGood (f ∷ fs) = f .good && allGood fs
+
 -- systemlevel 0 to 4; zero; any resourceorder
 abbrev pub resourceFields : List ℕ → ℕ → List Field
 resourceFields t at = field 0 (leb (getD t at 0) 4) ∷ field 1 (eqb (getD t (at + 1) 0) 0) ∷ []
 
--- 4: every field of the resource's record is good
+-- 4: every field of the resource's record is good, which starts at a byte
 unfoldable pub resourceGood : List ℕ → ℕ → Bool
-resourceGood t r = eqb (firstBad 4 (resourceFields t (resourceStart r))) 4
+resourceGood t at = eqb (firstBad 4 (resourceFields t at)) 4
 
 -- a parent is lower than its child; 255 for none
 unfoldable pub parentGood : ℕ → Device → Bool
@@ -87,16 +103,21 @@ sxdFields w v = each (λ k. field (4 + 5 * w + k) (sxdGood v (k + 1))) 4
 unfoldable pub sxwFields : ℕ → Device → List Field
 sxwFields w v = each (λ x. field (8 + 5 * w + x) (sxwGood v x)) 5
 
--- deepest, then zeros to the record's end
-unfoldable pub lastFields : ℕ → List ℕ → ℕ → Device → List Field
-lastFields w t at v = field (13 + 5 * w) (deepestGood v) ∷
-    each (λ k. field (14 + 5 * w + k) (eqb (getD t (at + 14 + 5 * w + k) 0) 0)) (2 + w)
+-- the deepest sleep state
+unfoldable pub deepestFields : ℕ → Device → List Field
+deepestFields w v = field (13 + 5 * w) (deepestGood v) ∷ []
 
--- all fields of device d in a table of R resources, its record starting at a byte
+-- all that device d's own values decide, among R resources
+unfoldable pub valueFields : ℕ → ℕ → ℕ → Device → List Field
+valueFields w resources d v = headFields d v ++ setFields w resources v ++ sxdFields w v ++ sxwFields w v ++ deepestFields w v
+
+-- zeros to the record's end
+unfoldable pub zeroFields : ℕ → List ℕ → ℕ → List Field
+zeroFields w t at = each (λ k. field (14 + 5 * w + k) (eqb (getD t (at + 14 + 5 * w + k) 0) 0)) (zerosSize w)
+
+-- all fields of device d's record, which starts at a byte of a table of R resources
 unfoldable pub deviceFields : ℕ → ℕ → List ℕ → ℕ → ℕ → List Field
-deviceFields w resources t d at =
-    let v = deviceAt w t at in
-    headFields d v ++ setFields w resources v ++ sxdFields w v ++ sxwFields w v ++ lastFields w t at v
+deviceFields w resources t d at = valueFields w resources d (deviceAt w t at) ++ zeroFields w t at
 
 -- where in device d's record the first bad field starts, else the record's size
 unfoldable pub badField : List ℕ → ℕ → ℕ
@@ -114,9 +135,12 @@ objectsGood v =
     && (eqb (v .ps) 0 || eqb (v .pr) 0 || eqb (v .ps % 8) (v .pr % 8))
     && (not (hasDSW v) || hasPRW v)
 
--- 5 or 6 of a device that is not good, 5 first
-unfoldable pub deviceRefusal : List ℕ → ℕ → Verdict
-deviceRefusal t d = Refused (cond (fieldsGood t d) BadObjects BadDevice) d
+-- 5 or 6 of a device that is not good, 5 unless its fields are good
+unfoldable pub fieldsOrObjects : Bool → ℕ → Verdict
+fieldsOrObjects fields d = Refused (cond fields BadObjects BadDevice) d
+
+abbrev pub deviceRefusal : List ℕ → ℕ → Verdict
+deviceRefusal t d = fieldsOrObjects (fieldsGood t d) d
 
 unfoldable pub deviceGood : List ℕ → ℕ → Bool
 deviceGood t d = fieldsGood t d && objectsGood (deviceAt (width t) t (deviceStart (width t) t d))
@@ -128,7 +152,7 @@ tableVerdict t =
     (unless (headerGood t) NotATable 0
     ∷ unless (countsGood t) TooMany 0
     ∷ unless (lengthGood t) WrongLength 0
-    ∷ lowest (λ r. not (resourceGood t r)) (countR t) (Refused BadResource)
+    ∷ lowest (λ r. not (resourceGood t (resourceStart r))) (countR t) (Refused BadResource)
     ∷ lowest (λ d. not (deviceGood t d)) (countD t) (deviceRefusal t)
     ∷ [])
     (Done 0)

@@ -60,7 +60,7 @@ pub struct State {
     pub on: u32,
 }
 
-// Why a table, a state, a request or a list is refused, in the order of the answers' numbers, 1 to 19.
+// Why a table, a state, a request, a list, a description or a buffer is refused, in the order of the answers' numbers, 1 to 19.
 pub enum Reason {
     NotATable,
     TooMany,
@@ -89,7 +89,8 @@ pub enum Reason {
     NotConforming,
 }
 
-// An answer: done with a count, of calls where the planner answers and else 0, or refused with a place, 0 where the reason names none.
+// An answer: done with a count, of the planner's calls or of the bytes that write and describe have written, else 0; or refused with a
+// place, 0 where the reason names none.
 pub enum Verdict {
     Done(usize),
     Refused(Reason, usize),

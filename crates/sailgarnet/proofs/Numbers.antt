@@ -1,8 +1,10 @@
 -- An answer as one number: from its three parts, read back, and handed on.
 use mathlib.Core.Path.{_≡_, refl}
 use mathlib.Core.List.{List}
-use Prim.Native.Nat.{ℕ, _+_, _*_, _/_, _%_, _<_}
+use Prim.Native.Nat.{ℕ, _+_, _*_, _/_, _%_, _≤_, _<_}
+use native.Mathlib.Nat.{mul-le-mul-right}
 use native.Mathlib.Omega.{arith}
+use lib.ListN.{length}
 use Rattle.rules.specs.declared.Request.{Request}
 use Rattle.rules.specs.declared.Verdict.{Verdict}
 use Rattle.rules.specs.declared.Verdict.the-variants.{Done, Refused}
@@ -11,14 +13,18 @@ use Rattle.rules.specs.declared.Reason.the-variants.{NotATable, TooMany, WrongL
 use Rattle.rules.specs.declared.Reason.the-variants.{Inconsistent, NoRoom, BadRequest, Unsupported, Shallower, ParentDeeper}
 use Rattle.rules.specs.declared.Reason.the-variants.{ChildShallower, TooDeepToWake, NoWake, WakeUnpowered, BadWakeState, NotConforming}
 use Rattle.rules.specs.Answers.{reasonNumber, numberOf, placeOf, countOf}
-use Rattle.rules.specs.Station.{width}
-use Rattle.rules.specs.Outcomes.{outcome, fresh, planBytes, checkBytes}
-use Rattle.rules.proofs.Width.{width-wide}
+use Rattle.rules.specs.Station.{versionWidth, width, Wide, recordSize}
+use Rattle.rules.specs.Outcomes.{outcome, planRoom, fresh, planBytes, checkBytes}
+use Rattle.rules.specs.Write.{write, describe}
+use Rattle.rules.proofs.Width.{version-wide, width-wide}
+use Rattle.laws.specs.Inverse.{AllBytes, WrittenDescribes, DescribedMakes, AnswersAsReader}
 use Rattle.laws.specs.Demand2.{Demand2Bytes}
 use Rattle.laws.proofs.Demand2.{demand2-bytes}
-use Rattle.laws.proofs.Bounds.{Bounded, fresh-bounded, plan-bounded, check-bounded}
+use Rattle.laws.proofs.Bounds.{Bounded, fresh-bounded, plan-bounded, check-bounded, mostWritten, mostDescribed, write-bounded}
+use Rattle.laws.proofs.Bounds.{describe-bounded}
+use Rattle.laws.proofs.Inverse.{write-inverse, describe-inverse, write-answers}
 use Rattle.sailgarnet.proofs.Outer.{planned-short}
-use Rattle.sailgarnet.specs.Packed.{numberIn, countIn, packed, Reads}
+use Rattle.sailgarnet.specs.Packed.{numberIn, countIn, placeIn, packed, Reads}
 
 reason-small : (why : Reason) → reasonNumber why < 0x100
 reason-small NotATable = omega arith
@@ -61,23 +67,61 @@ pack-is v n c p e f g h =
     let is : n + 0x100 * c + 0x100_0000 * p ≡ packed v = unfold packed in rw (e, f, g) refl in
     (is, rw is (packed-reads v h))
 
--- ---- what each of the board's functions hands on is small enough, and is its definition's
-pub fits : (t : List ℕ) (v w : Verdict) → v ≡ w → Bounded (width t) w → (countOf v < 0x1_0000) × (placeOf v < 0x100_0000_0000)
-fits t v w e b = let h = width-wide t .high in rw e (omega (arith, b .count), omega (arith, b .place))
+-- ---- what each of the functions for C hands on is small enough, and is its definition's
+abbrev pub Small : Verdict → Type 0
+Small v = (countOf v < 0x1_0000) × (placeOf v < 0x100_0000_0000)
+
+small : (w most : ℕ) (v : Verdict) → Wide w → most < 0x1_0000 → Bounded w most v → Small v
+small w most v h m b = (omega (arith, b .count), omega (arith, b .place))
+
+pub fits : (v w : Verdict) → v ≡ w → Small w → Small v
+fits v w e s = rw e s
 
 pub packs : (v w : Verdict) (r : ℕ) → v ≡ w → (r ≡ packed v) × Reads r v → (r ≡ packed w) × Reads r w
 packs v w r e f = rw (← e) f
 
-pub fresh-fits : (t b : List ℕ) → Bounded (width t) (fresh t b .verdict)
-unfolding fresh outcome
-fresh-fits t b = fresh-bounded t b
+module _ (t : List ℕ) where
+  pub fresh-fits : (b : List ℕ) → Small (fresh t b .verdict)
+  unfolding fresh outcome
+  fresh-fits b = small (width t) 0 _ (width-wide t) (omega arith) (fresh-bounded t 0 b)
 
-pub plan-fits : (t b : List ℕ) (q : Request) (plan : List ℕ) → Bounded (width t) (planBytes t b q plan .verdict)
-unfolding planBytes outcome
-plan-fits t b q plan = plan-bounded t b q _ (planned-short t b q)
+  pub plan-fits : (b : List ℕ) (q : Request) (plan : List ℕ) → Small (planBytes t b q plan .verdict)
+  unfolding planBytes outcome
+  plan-fits b q plan =
+      let h = width-wide t in
+      small (width t) (planRoom (width t)) _ h (omega arith) (plan-bounded t (planRoom (width t)) b q _ (planned-short t b q))
 
-pub check-fits : (t b : List ℕ) (q : Request) (list : List ℕ) → Bounded (width t) (checkBytes t b q list)
-check-fits t b q list = check-bounded t b q list
+  pub check-fits : (b : List ℕ) (q : Request) (list : List ℕ) → Small (checkBytes t b q list)
+  check-fits b q list = small (width t) 0 _ (width-wide t) (omega arith) (check-bounded t 0 b q list)
+
+  pub describe-fits : (rs ds : List ℕ) → Small (describe t rs ds .verdict)
+  unfolding describe
+  describe-fits rs ds =
+      let h = width-wide t in
+      small (width t) (mostDescribed (width t)) _ h (omega arith) (describe-bounded t (length rs) (length ds))
+
+pub write-fits : (version : ℕ) (rs ds table : List ℕ) → Small (write version rs ds table .verdict)
+unfolding write
+write-fits version rs ds table =
+    let w = versionWidth version in
+    let h = version-wide version in
+    let n : recordSize w * (8 * w) ≤ 64 * (8 * w) = mul-le-mul-right (8 * w) (omega arith) in
+    small w (mostWritten w) _ h (omega (arith, n)) (write-bounded version rs ds (length table))
+
+-- ---- what write and describe leave, with number and count as they are read from the packed answer
+pub written-inverse : (version : ℕ) (rs ds table : List ℕ) (r : ℕ) (table′ : List ℕ) → AllBytes ds
+    → Reads r (write version rs ds table .verdict)
+    → table′ ≡ write version rs ds table .table → WrittenDescribes rs ds (numberIn r) (countIn r) table′
+written-inverse version rs ds table r table′ bytes a e = rw (a .number, a .count, e) (write-inverse version rs ds table bytes)
+
+pub answers-as-reader : (version : ℕ) (rs ds table : List ℕ) (r : ℕ) → Reads r (write version rs ds table .verdict)
+    → AnswersAsReader version rs ds (length table) (numberIn r) (placeIn r)
+unfolding write
+answers-as-reader version rs ds table r a = rw (a .number, a .place) (write-answers version rs ds (length table))
+
+pub described-inverse : (t rs ds : List ℕ) (r : ℕ) (rs′ ds′ : List ℕ) → AllBytes t → Reads r (describe t rs ds .verdict)
+    → rs′ ≡ describe t rs ds .resources → ds′ ≡ describe t rs ds .devices → DescribedMakes t (numberIn r) rs′ ds′
+described-inverse t rs ds r rs′ ds′ bytes a e f = rw (a .number, e, f) (describe-inverse t rs ds bytes)
 
 -- ---- what the planner on bytes leaves keeps demand 2, with number and count as they are read from the packed answer
 pub bytes-demand : (t b : List ℕ) (q : Request) (plan : List ℕ) (r : ℕ) (b′ plan′ : List ℕ) → Reads r (planBytes t b q plan .verdict)

@@ -12,7 +12,7 @@ use Rattle.words.specs.Words.{put, byteWords}
 use Rattle.words.proofs.Laws.{byte-words-length}
 use Rattle.words.proofs.Put.{length-put, take-put}
 use Rattle.rules.specs.declared.Request.{Request}
-use Rattle.rules.specs.Station.{width, limit, stationOf, station}
+use Rattle.rules.specs.Station.{versionWidth, width, limit, stationOf, station}
 use Rattle.rules.specs.Status.{status}
 use Rattle.rules.specs.Calls.{toTurnOn, toTurnOff}
 use Rattle.rules.specs.Check.{conforming}
@@ -27,7 +27,7 @@ use Rattle.sailgarnet.proofs.Long.{conforms-long}
 
 -- 33 words are room for any plan
 pub room-33 : (t : List ℕ) → planRoom (width t) ≡ 33
-unfolding width
+unfolding versionWidth width
 room-33 t = refl
 
 -- ---- a list that conforms, the planner's own among them, fits a plan

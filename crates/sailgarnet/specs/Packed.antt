@@ -1,4 +1,4 @@
--- What the board's functions take and give: a request as four numbers (RULES.md 2.8), an answer as one (RULES.md 9.5).
+-- What the functions for C take and give: a request as four numbers (RULES.md 2.8), an answer as one (RULES.md 9.5).
 use mathlib.Core.Path.{_≡_}
 use Prim.Native.Nat.{ℕ, _+_, _*_, _/_, _%_}
 use Rattle.rules.specs.declared.Request.{Request}

@@ -23,7 +23,7 @@ pub fn plan_bytes(table: &[u8], state: &mut [u8], q: Request, plan: &mut [u8]) -
         × (now (plan .exit) ≡ planBytes (now (table .entry)) (now (state .entry)) q (now (plan .entry)) .plan) ⌝ }
 {
     let room = plan.len() >= 4 * planner::plan::room(table);
-    if !table::header_good(table) {
+    if !table::header::header_good(table) {
         return Verdict::Refused(Reason::NotATable, 0);
     }
     let of_table = table::check_past_header(table);
@@ -63,7 +63,7 @@ pub fn check_bytes(table: &[u8], state: &[u8], q: Request, list: &[u8]) -> Verdi
     ensures answer { λ r. ⌜ r ≡ checkBytes (now (table .entry)) (now (state .entry)) q (now (list .entry)) ⌝ }
     ensures demand { λ _. ⌜ Demand3Bytes (now (table .entry)) (now (state .entry)) q (now (list .entry)) ⌝ }
 {
-    if !table::header_good(table) {
+    if !table::header::header_good(table) {
         return Verdict::Refused(Reason::NotATable, 0);
     }
     let of_table = table::check_past_header(table);

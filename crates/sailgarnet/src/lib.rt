@@ -1,15 +1,18 @@
-// The board's functions: numbers and byte slices in, one number out.
+// The functions for C: numbers and byte slices in, one number out.
 pub mod buffers;
 
 use rules::Request;
 use rules::Verdict;
 ghost use mathlib.Core.Path.{_≡_};
 ghost use Prim.Native.Nat.{_<_};
+ghost use lib.ListN.{length};
 ghost use Rattle.rules.specs.Answers.{placeOf, countOf};
 ghost use Rattle.rules.specs.Outcomes.{fresh, planBytes, checkBytes};
+ghost use Rattle.rules.specs.Write.{write, describe};
+ghost use Rattle.laws.specs.Inverse.{WrittenDescribes, DescribedMakes, AnswersAsReader};
 ghost use Rattle.laws.specs.Demand2.{Demand2Bytes};
 ghost use Rattle.laws.specs.Demand3.{Demand3Bytes};
-ghost use Rattle.sailgarnet.specs.Packed.{packed, numberIn, countIn, Reads, asked};
+ghost use Rattle.sailgarnet.specs.Packed.{packed, numberIn, countIn, placeIn, Reads, asked};
 
 // An answer as one number: its number in bits 0 to 7, its count in bits 8 to 23, its place in bits 24 to 63.
 fn pack(v: Verdict) -> u64
@@ -69,4 +72,36 @@ pub extern "C" fn sailgarnet_check(
     ensures demand { λ _. ⌜ Demand3Bytes (now (table .entry)) (now (state .entry)) (asked kind device a b) (now (list .entry)) ⌝ }
 {
     pack(crate::buffers::check_bytes(table, state, Request { kind, device, a, b }, list))
+}
+
+#[no_mangle]
+pub extern "C" fn sailgarnet_write(
+    version: u32,
+    resources: &[u8],
+    devices: &[u8],
+    table: &mut [u8],
+) -> u64
+    ensures answer { λ r. ⌜ (r ≡ packed (write version (now (resources .entry)) (now (devices .entry)) (now (table .entry)) .verdict))
+        × Reads r (write version (now (resources .entry)) (now (devices .entry)) (now (table .entry)) .verdict) ⌝ }
+    ensures table { λ _. ⌜ now (table .exit) ≡ write version (now (resources .entry)) (now (devices .entry))
+        (now (table .entry)) .table ⌝ }
+    ensures reader { λ r. ⌜ AnswersAsReader version (now (resources .entry)) (now (devices .entry)) (length (now (table .entry)))
+        (numberIn r) (placeIn r) ⌝ }
+    ensures inverse { λ r. ⌜ WrittenDescribes (now (resources .entry)) (now (devices .entry)) (numberIn r) (countIn r)
+        (now (table .exit)) ⌝ }
+{
+    pack(writer::write::write(version, resources, devices, table))
+}
+
+#[no_mangle]
+pub extern "C" fn sailgarnet_describe(table: &[u8], resources: &mut [u8], devices: &mut [u8]) -> u64
+    ensures answer { λ r. ⌜ (r ≡ packed (describe (now (table .entry)) (now (resources .entry)) (now (devices .entry)) .verdict))
+        × Reads r (describe (now (table .entry)) (now (resources .entry)) (now (devices .entry)) .verdict) ⌝ }
+    ensures resources { λ _. ⌜ now (resources .exit) ≡ describe (now (table .entry)) (now (resources .entry))
+        (now (devices .entry)) .resources ⌝ }
+    ensures devices { λ _. ⌜ now (devices .exit) ≡ describe (now (table .entry)) (now (resources .entry))
+        (now (devices .entry)) .devices ⌝ }
+    ensures inverse { λ r. ⌜ DescribedMakes (now (table .entry)) (numberIn r) (now (resources .exit)) (now (devices .exit)) ⌝ }
+{
+    pack(writer::describe::describe(table, resources, devices))
 }

@@ -14,7 +14,7 @@ use Rattle.rules.specs.declared.Verdict.the-variants.{Done, Refused}
 use Rattle.rules.specs.declared.Reason.the-variants.{BadState, Inconsistent}
 use Rattle.rules.specs.Index.{least}
 use Rattle.rules.specs.Answers.{passes, firstOf, unless, lowest}
-use Rattle.rules.specs.Station.{width, limit, countR, stationOf, station}
+use Rattle.rules.specs.Station.{versionWidth, width, limit, countR, stationOf, station}
 use Rattle.rules.specs.Table.{tableVerdict}
 use Rattle.rules.specs.Status.{entries, statusOf, status, imageSize, entriesGood, onGood, valuesGood, consistencyVerdict, stateVerdict}
 use Rattle.rules.specs.Outcomes.{outcome, freshVerdict, fresh, tableAndStateVerdict}
@@ -140,7 +140,7 @@ module _ (t b : List ℕ) (v : Verdict) (p : Bool) (e : v ≡ tableVerdict t) (f
 
 -- the size of an image, which code may write as a number
 pub size-132 : (t : List ℕ) (n k : ℕ) → k ≡ imageSize (width t) → n ≡ k → n ≡ 132
-unfolding width
+unfolding versionWidth width
 size-132 t n k e f = f ∙ e
 
 pub ruleset fresh-laws = (

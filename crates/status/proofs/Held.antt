@@ -16,7 +16,7 @@ use Rattle.words.proofs.Laws.{bytes-length}
 use Rattle.words.proofs.Put.{Emitted, emitted-run, put-all}
 use Rattle.rules.specs.declared.State.{State}
 use Rattle.rules.specs.declared.Entry.{Entry}
-use Rattle.rules.specs.Station.{Station, width, limit, countD, station}
+use Rattle.rules.specs.Station.{Station, versionWidth, width, limit, countD, station}
 use Rattle.rules.specs.Index.{joinFrom}
 use Rattle.rules.specs.Status.{noEntry, entryAt, entryBytes, entriesSize, entriesOf, entries, statusOf, status, entriesBytes, imageOf}
 use Rattle.rules.specs.Status.{imageSize, freshStatus}
@@ -67,11 +67,11 @@ entry-is t b d e z h q = q ∙ sym (entry-in (width t) b d (omega (arith, z .dev
 
 -- the size of an image and its on-set, at the table's width
 pub on-read : (t b : List ℕ) (w v : ℕ) → w ≡ width t → v ≡ readLE 4 b (32 * w) → v ≡ status t b .on
-unfolding width statusOf
+unfolding versionWidth width statusOf
 on-read t b w v e q = q ∙ ap (λ (n : ℕ). readLE 4 b (32 * n)) e
 
 pub on-inside : (t b : List ℕ) (w : ℕ) → w ≡ width t → length b ≡ imageSize (width t) → 32 * w + 4 ≤ length b
-unfolding width
+unfolding versionWidth width
 on-inside t b w e h = omega arith
 
 -- ---- what is loaded
@@ -150,7 +150,7 @@ fresh-status s =
     rw (entries-ext 4 (replicate 128 0) (λ k. noEntry) none (λ k h. refl)) refl
 
 pub fresh-image : (t : List ℕ) → storeState (freshState (station t .resources)) ≡ imageOf (width t) (freshStatus (station t))
-unfolding width freshState
+unfolding versionWidth width freshState
 fresh-image t = sym (image-of (freshState (station t .resources)) (length-replicate {A = ℕ} 128 0))
     ∙ ap (imageOf 4) (fresh-status (station t))
 

@@ -14,7 +14,7 @@ use Rattle.sets.proofs.Laws.{decide}
 use Rattle.rules.specs.declared.State.{State}
 use Rattle.rules.specs.declared.Entry.{Entry}
 use Rattle.rules.specs.declared.Request.{Request}
-use Rattle.rules.specs.Station.{width, limit, station}
+use Rattle.rules.specs.Station.{versionWidth, width, limit, station}
 use Rattle.rules.specs.Status.{entryAt, entryBytes, entriesOf, statusOf, status, imageOf, imageSize}
 use Rattle.rules.specs.Request.{newEntry, replaceEntry, entriesAfter}
 use Rattle.rules.specs.Calls.{endSet, statusAfter}
@@ -89,7 +89,7 @@ with-long st d e = length-sets (st .devices) (4 * d) (entryBytes e)
 pub after-image : (t b : List ℕ) (q : Request) (e : Entry) (on : ℕ) → length b ≡ imageSize (width t) → q .device < limit (width t)
     → e ≡ newEntry (status t b .entries (q .device)) q → on ≡ endSet (station t) (status t b .entries) q
     → storeState (record { devices = withEntry (loadState b) (q .device) e .devices; on = on }) ≡ stateAfter t b q
-unfolding width statusAfter statusIn stateAfter
+unfolding versionWidth width statusAfter statusIn stateAfter
 after-image t b q e on l h n f =
     let st = loadState b in
     let long : length (st .devices) ≡ 128 = unfold loadState in length-take-le 128 b (omega arith) in

@@ -6,12 +6,12 @@ use Prim.Native.Nat.{ℕ, _+_, _*_, _^_, _<_, _≤_}
 use native.Mathlib.Omega.{arith}
 use lib.ListN.{length, getD}
 use Rattle.words.specs.Words.{readLE}
-use Rattle.rules.specs.Station.{Device, width, Wide, recordSize, countR, countD, deviceStart, resourceAt, deviceAt, station}
+use Rattle.rules.specs.Station.{Device, width, Wide, recordSize, tableSize, countR, countD, deviceStart, resourceAt, deviceAt, station}
 use Rattle.rules.proofs.Width.{width-is}
 use Rattle.laws.proofs.Accepted.{record-inside, resource-at, device-at}
 use Rattle.table.specs.Layout.{WellSized}
 
--- ---- the only laws that say what the width is: it is 4, so that the counts are at most 32 and a set has 32 bits
+-- ---- the only laws that say what the width of a table is: it is 4, so that the counts are at most 32 and a set has 32 bits
 pub width-four : (t : List ℕ) → 4 ≡ width t
 width-four t = rw (width-is t) refl
 
@@ -25,14 +25,15 @@ pub set-narrow : (t : List ℕ) (w v : ℕ) → w ≡ width t → v < 256 ^ w �
 set-narrow t w v e h = rw (e, width-is t) at h
 
 -- ---- where a record starts, and that it ends inside the table
-module _ (t : List ℕ) (d r w : ℕ) (e : r ≡ countR t) (f : w ≡ width t) where
-  pub start-8 : w ≡ 8 → 8 + 4 * r + 64 * d ≡ deviceStart (width t) t d
-  unfolding deviceStart
-  start-8 g = rw (← f, g, e) (omega arith)
+pub size-8 : (w r d : ℕ) → w ≡ 8 → 8 + 4 * r + 64 * d ≡ tableSize w r d
+size-8 w r d g = rw g (omega arith)
 
-  pub start-4 : Wide w → (w ≡ 8 → ⊥) → 8 + 4 * r + 40 * d ≡ deviceStart (width t) t d
-  unfolding deviceStart
-  start-4 h n = let g : w ≡ 4 = omega arith in rw (← f, g, e) (omega arith)
+pub size-4 : (w r d : ℕ) → Wide w → (w ≡ 8 → ⊥) → 8 + 4 * r + 40 * d ≡ tableSize w r d
+size-4 w r d h n = let g : w ≡ 4 = omega arith in rw g (omega arith)
+
+pub start-is : (t : List ℕ) (d r w s : ℕ) → r ≡ countR t → w ≡ width t → s ≡ tableSize w r d → s ≡ deviceStart (width t) t d
+unfolding deviceStart
+start-is t d r w s e f g = rw (← f, ← e) g
 
 pub inside : (t : List ℕ) (d s : ℕ) → s ≡ deviceStart (width t) t d → WellSized t → d < countD t → s + recordSize (width t) ≤ length t
 inside t d s e z h = rw e (record-inside t d (z .long) h)
@@ -55,4 +56,4 @@ pub field-at : (f : Device → ℕ → ℕ) (t : List ℕ) (d at w x v : ℕ) �
     → v ≡ f (deviceAt w t at) x → v ≡ f (station t .device d) x
 field-at f t d at w x v e h g k = rw (device-at (width t) t d h, ← e, ← g) k
 
-pub ruleset field-laws = (width-four, resources-few, devices-few, set-narrow, start-8, start-4, inside, level-is, order-is)
+pub ruleset field-laws = (width-four, resources-few, devices-few, set-narrow, size-8, size-4, start-is, inside, level-is, order-is)

@@ -4,31 +4,30 @@ use mathlib.Core.Path.{_≡_, refl, sym, ap, _∙_}
 use mathlib.Core.Bool.{Bool, true, false, not, _&&_}
 use mathlib.Core.List.{List, [], _∷_}
 use Prim.Native.Nat.{ℕ, _+_, _*_, _-_, _<_, _≤_}
-use native.Mathlib.Nat.{sub-zero, add-sub-cancel-left}
+use native.Mathlib.Nat.{mul-zero, add-sub-cancel-left}
 use native.Mathlib.Omega.{arith}
 use borrow.Author.Tests.{eqb-true, leb-true, eq-eqb, lt-ltb, le-ltb, le-leb, lt-leb, not-true, not-false}
 use lib.Dec.{eqb, leb}
 use lib.ListN.{length, getD, take, drop}
-use Rattle.words.specs.Words.{readLE}
 use Rattle.rules.specs.declared.Verdict.{Verdict}
 use Rattle.rules.specs.declared.Verdict.the-variants.{Done, Refused}
 use Rattle.rules.specs.declared.Reason.{Reason}
 use Rattle.rules.specs.declared.Reason.the-variants.{NotATable, TooMany, WrongLength, BadResource, BadDevice, BadObjects}
-use Rattle.rules.specs.Index.{leastFrom, least}
+use Rattle.rules.specs.Index.{least}
 use Rattle.rules.specs.Answers.{passes, firstOf, unless, lowest}
-use Rattle.rules.specs.Station.{width, limit, recordSize, countR, countD, deviceStart, deviceAt}
+use Rattle.rules.specs.Station.{versionGood, versionOf, width, limit, recordSize, countR, countD, resourceStart, deviceStart}
 use Rattle.rules.specs.Table.{firstBad, deviceFields, headerGood, countsGood, lengthGood, resourceGood, badField, fieldsGood}
-use Rattle.rules.specs.Table.{objectsGood, deviceRefusal, deviceGood, tableVerdict}
+use Rattle.rules.specs.Table.{fieldsOrObjects, deviceRefusal, deviceGood, tableVerdict}
 use Rattle.rules.specs.Outcomes.{recordPart}
-use Rattle.rules.proofs.Index.{found, next, done}
 use Rattle.rules.proofs.Answers.{done-passes, refused-stops, first-pass, first-stop, first-none, first-through, unless-of, unless-stop}
 use Rattle.rules.proofs.Answers.{lowest-stop}
 use Rattle.rules.proofs.Width.{width-wide}
 use Rattle.laws.proofs.Accepted.{accepted, refuses}
+use Rattle.laws.proofs.Every.{least-ext}
 use Rattle.laws.proofs.Tests.{both-true}
 use Rattle.table.specs.Layout.{WellSized}
-use Rattle.record.specs.Good.{allGood}
-use Rattle.record.proofs.AllGood.{device-good}
+use Rattle.record.specs.Good.{goodWith}
+use Rattle.record.proofs.AllGood.{table-record}
 
 -- ---- each check, on the bytes
 module _ (t : List ℕ) where
@@ -36,10 +35,10 @@ module _ (t : List ℕ) where
   unfolding headerGood
   too-short h = rw (lt-leb 8 (length t) h)
 
-  pub header-test : (v : ℕ) → 8 ≤ length t → v ≡ readLE 2 t 4
-      → eqb (getD t 0 0) 0x50 && eqb (getD t 1 0) 0x57 && eqb (getD t 2 0) 0x54 && eqb v 1 && eqb (getD t 7 0) 0 ≡ headerGood t
+  pub header-test : (v : ℕ) (b : Bool) → 8 ≤ length t → v ≡ versionOf t → b ≡ versionGood v
+      → eqb (getD t 0 0) 0x50 && eqb (getD t 1 0) 0x57 && eqb (getD t 2 0) 0x54 && b && eqb (getD t 7 0) 0 ≡ headerGood t
   unfolding headerGood
-  header-test v h e = rw (le-leb 8 (length t) h, e)
+  header-test v b h e f = rw (le-leb 8 (length t) h, f, e)
 
   pub counts-test : (r d most : ℕ) → r ≡ countR t → d ≡ countD t → most ≡ limit (width t) → leb r most && leb d most ≡ countsGood t
   unfolding countsGood
@@ -54,28 +53,12 @@ module _ (t : List ℕ) where
     unfolding fieldsGood badField
     fields-test n s g h = rw (g, h, e, i, f) refl
 
-    -- b: every field of the device's record is good
-    module _ (b : Bool) (g : b ≡ allGood (deviceFields w r t d at)) where
-      fields-are : fieldsGood t d ≡ b
-      fields-are = sym (fields-test _ _ refl refl) ∙ device-good w r t d at ∙ sym g
-
-      pub field-refused : not b ≡ true → true ≡ not (deviceGood t d)
-      unfolding deviceGood
-      field-refused p = rw (fields-are ∙ not-true b p) refl
-
-      pub objects-decide : (o : Bool) → o ≡ objectsGood (deviceAt w t at) → not b ≡ false → not o ≡ not (deviceGood t d)
-      unfolding deviceGood
-      objects-decide o h p = rw (fields-are ∙ not-false b p, h, e, i) refl
-
-  pub resource-bad : (r : ℕ) (b : Bool) → b ≡ resourceGood t r → not b ≡ not (resourceGood t r)
-  resource-bad r b e = ap not e
-
   pub refused-6 : (d : ℕ) (f : Bool) → f ≡ fieldsGood t d → f ≡ true → Refused BadObjects d ≡ deviceRefusal t d
-  unfolding deviceRefusal
+  unfolding fieldsOrObjects
   refused-6 d f e p = rw (← e, p)
 
   pub refused-5 : (d : ℕ) (f : Bool) → f ≡ fieldsGood t d → f ≡ false → Refused BadDevice d ≡ deviceRefusal t d
-  unfolding deviceRefusal
+  unfolding fieldsOrObjects
   refused-5 d f e p = rw (← e, p)
 
 pub ruleset table-tests = (
@@ -84,18 +67,39 @@ pub ruleset table-tests = (
   counts-test,
   length-test,
   fields-test,
-  field-refused,
-  objects-decide,
-  resource-bad,
   refused-6,
   refused-5,
 )
 
--- the loops over resources and devices start with n to go
-pub from-none : (f : ℕ → Bool) (n m : ℕ) → n ≡ m → leastFrom f 0 (n - 0) ≡ least f m
-from-none f n m e = rw (sub-zero n, e) refl
+-- ---- the lowest bad record, from what the check of a run of records gives
+pub lowest-4 : (t : List ℕ) (n r : ℕ) → n ≡ countR t → r ≡ least (λ i. not (resourceGood t (8 + 4 * i))) n
+    → r ≡ least (λ i. not (resourceGood t (resourceStart i))) (countR t)
+lowest-4 t n r e f = rw e at f
 
-pub ruleset lowest-bad = (from-none, found, next, done)
+module _ (t : List ℕ) (first w n resources : ℕ) (e : first ≡ deviceStart (width t) t 0) (f : w ≡ width t) (g : n ≡ countD t)
+    (k : resources ≡ countR t) where
+  start-of : (i : ℕ) → first + recordSize w * i ≡ deviceStart (width t) t i
+  unfolding deviceStart
+  start-of i = rw (e, f, mul-zero (recordSize (width t))) (omega arith)
+
+  pub lowest-5 : (d : ℕ) → d ≡ least (λ i. not (goodWith true w resources t i (first + recordSize w * i))) n
+      → d ≡ least (λ i. not (deviceGood t i)) (countD t)
+  unfolding deviceGood fieldsGood badField
+  lowest-5 d h =
+      let same : (i : ℕ) → goodWith true w resources t i (first + recordSize w * i) ≡ deviceGood t i =
+      λ i. rw (start-of i, f, k) (table-record (width t) (countR t) t i (deviceStart (width t) t i)) in
+      h ∙ rw g (least-ext _ (λ i. not (deviceGood t i)) 0 (countD t) (λ i a b. ap not (same i)))
+
+  pub run-inside : WellSized t → first + recordSize w * n ≤ length t
+  run-inside z = rw (start-of n, g, z .long) (omega arith)
+
+pub few-devices : (t : List ℕ) (n : ℕ) → (n ≡ countD t) × (n ≤ 32) → n < 256
+few-devices t n h = omega (arith, h .1)
+
+pub few-resources : (t : List ℕ) (n w : ℕ) → (n ≡ countR t) × (n ≤ 32) → WellSized t → w ≡ width t → n ≤ limit w
+few-resources t n w h z e = rw (h .0, e) (z .resources)
+
+pub ruleset lowest-bad = (lowest-4, lowest-5, run-inside, few-devices, few-resources)
 
 -- ---- what the first three checks show
 pub long-of : (t : List ℕ) → headerGood t ≡ true → 8 ≤ length t
@@ -130,20 +134,20 @@ sized-by t c l header b y d z =
 
 -- ---- one check of a chain: passed, and refused
 module _ (rest : List Verdict) (last : Verdict) where
-  unless-passed : (good : Bool) (why : Reason) (at : ℕ) → good ≡ true → firstOf (unless good why at ∷ rest) last ≡ firstOf rest last
+  pub unless-passed : (good : Bool) (why : Reason) (at : ℕ) → good ≡ true → firstOf (unless good why at ∷ rest) last ≡ firstOf rest last
   unless-passed good why at p = first-pass (unless good why at) rest last (ap passes (unless-of good why at p) ∙ done-passes 0)
 
-  unless-refused : (good : Bool) (why : Reason) (at : ℕ) → good ≡ false → Refused why at ≡ firstOf (unless good why at ∷ rest) last
+  pub unless-refused : (good : Bool) (why : Reason) (at : ℕ) → good ≡ false → Refused why at ≡ firstOf (unless good why at ∷ rest) last
   unless-refused good why at p =
       let s = unless-stop good why at p in
       sym (first-stop (unless good why at) rest last (ap passes s ∙ refused-stops why at) ∙ s)
 
   module _ (bad : ℕ → Bool) (n m i : ℕ) (refusal : ℕ → Verdict) (e : i ≡ least bad n) (f : m ≡ n) where
-    lowest-passed : m ≤ i → firstOf (lowest bad n refusal ∷ rest) last ≡ firstOf rest last
+    pub lowest-passed : m ≤ i → firstOf (lowest bad n refusal ∷ rest) last ≡ firstOf rest last
     unfolding passes lowest
     lowest-passed h = first-pass (lowest bad n refusal) rest last (rw (le-ltb (least bad n) n (rw (f, e) at h)) refl)
 
-    lowest-refused : (v : Verdict) → v ≡ refusal i → passes v ≡ false → i < m → v ≡ firstOf (lowest bad n refusal ∷ rest) last
+    pub lowest-refused : (v : Verdict) → v ≡ refusal i → passes v ≡ false → i < m → v ≡ firstOf (lowest bad n refusal ∷ rest) last
     lowest-refused v g r h =
         let s = lowest-stop bad n i refusal e (rw f at h) ∙ sym g in
         sym (first-stop (lowest bad n refusal) rest last (ap passes s ∙ r) ∙ s)
@@ -154,7 +158,7 @@ module _ (t : List ℕ) where
   devices-check = lowest (λ d. not (deviceGood t d)) (countD t) (deviceRefusal t)
 
   abbrev resources-check : Verdict
-  resources-check = lowest (λ r. not (resourceGood t r)) (countR t) (Refused BadResource)
+  resources-check = lowest (λ r. not (resourceGood t (resourceStart r))) (countR t) (Refused BadResource)
 
   abbrev length-check : Verdict
   length-check = unless (lengthGood t) WrongLength 0
@@ -184,7 +188,8 @@ module _ (t : List ℕ) where
       ∙ past-counts h (sym f ∙ not-false c y)
 
   -- from here on the first three have passed
-  module _ (sized : WellSized t) (h : headerGood t ≡ true) (r m : ℕ) (e : r ≡ least (λ i. not (resourceGood t i)) (countR t))
+  module _ (sized : WellSized t) (h : headerGood t ≡ true) (r m : ℕ)
+      (e : r ≡ least (λ i. not (resourceGood t (resourceStart i))) (countR t))
       (f : m ≡ countR t) where
     past-length : firstOf (resources-check ∷ devices-check ∷ []) (Done 0) ≡ tableVerdict t
     unfolding countsGood lengthGood
@@ -204,7 +209,8 @@ module _ (t : List ℕ) where
       past-resources = sym (lowest-passed _ _ _ (countR t) m r (Refused BadResource) e f p) ∙ past-length
 
       pub bad-device : (v : Verdict) → v ≡ deviceRefusal t q → q < n → v ≡ tableVerdict t
-      bad-device v o u = lowest-refused _ _ _ (countD t) n q (deviceRefusal t) g k v o (ap passes o ∙ refuses t q) u ∙ past-resources
+      bad-device v o u = lowest-refused _ _ _ (countD t) n q (deviceRefusal t) g k v o (ap passes o ∙ refuses (fieldsGood t q) q) u
+          ∙ past-resources
 
       pub all-pass : n ≤ q → Done 0 ≡ tableVerdict t
       all-pass u = sym (lowest-passed _ _ _ (countD t) n q (deviceRefusal t) g k u ∙ first-none (Done 0)) ∙ past-resources

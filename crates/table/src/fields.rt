@@ -2,10 +2,10 @@
 ghost use mathlib.Core.Path.{_≡_};
 ghost use Prim.Native.Nat.{_+_, _*_, _<_, _≤_};
 ghost use lib.ListN.{length};
-ghost use Rattle.rules.specs.Station.{width, Wide, limit, recordSize, countR, countD, deviceStart, station};
+ghost use Rattle.rules.specs.Station.{width, Wide, limit, recordSize, tableSize, countR, countD, deviceStart, station};
 ghost use Rattle.table.specs.Layout.{WellSized};
 
-// The bytes of a set, for any bytes. No other function says what the width of a table is.
+// The bytes of a set, for any bytes: those of the table's version. No other function says what the width of a table is.
 pub fn width(table: &[u8]) -> usize
     ensures { λ r. ⌜ (r ≡ width (now (table .entry))) × Wide r ⌝ }
 {
@@ -35,16 +35,24 @@ pub fn devices(table: &[u8]) -> usize
     table[6] as usize
 }
 
-// The byte at which device d's record starts, or the table ends for D. By a branch, so that each product is by a literal.
+// The bytes of a table of R resources and D devices. By a branch, so that each product is by a literal.
+pub fn size(w: usize, resources: usize, devices: usize) -> usize
+    requires { ⌜ Wide w × (resources < 256) × (devices < 256) ⌝ }
+    ensures { λ r. ⌜ r ≡ tableSize w resources devices ⌝ }
+{
+    let records = 8 + 4 * resources;
+    if w == 8 {
+        return records + 64 * devices;
+    }
+    records + 40 * devices
+}
+
+// The byte at which device d's record starts, or the table ends for D.
 pub fn start_at(table: &[u8], d: usize) -> usize
     requires { ⌜ (8 ≤ length (now table)) × (d < 256) ⌝ }
     ensures { λ r. ⌜ r ≡ deviceStart (width (now (table .entry))) (now (table .entry)) d ⌝ }
 {
-    let records = 8 + 4 * (words::wide(table[3]) as usize);
-    if width(table) == 8 {
-        return records + 64 * d;
-    }
-    records + 40 * d
+    size(width(table), words::wide(table[3]) as usize, d)
 }
 
 // The same of a device that is there: its record ends inside the table.

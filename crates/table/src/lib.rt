@@ -1,5 +1,6 @@
 // Whether any bytes are a power table, answers 1 to 6, and the bytes of one device's record.
 pub mod fields;
+pub mod header;
 
 use rules::Reason;
 use rules::Verdict;
@@ -9,26 +10,10 @@ ghost use Prim.Native.Nat.{_<_, _≤_};
 ghost use lib.ListN.{length};
 ghost use Rattle.rules.specs.Index.{least};
 ghost use Rattle.rules.specs.Answers.{passes};
-ghost use Rattle.rules.specs.Station.{countR, countD};
+ghost use Rattle.rules.specs.Station.{countR, countD, resourceStart};
 ghost use Rattle.rules.specs.Table.{headerGood, countsGood, lengthGood, resourceGood, fieldsGood, deviceGood, deviceRefusal, tableVerdict};
 ghost use Rattle.rules.specs.Outcomes.{recordPart};
 ghost use Rattle.table.specs.Layout.{WellSized};
-
-// 1: the 8 bytes, the mark, version 1 and a zero at byte 7.
-pub fn header_good(table: &[u8]) -> bool
-    ensures { λ b. ⌜ b ≡ headerGood (now (table .entry)) ⌝ }
-{
-    if table.len() < 8 {
-        return false;
-    }
-    let mark = b"PWT";
-    let version = words::read16(table, 4);
-    (table[0] == mark[0])
-        & (table[1] == mark[1])
-        & (table[2] == mark[2])
-        & (version == 1)
-        & (table[7] == 0)
-}
 
 // 2: at most as many resources and devices as the width allows.
 fn counts_good(table: &[u8]) -> bool
@@ -48,29 +33,12 @@ fn length_good(table: &[u8]) -> bool
     table.len() == crate::fields::start_at(table, devices)
 }
 
-// Whether resource r has a bad field.
-fn resource_bad(table: &[u8], r: usize) -> bool
-    requires { ⌜ WellSized (now table) × (r < countR (now table)) ⌝ }
-    ensures { λ b. ⌜ b ≡ not (resourceGood (now (table .entry)) r) ⌝ }
-{
-    !record::bad::resource_good(table, r)
-}
-
 // 4: the lowest bad resource, R if none is bad.
 fn lowest_resource(table: &[u8]) -> usize
     requires { ⌜ WellSized (now table) ⌝ }
-    ensures { λ r. ⌜ r ≡ least (λ i. not (resourceGood (now (table .entry)) i)) (countR (now (table .entry))) ⌝ }
+    ensures { λ r. ⌜ r ≡ least (λ i. not (resourceGood (now (table .entry)) (resourceStart i))) (countR (now (table .entry))) ⌝ }
 {
-    let n = crate::fields::resources(table);
-    let mut i = 0;
-    while i < n {
-        let r = i;
-        i += 1;
-        if resource_bad(table, r) {
-            return r;
-        }
-    }
-    i
+    record::lowest::lowest_resource(table, 8, crate::fields::resources(table))
 }
 
 // Whether every field of device d is good, asked of a device that is refused.
@@ -84,34 +52,16 @@ fn fields_good(table: &[u8], d: usize) -> bool
         == record::read::size(w)
 }
 
-// Whether device d has a bad field, or its objects do not agree.
-fn device_bad(table: &[u8], d: usize) -> bool
-    requires { ⌜ WellSized (now table) × (d < countD (now table)) ⌝ }
-    ensures { λ b. ⌜ b ≡ not (deviceGood (now (table .entry)) d) ⌝ }
-{
-    let at = crate::fields::start(table, d);
-    let w = crate::fields::width(table);
-    if !record::quick::record_good(table, at, w, d, crate::fields::resources(table)) {
-        return true;
-    }
-    !record::quick::objects_agree(table, at, w)
-}
-
 // 5 and 6: the lowest bad device, D if none is bad.
 fn lowest_device(table: &[u8]) -> usize
     requires { ⌜ WellSized (now table) ⌝ }
     ensures { λ d. ⌜ d ≡ least (λ i. not (deviceGood (now (table .entry)) i)) (countD (now (table .entry))) ⌝ }
 {
+    let first = crate::fields::start_at(table, 0);
+    let w = crate::fields::width(table);
     let n = crate::fields::devices(table);
-    let mut i = 0;
-    while i < n {
-        let d = i;
-        i += 1;
-        if device_bad(table, d) {
-            return d;
-        }
-    }
-    i
+    let resources = crate::fields::resources(table);
+    record::lowest::lowest_device(table, first, w, true, n, resources)
 }
 
 // The answer for a bad device: 5 before 6.
@@ -159,7 +109,7 @@ pub fn check_past_header(table: &[u8]) -> Verdict
 pub fn check_table(table: &[u8]) -> Verdict
     ensures { λ v. ⌜ v ≡ tableVerdict (now (table .entry)) ⌝ }
 {
-    if !header_good(table) {
+    if !crate::header::header_good(table) {
         return Verdict::Refused(Reason::NotATable, 0);
     }
     check_past_header(table)

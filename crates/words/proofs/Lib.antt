@@ -2,4 +2,4 @@ pub mod Below
 pub mod Put
 pub mod Laws
 pub mod Twice
-pub mod Copy
+pub mod Loops

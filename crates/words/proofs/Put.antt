@@ -31,6 +31,11 @@ put-put d at xs ys h =
     rw (take-at p (drop n d) n e, ← drop-drop (length ys) n (p ++ drop n d), drop-at p (drop n d) n e, drop-drop, length-append, add-assoc)
     (simp append-assoc)
 
+-- one run after another, each a call's: the second begins where the first ends
+pub put-then : (d l : List ℕ) (at n : ℕ) (xs ys : List ℕ) → at + length xs ≤ length d → n ≡ at + length xs → l ≡ put (put d at xs) n ys
+    → l ≡ put d at (xs ++ ys)
+put-then d l at n xs ys h e f = f ∙ rw e (put-put d at xs ys h)
+
 -- stores one after another, as straight code makes them
 pub sets-put : (d : List ℕ) (at : ℕ) (ws : List ℕ) → at + length ws ≤ length d → sets d at ws ≡ put d at ws
 unfolding put

@@ -1,5 +1,6 @@
-// Little-endian numbers in byte slices, and words as bytes, four each.
+// Little-endian numbers in byte slices, bytes copied, and words as bytes, four each.
 ghost use mathlib.Core.Path.{_≡_};
+ghost use mathlib.Core.List.{[], _∷_};
 ghost use Prim.Native.Nat.{_+_, _*_, _≤_, _<_};
 ghost use lib.ListN.{length, take};
 ghost use Rattle.words.specs.Words.{readLE, bytesLE, put, wordBytes, byteWords};
@@ -27,6 +28,14 @@ pub fn read32(s: &[u8], at: usize) -> u32
     read16(s, at) as u32 + 0x1_0000 * (read16(s, at + 2) as u32)
 }
 
+// The byte x, at `at`: a run of one, for callers that write runs.
+pub fn write8(s: &mut [u8], at: usize, x: u8)
+    requires { ⌜ at + 1 ≤ length (now s) ⌝ }
+    ensures { λ _. ⌜ now (s .exit) ≡ put (now (s .entry)) at (x ∷ []) ⌝ }
+{
+    s[at] = x;
+}
+
 // The two bytes of x, from `at` on.
 pub fn write16(s: &mut [u8], at: usize, x: u16)
     requires { ⌜ at + 2 ≤ length (now s) ⌝ }
@@ -43,6 +52,18 @@ pub fn write32(s: &mut [u8], at: usize, x: u32)
 {
     write16(s, at, (x % 0x1_0000) as u16);
     write16(s, at + 2, (x / 0x1_0000) as u16);
+}
+
+// All of `from`, from `at` on.
+pub fn copy(from: &[u8], out: &mut [u8], at: usize)
+    requires { ⌜ at + length (now from) ≤ length (now out) ⌝ }
+    ensures { λ _. ⌜ now (out .exit) ≡ put (now (out .entry)) at (now (from .entry)) ⌝ }
+{
+    let mut i = 0;
+    while i < from.len() {
+        out[at + i] = from[i];
+        i += 1;
+    }
 }
 
 // The first n words, written from the start of the bytes.

@@ -1,11 +1,42 @@
-//! Damage to tables and states. It may by chance leave them good.
+//! Damage to tables, states and descriptions. It may by chance leave them good.
 
+use crate::description::Description;
 use crate::rng::Rng;
 
 const HEADER: usize = 8;
 const RESOURCE: usize = 4;
-const DEVICE: usize = 40;
 const STATE: usize = 132;
+
+/// Where the fields of a device stand.
+#[derive(Clone, Copy)]
+struct Layout {
+    /// The length of a device's record.
+    record: usize,
+    /// The length of each of its five sets.
+    set: usize,
+}
+
+/// In a table. Six reserved bytes follow the fields.
+const TABLE: Layout = Layout { record: 40, set: 4 };
+/// In a description.
+const DESCRIBED: Layout = Layout { record: 54, set: 8 };
+
+impl Layout {
+    /// Where a set begins.
+    const fn set(self, index: usize) -> usize {
+        4 + self.set * index
+    }
+
+    /// Where `_S1D` is; the others and `_S0W` to `_S4W` follow.
+    const fn sleep(self) -> usize {
+        self.set(5)
+    }
+
+    /// Where the deepest sleep state is.
+    const fn deepest(self) -> usize {
+        self.sleep() + 9
+    }
+}
 
 /// Damages a table that was good: its length, its header, a field or any byte.
 pub fn damage_table(rng: &mut Rng, table: &mut Vec<u8>) {
@@ -13,9 +44,9 @@ pub fn damage_table(rng: &mut Rng, table: &mut Vec<u8>) {
         0 => change_length(rng, table, HEADER),
         1 => table[rng.below(HEADER)] = rng.edge_byte(),
         2 => count_above_32(rng, table),
-        3 | 4 => resource_field(rng, table),
-        5..=8 => device_field(rng, table),
-        9..=12 => device_masks(rng, table),
+        3 | 4 => resource_field(rng, records(table).0),
+        5..=8 => device_field(rng, records(table).1, TABLE),
+        9..=12 => device_masks(rng, records(table).1, TABLE),
         13 => {
             for _ in 0..2 + rng.below(4) {
                 any_byte(rng, table);
@@ -40,13 +71,33 @@ pub fn damage_state(rng: &mut Rng, device_count: usize, state: &mut Vec<u8>) {
     }
 }
 
+/// Damages a description: the length of a list, a field or any byte.
+pub fn damage_description(rng: &mut Rng, description: &mut Description) {
+    let Description { resources, devices } = description;
+    match rng.below(16) {
+        0 => change_length(rng, resources, RESOURCE),
+        1 => change_length(rng, devices, DESCRIBED.record),
+        2 if rng.one_in(2) => records_above_32(rng, resources, RESOURCE),
+        2 => records_above_32(rng, devices, DESCRIBED.record),
+        3..=5 => resource_field(rng, resources),
+        6..=9 => device_field(rng, devices, DESCRIBED),
+        10..=13 => device_masks(rng, devices, DESCRIBED),
+        14 => {
+            any_byte(rng, resources);
+            any_byte(rng, devices);
+            any_byte(rng, devices);
+        }
+        _ => any_byte(rng, devices),
+    }
+}
+
 /// A shorter or longer length, near one of the record boundaries or anywhere.
 fn change_length(rng: &mut Rng, bytes: &mut Vec<u8>, edge: usize) {
     let length = match rng.below(5) {
         0 => rng.below(bytes.len() + 1),
         1 => edge - 1 + rng.below(3),
-        2 => bytes.len().saturating_sub(1 + rng.below(DEVICE)),
-        3 => bytes.len() + 1 + rng.below(DEVICE),
+        2 => bytes.len().saturating_sub(1 + rng.below(TABLE.record)),
+        3 => bytes.len() + 1 + rng.below(TABLE.record),
         _ => bytes.len() ^ 1,
     };
     bytes.resize(length, 0);
@@ -65,62 +116,81 @@ fn count_above_32(rng: &mut Rng, table: &mut Vec<u8>) {
     table[index] = rng.byte_within(33, 255);
     if rng.one_in(2) {
         let (r, d) = (usize::from(table[3]), usize::from(table[6]));
-        table.resize(HEADER + RESOURCE * r + DEVICE * d, 0);
+        table.resize(HEADER + RESOURCE * r + TABLE.record * d, 0);
     }
 }
 
-fn resource_field(rng: &mut Rng, table: &mut [u8]) {
-    let resource_count = usize::from(table[3]);
-    if resource_count > 0 {
-        let start = HEADER + RESOURCE * rng.below(resource_count);
-        table[start + rng.below(RESOURCE)] = rng.edge_byte();
-    }
+/// Makes a list of records longer than 32; the last one may be cut short.
+fn records_above_32(rng: &mut Rng, records: &mut Vec<u8>, length: usize) {
+    let count = match rng.below(4) {
+        0 => rng.pick(&[64, 255, 256, 257, 288, 300]),
+        _ => 33,
+    };
+    records.resize(count * length - rng.below(length), 0);
 }
 
-/// Where the record of some device begins.
-fn some_device(rng: &mut Rng, table: &[u8]) -> Option<usize> {
-    let (resource_count, device_count) = (usize::from(table[3]), usize::from(table[6]));
-    let first = HEADER + RESOURCE * resource_count;
-    (device_count > 0).then(|| first + DEVICE * rng.below(device_count))
+/// The resource records and the device records of a table that was good.
+fn records(table: &mut [u8]) -> (&mut [u8], &mut [u8]) {
+    let resources = RESOURCE * usize::from(table[3]);
+    table[HEADER..].split_at_mut(resources)
+}
+
+/// Some record of a list, if it has any.
+fn some_record<'a>(rng: &mut Rng, records: &'a mut [u8], length: usize) -> Option<&'a mut [u8]> {
+    let count = records.len() / length;
+    (count > 0).then(|| {
+        let start = length * rng.below(count);
+        &mut records[start..start + length]
+    })
+}
+
+fn resource_field(rng: &mut Rng, resources: &mut [u8]) {
+    if let Some(record) = some_record(rng, resources, RESOURCE) {
+        record[rng.below(RESOURCE)] = rng.edge_byte();
+    }
 }
 
 /// Changes a field of a device. The fields are equally likely, whatever their length.
-fn device_field(rng: &mut Rng, table: &mut [u8]) {
-    let Some(start) = some_device(rng, table) else {
+fn device_field(rng: &mut Rng, devices: &mut [u8], layout: Layout) {
+    let Some(record) = some_record(rng, devices, layout.record) else {
         return;
     };
+    let fields_end = layout.deepest() + 1;
     match rng.below(8) {
-        field @ 0..=3 => table[start + field] = rng.edge_byte(),
-        4 => {
-            let set = start + 4 + 4 * rng.below(5);
-            let any_bit = 1 << rng.below(32);
-            let bits = rng.pick(&[0, 1, 1 << 31, u32::MAX, any_bit]);
-            table[set..set + 4].copy_from_slice(&bits.to_le_bytes());
-        }
-        5 => table[start + 24 + rng.below(9)] = rng.edge_byte(),
-        6 => table[start + 33] = rng.edge_byte(),
-        _ => table[start + 34 + rng.below(6)] = rng.edge_byte(),
+        field @ 0..=3 => record[field] = rng.edge_byte(),
+        4 => set_bits(rng, &mut record[4..layout.sleep()], layout.set),
+        5 => record[layout.sleep() + rng.below(9)] = rng.edge_byte(),
+        6 => record[layout.deepest()] = rng.edge_byte(),
+        _ => any_byte(rng, &mut record[fields_end..]),
     }
+}
+
+/// Gives one of the sets no bit, one bit or all bits.
+fn set_bits(rng: &mut Rng, sets: &mut [u8], length: usize) {
+    let start = length * rng.below(5);
+    let any_bit = 1 << rng.below(8 * length);
+    let highest_bit = 1 << (8 * length - 1);
+    let bits: u64 = rng.pick(&[0, 1, highest_bit, u64::MAX, any_bit]);
+    sets[start..start + length].copy_from_slice(&bits.to_le_bytes()[..length]);
 }
 
 /// Gives a device any masks and flags, and empties the sets of objects that
 /// are then absent, so that only the object rules can be broken.
-fn device_masks(rng: &mut Rng, table: &mut [u8]) {
-    let Some(start) = some_device(rng, table) else {
+fn device_masks(rng: &mut Rng, devices: &mut [u8], layout: Layout) {
+    let Some(record) = some_record(rng, devices, layout.record) else {
         return;
     };
-    let record = &mut table[start..start + DEVICE];
     record[1] = rng.byte_below(16);
     record[2] = rng.byte_below(16);
     record[3] = rng.byte_below(4);
     let listed = record[2] | (record[3] & 1) << 4;
     for set in 0..5 {
         if listed >> set & 1 == 0 {
-            record[4 + 4 * set..8 + 4 * set].fill(0);
+            record[layout.set(set)..layout.set(set + 1)].fill(0);
         }
     }
     if record[3] & 1 == 0 {
-        record[33] = 0;
+        record[layout.deepest()] = 0;
     }
 }
 

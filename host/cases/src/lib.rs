@@ -3,7 +3,8 @@
 //! [`Cases`] gives one case after the other without end. A station is drawn, a
 //! walk of requests leads it from its fresh state or a drawn one through others,
 //! and each step of the walk is a case. Some cases are damaged on purpose: the
-//! table, the state, the request, the room for the plan or the list. The same
+//! table, the state, the request, the room for the plan, the list, or the
+//! description of the station and the version and room for its table. The same
 //! seed gives the same cases. [`Coverage`] counts the answers they get.
 //!
 //! [`workloads`] are the inputs to measure, [`sweep`] has small sets of inputs that are gone through completely, and
@@ -13,7 +14,9 @@
 
 mod coverage;
 mod damage;
+mod description;
 mod guard;
+mod inverse;
 mod lists;
 mod requests;
 mod rng;
@@ -24,17 +27,21 @@ mod workload;
 
 use std::fmt;
 
-use reference::{fresh, plan, Request, PLAN_BYTES, STATE_BYTES};
+use reference::{
+    fresh, plan, Request, DESCRIBED_DEVICE_BYTES, DESCRIBED_RESOURCE_BYTES, PLAN_BYTES, STATE_BYTES,
+};
 
-pub use coverage::{Counts, Coverage};
-pub use damage::{damage_state, damage_table};
+pub use coverage::{Counts, Coverage, Places};
+pub use damage::{damage_description, damage_state, damage_table};
+pub use description::{Description, VERSIONS};
 pub use guard::Guarded;
+pub use inverse::{inverse_holds, Describe, Write};
 pub use lists::{permute_equal_orders, vary_list};
 pub use requests::{any_request, likely_request};
 pub use rng::Rng;
 pub use states::draw_state;
 pub use station::{Record, Resource, Station, SHAPES};
-pub use workload::{workloads, Workload};
+pub use workload::{filled_station, workloads, Workload};
 
 /// One input for every function.
 #[derive(Clone, Default, PartialEq, Eq)]
@@ -53,6 +60,33 @@ pub struct Case {
     pub fresh: Vec<u8>,
     /// The device whose record is asked for.
     pub device: usize,
+    /// The version asked of the writer.
+    pub version: u32,
+    /// The description lent to the writer.
+    pub description: Description,
+    /// The buffer lent for the table that is written, with any content.
+    pub written: Vec<u8>,
+    /// The buffers lent for what the table describes, with any content.
+    pub described: Description,
+}
+
+impl Case {
+    /// A station to be written and described, with exactly the room that both
+    /// need. There is no state and no request.
+    pub fn of_station(station: &Station) -> Self {
+        let description = station.description();
+        Self {
+            table: station.table(),
+            version: 1,
+            written: vec![0x5a; description.table_length()],
+            described: Description {
+                resources: vec![0x5a; description.resources.len()],
+                devices: vec![0x5a; description.devices.len()],
+            },
+            description,
+            ..Self::default()
+        }
+    }
 }
 
 impl fmt::Debug for Case {
@@ -64,6 +98,11 @@ impl fmt::Debug for Case {
             ("list", &self.list),
             ("plan", &self.plan),
             ("fresh", &self.fresh),
+            ("resources", &self.description.resources),
+            ("devices", &self.description.devices),
+            ("written", &self.written),
+            ("described resources", &self.described.resources),
+            ("described devices", &self.described.devices),
         ] {
             write!(f, "{name}, {} bytes:", bytes.len())?;
             for byte in bytes {
@@ -71,7 +110,11 @@ impl fmt::Debug for Case {
             }
             writeln!(f)?;
         }
-        write!(f, "record of device {}", self.device)
+        write!(
+            f,
+            "record of device {}; version {}",
+            self.device, self.version
+        )
     }
 }
 
@@ -80,6 +123,8 @@ pub struct Cases {
     rng: Rng,
     /// The table of the present station.
     table: Vec<u8>,
+    /// What that table describes.
+    description: Description,
     /// The state the walk has reached.
     state: Vec<u8>,
     /// How many cases the present station still gives.
@@ -95,6 +140,7 @@ impl Cases {
         Self {
             rng: Rng::new(seed),
             table: Vec::new(),
+            description: Description::default(),
             state: Vec::new(),
             steps: 0,
             earlier_list: Vec::new(),
@@ -112,12 +158,15 @@ impl Cases {
         self.lend_request();
         self.lend_list_and_step();
         self.lend_buffers();
+        self.lend_description();
         &self.case
     }
 
     fn draw_station(&mut self) {
         self.steps = 1 + self.rng.below(48);
-        Station::random(&mut self.rng).write(&mut self.table);
+        let station = Station::random(&mut self.rng);
+        station.write(&mut self.table);
+        self.description = station.description();
         self.state.resize(STATE_BYTES, 0);
         let answer = fresh(&self.table, &mut self.state);
         assert!(answer.is_done(), "a drawn station must be good");
@@ -143,6 +192,7 @@ impl Cases {
         damage_table(&mut self.rng, &mut table);
         let mut state = [0; STATE_BYTES];
         if fresh(&table, &mut state).is_done() {
+            self.description = Description::of_table(&table);
             self.table = table;
             self.state.copy_from_slice(&state);
         }
@@ -211,6 +261,38 @@ impl Cases {
             0 => rng.next() as usize,
             _ => rng.below(34),
         };
+    }
+
+    /// What writer and describer are lent, which the walk does not depend on.
+    fn lend_description(&mut self) {
+        let (rng, case) = (&mut self.rng, &mut self.case);
+        case.version = match rng.below(32) {
+            0 => rng.pick(&VERSIONS),
+            1 => rng.next() as u32,
+            _ => 1,
+        };
+        case.description.clone_from(&self.description);
+        // Two kinds of damage show which is answered.
+        for _ in 0..rng.pick(&[0, 0, 1, 2]) {
+            damage_description(rng, &mut case.description);
+        }
+        let length = room(rng, case.description.table_length());
+        rng.fill(&mut case.written, length);
+        let count = |index| case.table.get(index).map_or(0, |&count| usize::from(count));
+        let length = room(rng, DESCRIBED_RESOURCE_BYTES * count(3));
+        rng.fill(&mut case.described.resources, length);
+        let length = room(rng, DESCRIBED_DEVICE_BYTES * count(6));
+        rng.fill(&mut case.described.devices, length);
+    }
+}
+
+/// A room for so many bytes: in most cases exactly that, else less or more.
+fn room(rng: &mut Rng, needed: usize) -> usize {
+    match rng.below(32) {
+        0 => rng.below(needed + 1),
+        1 => needed.saturating_sub(1),
+        2 | 3 => needed + rng.below(200),
+        _ => needed,
     }
 }
 

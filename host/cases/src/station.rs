@@ -1,5 +1,6 @@
 //! Random stations that keep every rule of the table.
 
+use crate::description::Description;
 use crate::rng::Rng;
 
 /// A resource of a station.
@@ -101,12 +102,24 @@ impl Station {
             0,
         ]);
         for resource in &self.resources {
-            bytes.extend([resource.level, 0]);
-            bytes.extend(resource.order.to_le_bytes());
+            bytes.extend(resource.bytes());
         }
         for device in &self.devices {
-            device.write(bytes);
+            device.write(bytes, 4);
+            bytes.extend([0; 6]);
         }
+    }
+
+    /// The station as two lists of records.
+    pub fn description(&self) -> Description {
+        let mut description = Description::default();
+        for resource in &self.resources {
+            description.resources.extend(resource.bytes());
+        }
+        for device in &self.devices {
+            device.write(&mut description.devices, 8);
+        }
+        description
     }
 
     /// A random station that keeps every rule.
@@ -126,16 +139,23 @@ impl Station {
     }
 }
 
+impl Resource {
+    fn bytes(&self) -> [u8; 4] {
+        let [low, high] = self.order.to_le_bytes();
+        [self.level, 0, low, high]
+    }
+}
+
 impl Record {
-    fn write(&self, bytes: &mut Vec<u8>) {
+    /// Writes the fields, each set with so many bytes, at the end of `bytes`.
+    fn write(&self, bytes: &mut Vec<u8>, set_bytes: usize) {
         bytes.extend([self.parent, self.ps, self.pr, self.flags]);
         for set in self.sets {
-            bytes.extend(set.to_le_bytes());
+            bytes.extend(&u64::from(set).to_le_bytes()[..set_bytes]);
         }
         bytes.extend(self.sxd);
         bytes.extend(self.sxw);
         bytes.push(self.deepest);
-        bytes.extend([0; 6]);
     }
 }
 

@@ -26,6 +26,34 @@ pub fn each_byte(bytes: &[u8], mut each: impl FnMut(&[u8])) {
     }
 }
 
+/// Each byte in turn with several other values, at edges of the rules and beyond.
+pub fn each_wild_byte(bytes: &[u8], mut each: impl FnMut(&[u8])) {
+    let values = [0, 1, 2, 3, 4, 5, 8, 9, 15, 16, 31, 32, 127, 128, 254, 255];
+    let mut changed = bytes.to_vec();
+    for index in 0..bytes.len() {
+        for value in values {
+            if value != bytes[index] {
+                changed[index] = value;
+                each(&changed);
+            }
+        }
+        changed[index] = bytes[index];
+    }
+}
+
+/// Each length within a byte of a whole number of records of `record` bytes, up
+/// to two more than there are. Bytes past the end are zero.
+pub fn each_record_limit(bytes: &[u8], record: usize, mut each: impl FnMut(&[u8])) {
+    let last = bytes.len() / record + 2;
+    let mut longer = bytes.to_vec();
+    longer.resize(last * record + 1, 0);
+    for limit in (0..=last).map(|count| count * record) {
+        for length in limit.saturating_sub(1)..=limit + 1 {
+            each(&longer[..length]);
+        }
+    }
+}
+
 /// Each bit in turn the other way.
 pub fn each_bit(bytes: &[u8], mut each: impl FnMut(&[u8])) {
     let mut changed = bytes.to_vec();

@@ -1,5 +1,5 @@
-//! The inputs on which planner and checker are measured: the bench station, a
-//! table of full size, and a refusal at each stage of the checks.
+//! The inputs on which the functions are measured: the bench station, stations
+//! of full size, and a refusal at each stage of the checks.
 
 use reference::{fresh, plan, Request, PLAN_BYTES, STATE_BYTES};
 
@@ -17,29 +17,58 @@ pub struct Workload {
     pub planner: Option<u8>,
     /// The checker's answer number, or `None` if the checker is not measured.
     pub checker: Option<u8>,
+    /// The writer's answer number, or `None` if the writer is not measured.
+    pub writer: Option<u8>,
+    /// The describer's answer number, or `None` if the describer is not measured.
+    pub describer: Option<u8>,
 }
 
 impl Workload {
-    fn both(name: &'static str, number: u8, case: Case) -> Self {
+    fn new(name: &'static str, case: Case) -> Self {
         Self {
             name,
             case,
+            planner: None,
+            checker: None,
+            writer: None,
+            describer: None,
+        }
+    }
+
+    /// For planner and checker.
+    fn both(name: &'static str, number: u8, case: Case) -> Self {
+        Self {
             planner: Some(number),
             checker: Some(number),
+            ..Self::new(name, case)
         }
     }
 
     fn planner(name: &'static str, number: u8, case: Case) -> Self {
         Self {
-            checker: None,
-            ..Self::both(name, number, case)
+            planner: Some(number),
+            ..Self::new(name, case)
         }
     }
 
     fn checker(name: &'static str, number: u8, case: Case) -> Self {
         Self {
-            planner: None,
-            ..Self::both(name, number, case)
+            checker: Some(number),
+            ..Self::new(name, case)
+        }
+    }
+
+    fn writer(name: &'static str, number: u8, case: Case) -> Self {
+        Self {
+            writer: Some(number),
+            ..Self::new(name, case)
+        }
+    }
+
+    fn describer(name: &'static str, number: u8, case: Case) -> Self {
+        Self {
+            describer: Some(number),
+            ..Self::new(name, case)
         }
     }
 }
@@ -49,6 +78,7 @@ pub fn workloads() -> Vec<Workload> {
     let mut all = accepted();
     all.extend(refused_bytes());
     all.extend(refused_requests());
+    all.extend(descriptions());
     all
 }
 
@@ -132,6 +162,30 @@ fn refused_requests() -> Vec<Workload> {
     ]
 }
 
+/// A station to write and to describe, as small and as large as it is measured,
+/// and of each the refusal that comes last.
+fn descriptions() -> Vec<Workload> {
+    let bench = || Case::of_station(&bench_station());
+    let filled = || Case::of_station(&filled_station());
+    let changed = |change: fn(&mut Case)| {
+        let mut case = filled();
+        change(&mut case);
+        case
+    };
+    vec![
+        Workload::writer("bench", 0, bench()),
+        Workload::writer("full, all sets full", 0, filled()),
+        Workload::writer("device, last field", 5, {
+            changed(|case| *case.description.devices.last_mut().expect("not empty") = 5)
+        }),
+        Workload::describer("bench", 0, bench()),
+        Workload::describer("full, all sets full", 0, filled()),
+        Workload::describer("room for the devices", 9, {
+            changed(|case| case.described.devices.truncate(54 * 32 - 1))
+        }),
+    ]
+}
+
 /// The last device of the full station.
 const LAST: u32 = 31;
 /// The resources of all but the last device.
@@ -168,6 +222,15 @@ fn full_device(d: u32) -> Record {
         sxw: [4; 5],
         deepest: 4,
     }
+}
+
+/// As large as a station can be, with every bit of every set.
+pub fn filled_station() -> Station {
+    let mut station = full_station();
+    for device in &mut station.devices {
+        device.sets = [u32::MAX; 5];
+    }
+    station
 }
 
 /// Every fourth device may wake the system from S3 in D3hot.
@@ -211,6 +274,6 @@ fn case(table: &[u8], state: Vec<u8>, request: Request) -> Case {
         request,
         plan: vec![0; PLAN_BYTES],
         fresh: vec![0; STATE_BYTES],
-        device: 0,
+        ..Case::default()
     }
 }

@@ -1,23 +1,49 @@
 //! The cases reach every answer and every rule. The reference alone is run.
 
-use cases::{sweep, workloads, Case, Cases, Counts, Coverage, Rng, Station, SHAPES};
-use reference::{check, effect, fresh, plan, wake_range, Call, Effect, Table};
+use cases::{sweep, workloads, Case, Cases, Counts, Coverage, Description, Rng, Station, SHAPES};
+use reference::{
+    check, describe, effect, fresh, plan, wake_range, write, Answer, Call, Effect, Table,
+};
 
 const CASES: usize = 200_000;
+
+/// What each function answers to a case.
+struct Answers {
+    planner: Answer,
+    checker: Answer,
+    fresh: Answer,
+    writer: Answer,
+    describer: Answer,
+}
+
+impl Answers {
+    fn of(case: &Case) -> Self {
+        let mut lent = case.clone();
+        let (table, request) = (&case.table, case.request);
+        let Description { resources, devices } = &case.description;
+        let described = &mut lent.described;
+        Self {
+            planner: plan(table, &mut lent.state, request, &mut lent.plan),
+            checker: check(table, &case.state, request, &case.list),
+            fresh: fresh(table, &mut lent.fresh),
+            writer: write(case.version, resources, devices, &mut lent.written),
+            describer: describe(table, &mut described.resources, &mut described.devices),
+        }
+    }
+}
 
 #[test]
 fn every_answer_is_given() {
     let mut coverage = Coverage::default();
     let mut cases = Cases::new(1);
     for _ in 0..CASES {
-        let case = cases.next_case();
-        let mut buffers = case.clone();
-        let Case { table, request, .. } = case;
-        let answer = plan(table, &mut buffers.state, *request, &mut buffers.plan);
-        coverage.planner.add(answer.number);
-        let answer = check(table, &case.state, *request, &case.list);
-        coverage.checker.add(answer.number);
-        coverage.fresh.add(fresh(table, &mut buffers.fresh).number);
+        let answers = Answers::of(cases.next_case());
+        coverage.planner.add(answers.planner.number);
+        coverage.checker.add(answers.checker.number);
+        coverage.fresh.add(answers.fresh.number);
+        coverage.writer.add(answers.writer.number);
+        coverage.places.add(answers.writer);
+        coverage.describer.add(answers.describer.number);
     }
     println!("{coverage}");
     coverage.must_be_whole(100);
@@ -177,6 +203,13 @@ fn sweeps_have_their_sizes() {
     sweep::each_bit(&bench, |_| count += 1);
     assert_eq!(count, 140 * 8);
     count = 0;
+    // Of 16 values a byte, all but its own.
+    sweep::each_wild_byte(&[0, 7, 255], |_| count += 1);
+    assert_eq!(count, 15 + 16 + 15);
+    let mut lengths = Vec::new();
+    sweep::each_record_limit(&[0; 8], 4, |bytes| lengths.push(bytes.len()));
+    assert_eq!(lengths, [0, 1, 3, 4, 5, 7, 8, 9, 11, 12, 13, 15, 16, 17]);
+    count = 0;
     sweep::each_request(|_| count += 1);
     assert_eq!(count, 14 * 14 * 14 * 14);
 }
@@ -216,32 +249,25 @@ fn changed_lists_conform_only_within_equal_orders() {
 
 #[test]
 fn workloads_get_their_answers() {
-    let (mut planner, mut checker) = (Vec::new(), Vec::new());
+    let mut numbers: [Vec<u8>; 4] = Default::default();
     for workload in workloads() {
-        let Case {
-            table,
-            mut state,
-            request,
-            mut plan,
-            list,
-            ..
-        } = workload.case;
-        let checked = check(&table, &state, request, &list).number;
-        let planned = reference::plan(&table, &mut state, request, &mut plan).number;
-        assert!(
-            workload.planner.is_none_or(|number| number == planned),
-            "{}",
-            workload.name
-        );
-        assert!(
-            workload.checker.is_none_or(|number| number == checked),
-            "{}",
-            workload.name
-        );
-        planner.extend(workload.planner);
-        checker.extend(workload.checker);
+        let answers = Answers::of(&workload.case);
+        let pairs = [
+            (workload.planner, answers.planner),
+            (workload.checker, answers.checker),
+            (workload.writer, answers.writer),
+            (workload.describer, answers.describer),
+        ];
+        for ((expected, answer), numbers) in pairs.into_iter().zip(&mut numbers) {
+            let same = expected.is_none_or(|number| number == answer.number);
+            assert!(same, "{}", workload.name);
+            numbers.extend(expected);
+        }
     }
     // Accepted, and refused at each stage: table, state, consistency, room, request, list.
+    let [planner, checker, writer, describer] = numbers;
     assert!([0, 1, 5, 7, 8, 9, 10].iter().all(|n| planner.contains(n)));
     assert!([0, 1, 5, 7, 8, 10, 19].iter().all(|n| checker.contains(n)));
+    assert_eq!(writer, [0, 0, 5]);
+    assert_eq!(describer, [0, 0, 9]);
 }

@@ -1,10 +1,10 @@
 //! What must hold of the reference on every case, checked without its own code
 //! where that is possible.
 
-use cases::{permute_equal_orders, sweep, Case, Cases, Rng};
+use cases::{inverse_holds, permute_equal_orders, sweep, Case, Cases, Rng, Station};
 use reference::{
-    check, check_table, check_words, demand3, demand3_words, effect, execution, fresh, plan,
-    plan_words, record, Answer, Call, Effect, Table,
+    check, check_table, check_words, demand3, demand3_words, describe, effect, execution, fresh,
+    plan, plan_words, record, write, Answer, Call, Effect, Table,
 };
 
 const CASES: usize = 100_000;
@@ -232,6 +232,51 @@ fn a_record_is_handed_out_exactly_for_a_device_of_a_good_table() {
         } else {
             assert!(part.is_empty());
         }
+    });
+}
+
+#[test]
+fn writer_and_describer_are_inverse() {
+    for_each_case(20, |case| {
+        let result = inverse_holds(
+            case,
+            |version, lists, table| write(version, &lists.resources, &lists.devices, table).pack(),
+            |table, lists| describe(table, &mut lists.resources, &mut lists.devices).pack(),
+        );
+        assert_eq!(result, Ok(()), "{case:?}");
+    });
+}
+
+#[test]
+fn a_drawn_station_is_written_as_its_table() {
+    let mut rng = Rng::new(21);
+    for _ in 0..CASES / 10 {
+        let station = Station::random(&mut rng);
+        let description = station.description();
+        let mut table = vec![0; description.table_length()];
+        let answer = write(1, &description.resources, &description.devices, &mut table);
+        assert_eq!(answer, Answer::done(table.len() as u16));
+        assert_eq!(table, station.table());
+    }
+}
+
+#[test]
+fn a_writers_place_is_a_record_of_its_list() {
+    for_each_case(22, |case| {
+        let (resources, devices) = case.description.counts();
+        let mut table = case.written.clone();
+        let answer = write(
+            case.version,
+            &case.description.resources,
+            &case.description.devices,
+            &mut table,
+        );
+        let limit = match answer.number {
+            4 => resources,
+            5 | 6 => devices,
+            _ => 1,
+        };
+        assert!(answer.place < limit as u64, "{answer:?} {case:?}");
     });
 }
 

@@ -2,10 +2,10 @@
 //! `library`, the reference.
 
 #[cfg(feature = "library")]
-pub use sailgarnet::{check, fresh, plan};
+pub use sailgarnet::{check, describe, fresh, plan, write};
 
 #[cfg(not(feature = "library"))]
-pub use stand_in::{check, fresh, plan};
+pub use stand_in::{check, describe, fresh, plan, write};
 
 /// Which planner this is.
 pub const NAME: &str = if cfg!(feature = "library") {
@@ -32,6 +32,14 @@ mod stand_in {
     pub fn check(table: &[u8], state: &[u8], request: Request, list: &[u8]) -> Answer {
         let request = reference_request(request);
         answer(reference::check(table, state, request, list))
+    }
+
+    pub fn write(version: u32, resources: &[u8], devices: &[u8], table: &mut [u8]) -> Answer {
+        answer(reference::write(version, resources, devices, table))
+    }
+
+    pub fn describe(table: &[u8], resources: &mut [u8], devices: &mut [u8]) -> Answer {
+        answer(reference::describe(table, resources, devices))
     }
 
     fn answer(answer: reference::Answer) -> Answer {

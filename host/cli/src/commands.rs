@@ -4,25 +4,31 @@ use std::ffi::OsString;
 use std::path::Path;
 
 use reference::Effect;
-use sailgarnet::{Answer, Request, Verdict, PLAN_BYTES, STATE_BYTES};
+use sailgarnet::{
+    Answer, Device, Request, Resource, Verdict, MAX_TABLE_BYTES, PLAN_BYTES, STATE_BYTES,
+};
 
 use crate::args::Args;
 use crate::help::{self, Help};
 use crate::trace::Trace;
-use crate::{backend, demo, files, grid, request, show, svg, words, Failure, Report};
+use crate::{
+    backend, demo, files, grid, printer, reader, request, show, svg, words, Failure, Report,
+};
 
 type Outcome = Result<Report, Failure>;
 
 /// Runs the command line.
 pub fn run(line: Vec<OsString>) -> Outcome {
     let Some((name, rest)) = line.split_first() else {
-        return Err(Failure(format!(
+        return Err(Failure::new(format!(
             "a subcommand is missing\n\n{}",
             help::overview()
         )));
     };
     match name.to_string_lossy().as_ref() {
         "show" => with_args(&help::SHOW, rest, &[], show_table),
+        "describe" => with_args(&help::DESCRIBE, rest, &["-o"], describe_table),
+        "write" => with_args(&help::WRITE, rest, &["-o"], write_table),
         "fresh" => with_args(&help::FRESH, rest, &["-o"], write_fresh),
         "plan" => with_args(&help::PLAN, rest, &["-o", "--list"], plan_request),
         "check" => with_args(&help::CHECK, rest, &[], check_list),
@@ -30,7 +36,7 @@ pub fn run(line: Vec<OsString>) -> Outcome {
         "demo" => with_args(&help::DEMO, rest, &[], run_demo),
         "-h" | "--help" | "help" => Ok(Report::done(help::overview())),
         "-V" | "--version" => Ok(Report::done(version())),
-        other => Err(Failure(format!(
+        other => Err(Failure::new(format!(
             "there is no subcommand {other:?}; try: sailgarnet --help"
         ))),
     }
@@ -55,7 +61,7 @@ fn with_args(
 }
 
 fn usage(help: &Help, message: &str) -> Failure {
-    Failure(format!(
+    Failure::new(format!(
         "{message}\nUsage: {}\nMore with: sailgarnet {} --help",
         help.usage_line(),
         help.name
@@ -82,16 +88,32 @@ fn exactly<'a, const N: usize>(
 
 /// The planner and the reference differ, which must not happen.
 pub fn disagreement(number: u8) -> Failure {
-    Failure(format!(
+    Failure::new(format!(
         "the planner accepted what the reference refuses with {number}; please report this"
     ))
 }
 
 fn refusal(answer: Answer) -> Report {
+    refusal_with(answer, "")
+}
+
+/// A refusal, with more lines about it.
+fn refusal_with(answer: Answer, more: &str) -> Report {
     Report {
-        text: words::answer_line(answer),
+        text: words::answer_line(answer) + more,
         refused: true,
     }
+}
+
+/// What was done with a table, and how large it is.
+fn done_with(answer: Answer, table: &[u8]) -> Report {
+    Report::done(words::answer_line(answer) + &words::table_size(table))
+}
+
+/// The file to write, which must be named.
+fn output<'a>(help: &Help, args: &'a Args, name: &str) -> Result<&'a Path, Failure> {
+    let path = args.option("-o");
+    path.ok_or_else(|| usage(help, &format!("-o {name} is missing")))
 }
 
 fn show_table(help: &Help, args: &Args) -> Outcome {
@@ -104,11 +126,56 @@ fn show_table(help: &Help, args: &Args) -> Outcome {
     show::table(&table).map(Report::done)
 }
 
+fn describe_table(help: &Help, args: &Args) -> Outcome {
+    let [table_path] = exactly(help, &args.operands, ["TABLE"])?;
+    let output = args.option("-o");
+    files::must_keep(output, &[Some(Path::new(table_path))])?;
+    let table = files::read(Path::new(table_path))?;
+    // As many records as the header says. Without a header nothing is written.
+    let number = |byte: usize| table.get(byte).copied().map_or(0, usize::from);
+    let mut resources = vec![0; Resource::BYTES * number(3)];
+    let mut devices = vec![0; Device::BYTES * number(6)];
+    let answer = backend::describe(&table, &mut resources, &mut devices);
+    if !answer.is_done() {
+        return Ok(refusal(answer));
+    }
+    let version = u16::from_le_bytes([table[4], table[5]]);
+    let text = printer::text(version, &resources, &devices);
+    let Some(path) = output else {
+        return Ok(Report::done(text));
+    };
+    files::write(path, text.as_bytes())?;
+    Ok(done_with(answer, &table))
+}
+
+fn write_table(help: &Help, args: &Args) -> Outcome {
+    let [text_path] = exactly(help, &args.operands, ["FILE"])?;
+    let text_path = Path::new(text_path);
+    let output = output(help, args, "TABLE")?;
+    files::must_keep(Some(output), &[Some(text_path)])?;
+    let bytes = files::read(text_path)?;
+    let position = |mistake| format!("{}:{mistake}", text_path.display());
+    let text = reader::read(&bytes).map_err(|mistake| Failure::at_position(position(mistake)))?;
+    let resources: Vec<u8> = text.resources.iter().flat_map(|r| r.to_bytes()).collect();
+    let devices: Vec<u8> = text.devices.iter().flat_map(|d| d.to_bytes()).collect();
+    let mut buffer = [0; MAX_TABLE_BYTES];
+    let answer = backend::write(text.version, &resources, &devices, &mut buffer);
+    if !answer.is_done() {
+        let line = words::answer_line_with(answer, reader::refusal_sentence(answer));
+        let part = position(text.refused_part(answer));
+        return Ok(Report {
+            text: format!("{line}{part}\n"),
+            refused: true,
+        });
+    }
+    let table = &buffer[..answer.bytes_written()];
+    files::write(output, table)?;
+    Ok(done_with(answer, table))
+}
+
 fn write_fresh(help: &Help, args: &Args) -> Outcome {
     let [table_path] = exactly(help, &args.operands, ["TABLE"])?;
-    let output = args
-        .option("-o")
-        .ok_or_else(|| usage(help, "-o STATE is missing"))?;
+    let output = output(help, args, "STATE")?;
     files::must_keep(Some(output), &[Some(Path::new(table_path))])?;
     let table = files::read(Path::new(table_path))?;
     let mut state = [0; STATE_BYTES];
@@ -220,9 +287,7 @@ fn check_list(help: &Help, args: &Args) -> Outcome {
     let list = files::read(Path::new(list))?;
     let answer = backend::check(&subject.table, &subject.state, subject.request, &list);
     if !answer.is_done() {
-        let Report { text, refused } = refusal(answer);
-        let text = text + &subject.planned_instead(answer);
-        return Ok(Report { text, refused });
+        return Ok(refusal_with(answer, &subject.planned_instead(answer)));
     }
     let count = words::count(list.len() / 4, "call");
     Ok(Report::done(format!(

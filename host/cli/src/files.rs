@@ -7,13 +7,13 @@ use crate::Failure;
 
 /// The bytes of a file.
 pub fn read(path: &Path) -> Result<Vec<u8>, Failure> {
-    fs::read(path).map_err(|error| Failure(format!("cannot read {}: {error}", path.display())))
+    fs::read(path).map_err(|error| Failure::new(format!("cannot read {}: {error}", path.display())))
 }
 
 /// Writes a file.
 pub fn write(path: &Path, bytes: &[u8]) -> Result<(), Failure> {
     fs::write(path, bytes)
-        .map_err(|error| Failure(format!("cannot write {}: {error}", path.display())))
+        .map_err(|error| Failure::new(format!("cannot write {}: {error}", path.display())))
 }
 
 /// Fails if an output would overwrite one of these files.
@@ -23,7 +23,7 @@ pub fn must_keep(output: Option<&Path>, kept: &[Option<&Path>]) -> Result<(), Fa
     };
     let target = identity(output);
     match kept.iter().flatten().find(|kept| identity(kept) == target) {
-        Some(_) => Err(Failure(format!(
+        Some(_) => Err(Failure::new(format!(
             "{} is named for two purposes and would be overwritten",
             output.display()
         ))),

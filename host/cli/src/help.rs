@@ -21,7 +21,7 @@ for example: move 1 D2
 ";
 
 /// All subcommands.
-pub const ALL: [Help; 6] = [SHOW, FRESH, PLAN, CHECK, TRACE, DEMO];
+pub const ALL: [Help; 8] = [SHOW, DESCRIBE, WRITE, FRESH, PLAN, CHECK, TRACE, DEMO];
 
 /// `show`.
 pub const SHOW: Help = Help {
@@ -31,6 +31,50 @@ pub const SHOW: Help = Help {
     text: "\
 TABLE is a power table, a file of raw bytes. For each device the parent, the
 states it has, its methods, and the resources it needs in each state are shown.
+",
+};
+
+/// `describe`.
+pub const DESCRIBE: Help = Help {
+    name: "describe",
+    usage: "TABLE [-o FILE]",
+    purpose: "print a table as text that can be edited and written back",
+    text: "\
+TABLE is a power table, a file of raw bytes. It has no names, so the resources
+are named r0, r1 and so on, and the devices d0, d1 and so on. The text may be
+given other names; sailgarnet write --help explains its lines. Keep a text with
+other names: a table cannot give them back.
+
+  -o FILE    write the text to this file
+",
+};
+
+/// `write`.
+pub const WRITE: Help = Help {
+    name: "write",
+    usage: "FILE -o TABLE",
+    purpose: "write the table of a station that is given as text",
+    text: "\
+FILE is text. What it does not say is absent, and # begins a comment. Resources
+and devices get their numbers in the order in which they stand.
+
+  version 1
+  resource NAME level SLEEP order NUMBER
+      It can be on down to SLEEP. NUMBER is 0 to 65535; lower is on earlier.
+  device NAME
+      The lines after it say what it has.
+    parent NAME           a device that stands before it
+    _PS0 _PS3 _DSW        its methods, of _PS0 to _PS3 and _DSW
+    _PR0 NAME ..          the resources of _PR0, also none; so _PR1 to _PR3
+    _PRW SLEEP NAME ..    the deepest SLEEP it can wake from, and the resources
+    _S3D STATE            so _S1D to _S4D; D0 to D3hot
+    _S3W STATE            so _S0W to _S4W; D0 to D3cold
+
+SLEEP is S0 to S4, STATE is D0, D1, D2, D3hot or D3cold. A mistake in the text is
+shown with its line and column. Nothing is written then, or if the station is
+refused.
+
+  -o TABLE    the file to write
 ",
 };
 
@@ -127,8 +171,10 @@ impl Help {
     }
 }
 
-const EXIT_STATUS: &str =
-    "Exit status: 0 done, 1 refused, 2 wrong usage or a file that cannot be read or written.\n";
+const EXIT_STATUS: &str = "\
+Exit status: 0 done, 1 refused, 2 wrong usage, a mistake in a text, or a file that
+cannot be read or written.
+";
 
 /// The help text of the command.
 pub fn overview() -> String {

@@ -1,5 +1,6 @@
-//! The command `sailgarnet`: shows power tables, plans requests, and checks and
-//! traces lists of method calls.
+//! The command `sailgarnet`: shows power tables, describes them as text and
+//! writes them from it, plans requests, and checks and traces lists of method
+//! calls.
 
 #![forbid(unsafe_code)]
 
@@ -10,6 +11,10 @@ mod demo;
 mod files;
 mod grid;
 mod help;
+mod line;
+mod objects;
+mod printer;
+mod reader;
 mod request;
 mod show;
 mod svg;
@@ -22,14 +27,16 @@ use std::process::ExitCode;
 
 /// The exit status of a refusal.
 const REFUSED: u8 = 1;
-/// The exit status of wrong usage and of files that cannot be read or written.
+/// The exit status of wrong usage, of a mistake in a text and of files that
+/// cannot be read or written.
 const FAILED: u8 = 2;
 
 /// What a command has to say when it could do its work.
 pub struct Report {
     /// The text for standard output.
     pub text: String,
-    /// Whether the table, the state, the request or the list was refused.
+    /// Whether the table, the station, the state, the request or the list was
+    /// refused.
     pub refused: bool,
 }
 
@@ -44,7 +51,20 @@ impl Report {
 }
 
 /// Why a command could not do its work, for standard error.
-pub struct Failure(pub String);
+pub struct Failure(String);
+
+impl Failure {
+    /// A message after the name of the command.
+    pub fn new(message: String) -> Self {
+        Self(format!("sailgarnet: {message}"))
+    }
+
+    /// A message after a position in a file. Editors look for a position at the
+    /// beginning of a line.
+    pub fn at_position(message: String) -> Self {
+        Self(message)
+    }
+}
 
 fn main() -> ExitCode {
     let words = env::args_os().skip(1).collect();
@@ -55,13 +75,13 @@ fn main() -> ExitCode {
     match print(&report.text) {
         Ok(()) if report.refused => REFUSED.into(),
         Ok(()) => ExitCode::SUCCESS,
-        Err(error) => fail(&Failure(format!("cannot write the output: {error}"))),
+        Err(error) => fail(&Failure::new(format!("cannot write the output: {error}"))),
     }
 }
 
 fn fail(Failure(message): &Failure) -> ExitCode {
     // Nothing is left to do if standard error is closed too.
-    let _ = writeln!(io::stderr(), "sailgarnet: {message}");
+    let _ = writeln!(io::stderr(), "{message}");
     FAILED.into()
 }
 

@@ -4,6 +4,8 @@ use std::ffi::OsString;
 
 use sailgarnet::Request;
 
+use crate::words::quoted;
+
 /// Reads a request from the first operands and gives the operands after it. A
 /// request is one operand, `"move 1 D2"`, or one for each of its words.
 pub fn parse(operands: &[OsString]) -> Result<(Request, &[OsString]), String> {
@@ -36,11 +38,11 @@ fn word_count(kind: &str) -> Result<usize, String> {
 
 fn from_words(words: &[&str]) -> Result<Request, String> {
     match (words[0].to_ascii_lowercase().as_str(), &words[1..]) {
-        ("move", [d, state]) => Ok(Request::move_to(device(d)?, device_state(state)?)),
+        ("move", [d, state]) => Ok(Request::move_to(device(d)?, device_state(state)?.into())),
         ("arm", [d, s, state]) => Ok(Request::arm(
             device(d)?,
-            sleep_state(s)?,
-            device_state(state)?,
+            sleep_state(s)?.into(),
+            device_state(state)?.into(),
         )),
         ("disarm", [d]) => Ok(Request::disarm(device(d)?)),
         ("move", _) => Err("a move is written like: move 1 D2".into()),
@@ -54,7 +56,8 @@ fn device(word: &str) -> Result<u32, String> {
         .map_err(|_| format!("{word:?} is no device number"))
 }
 
-fn device_state(word: &str) -> Result<u32, String> {
+/// The number of a device state.
+pub fn device_state(word: &str) -> Result<u8, String> {
     match word.to_ascii_lowercase().as_str() {
         "d0" => Ok(0),
         "d1" => Ok(1),
@@ -63,19 +66,24 @@ fn device_state(word: &str) -> Result<u32, String> {
         "d3cold" => Ok(4),
         "d3" => Err("D3 can be two states; write D3hot or D3cold".into()),
         _ => Err(format!(
-            "{word:?} is no device state; write D0, D1, D2, D3hot or D3cold"
+            "{} is no device state; write D0, D1, D2, D3hot or D3cold",
+            quoted(word)
         )),
     }
 }
 
-fn sleep_state(word: &str) -> Result<u32, String> {
+/// The number of a sleep state.
+pub fn sleep_state(word: &str) -> Result<u8, String> {
     match word.to_ascii_lowercase().as_str() {
         "s0" => Ok(0),
         "s1" => Ok(1),
         "s2" => Ok(2),
         "s3" => Ok(3),
         "s4" => Ok(4),
-        _ => Err(format!("{word:?} is no sleep state; write S0 to S4")),
+        _ => Err(format!(
+            "{} is no sleep state; write S0 to S4",
+            quoted(word)
+        )),
     }
 }
 

@@ -5,18 +5,13 @@ use std::fmt::Write;
 use reference::{numbers, wake_range, Device, Entry, Table};
 
 use crate::commands::disagreement;
-use crate::words::{count, device_state, resources, DEVICE_STATES};
+use crate::words::{device_state, resources, table_size, DEVICE_STATES};
 use crate::Failure;
 
 /// The text of a table that the planner found good.
 pub fn table(bytes: &[u8]) -> Result<String, Failure> {
     let table = Table::read(bytes).map_err(|answer| disagreement(answer.number))?;
-    let mut text = format!(
-        "Table of {}: {}, {}\n",
-        count(bytes.len(), "byte"),
-        count(table.resource_count(), "resource"),
-        count(table.device_count(), "device"),
-    );
+    let mut text = table_size(bytes);
     if table.resource_count() > 0 {
         text += "\nResource  can be on down to  order\n";
     }

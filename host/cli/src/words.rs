@@ -87,12 +87,53 @@ pub fn answer_line(answer: Answer) -> String {
     format!("A{}\n", &text[1..])
 }
 
+/// An answer as a line with this sentence, if there is one, in place of its own.
+pub fn answer_line_with(answer: Answer, sentence: Option<&str>) -> String {
+    let line = answer_line(answer);
+    match (line.split_once(": "), sentence) {
+        (Some((answer, _)), Some(sentence)) => format!("{answer}: {sentence}\n"),
+        _ => line,
+    }
+}
+
+/// How many letters of a user's word are shown.
+const SHOWN: usize = 40;
+
+/// A user's word as it stands. A long one is cut, and control characters are
+/// escaped, since a terminal would obey them.
+pub fn shown(word: &str) -> String {
+    let mut shown = String::new();
+    for letter in word.chars().take(SHOWN) {
+        match letter.is_control() {
+            true => shown.extend(letter.escape_default()),
+            false => shown.push(letter),
+        }
+    }
+    if word.chars().nth(SHOWN).is_some() {
+        shown += "..";
+    }
+    shown
+}
+
+/// A user's word in quotes.
+pub fn quoted(word: &str) -> String {
+    format!("\"{}\"", shown(word))
+}
+
 /// A number with its noun.
 pub fn count(number: usize, noun: &str) -> String {
     match number {
         1 => format!("1 {noun}"),
         _ => format!("{number} {noun}s"),
     }
+}
+
+/// How large a table is that the planner found good or wrote.
+pub fn table_size(table: &[u8]) -> String {
+    let number = |byte: usize, noun| count(table[byte].into(), noun);
+    let (resources, devices) = (number(3, "resource"), number(6, "device"));
+    let bytes = count(table.len(), "byte");
+    format!("Table of {bytes}: {resources}, {devices}\n")
 }
 
 /// A text in lines of at most `width` letters, broken between words.
@@ -114,7 +155,7 @@ pub fn wrap(text: &str, width: usize) -> Vec<String> {
 
 #[cfg(test)]
 mod tests {
-    use super::{answer_line, resources, wrap};
+    use super::{answer_line, answer_line_with, quoted, resources, wrap};
     use sailgarnet::Answer;
 
     #[test]
@@ -129,6 +170,23 @@ mod tests {
         let line = answer_line(answer);
         assert!(line.starts_with("Answer 14, device 1: this device is a child"));
         assert!(line.ends_with(".\n"));
+    }
+
+    #[test]
+    fn an_answer_may_have_another_sentence() {
+        let answer = Answer::unpack(14 | 1 << 24);
+        let line = answer_line_with(answer, Some("a: b."));
+        assert_eq!(line, "Answer 14, device 1: a: b.\n");
+        assert_eq!(answer_line_with(answer, None), answer_line(answer));
+    }
+
+    #[test]
+    fn words_are_shown_as_they_stand() {
+        assert_eq!(quoted("e\u{301}\"\\'"), "\"e\u{301}\"\\'\"");
+        assert_eq!(quoted("\x1b[m\0"), "\"\\u{1b}[m\\u{0}\"");
+        let word = |letters| "ü".repeat(letters);
+        assert_eq!(quoted(&word(40)), format!("\"{}\"", word(40)));
+        assert_eq!(quoted(&word(41)), format!("\"{}..\"", word(40)));
     }
 
     #[test]

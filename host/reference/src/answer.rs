@@ -7,12 +7,13 @@ pub struct Answer {
     pub number: u8,
     /// The resource or device the answer is about, 0 where there is none.
     pub place: u64,
-    /// The number of calls planned.
+    /// The number of calls planned, or of bytes that [`crate::write`] or
+    /// [`crate::describe`] wrote.
     pub count: u16,
 }
 
 impl Answer {
-    /// Done, with `count` calls planned.
+    /// Done, with `count` calls planned or bytes written.
     pub const fn done(count: u16) -> Self {
         Self {
             number: 0,
@@ -21,7 +22,7 @@ impl Answer {
         }
     }
 
-    /// A refusal. It never has calls.
+    /// A refusal. It has no calls, and no bytes were written.
     pub const fn refused(number: u8, place: u64) -> Self {
         Self {
             number,

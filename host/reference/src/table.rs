@@ -9,9 +9,9 @@ pub const MAX_RESOURCES: usize = 32;
 pub const MAX_DEVICES: usize = 32;
 
 /// The first bytes of every table.
-const MARK: &[u8; 3] = b"PWT";
-/// The version of the table, little-endian.
-const VERSION: [u8; 2] = [1, 0];
+pub(crate) const MARK: &[u8; 3] = b"PWT";
+/// The version of the table.
+pub(crate) const VERSION: u16 = 1;
 /// Stands for no parent, or for an `_SxD` or `_SxW` that is absent.
 const ABSENT: u8 = 255;
 
@@ -39,11 +39,50 @@ pub fn record(table: &[u8], d: usize) -> &[u8] {
     }
 }
 
+/// The length of a table with so many resources and devices.
+pub(crate) const fn table_length(resource_count: usize, device_count: usize) -> usize {
+    8 + 4 * resource_count + 40 * device_count
+}
+
+/// The set of the first `resource_count` resources.
+fn first_resources(resource_count: usize) -> u64 {
+    (1 << resource_count) - 1
+}
+
+/// Refuses the lowest resource record that has a bad field with 4.
+pub(crate) fn check_resources(records: &[[u8; 4]]) -> Result<(), Answer> {
+    for (r, record) in records.iter().enumerate() {
+        if record[0] > 4 || record[1] != 0 {
+            return Err(Answer::refused(4, r as u64));
+        }
+    }
+    Ok(())
+}
+
+/// Refuses the lowest device record that has a bad field (5) or breaks an object
+/// rule (6), on a station with so many resources.
+pub(crate) fn check_devices<const N: usize, const W: usize>(
+    records: &[[u8; N]],
+    resource_count: usize,
+) -> Result<(), Answer> {
+    let all = first_resources(resource_count);
+    for (d, record) in records.iter().enumerate() {
+        let device = Device::<N, W>(record);
+        if !device.fields_are_good(d, all) {
+            return Err(Answer::refused(5, d as u64));
+        }
+        if !device.keeps_object_rules() {
+            return Err(Answer::refused(6, d as u64));
+        }
+    }
+    Ok(())
+}
+
 /// A table that was found good.
 #[derive(Clone, Copy)]
 pub struct Table<'a> {
-    resources: &'a [[u8; 4]],
-    devices: &'a [[u8; 40]],
+    pub(crate) resources: &'a [[u8; 4]],
+    pub(crate) devices: &'a [[u8; 40]],
 }
 
 impl<'a> Table<'a> {
@@ -52,14 +91,14 @@ impl<'a> Table<'a> {
         let Some((header, records)) = bytes.split_first_chunk::<8>() else {
             return Err(Answer::refused(1, 0));
         };
-        if header[..3] != *MARK || header[4..6] != VERSION || header[7] != 0 {
+        if header[..3] != *MARK || header[4..6] != VERSION.to_le_bytes() || header[7] != 0 {
             return Err(Answer::refused(1, 0));
         }
         let (r, d) = (header[3] as usize, header[6] as usize);
         if r > MAX_RESOURCES || d > MAX_DEVICES {
             return Err(Answer::refused(2, 0));
         }
-        if records.len() != 4 * r + 40 * d {
+        if bytes.len() != table_length(r, d) {
             return Err(Answer::refused(3, 0));
         }
         let (resources, devices) = records.split_at(4 * r);
@@ -67,27 +106,9 @@ impl<'a> Table<'a> {
             resources: resources.as_chunks().0,
             devices: devices.as_chunks().0,
         };
-        table.check_records()?;
+        check_resources(table.resources)?;
+        check_devices::<40, 4>(table.devices, r)?;
         Ok(table)
-    }
-
-    fn check_records(&self) -> Result<(), Answer> {
-        for (r, record) in self.resources.iter().enumerate() {
-            if record[0] > 4 || record[1] != 0 {
-                return Err(Answer::refused(4, r as u64));
-            }
-        }
-        let all = self.all_resources();
-        for (d, record) in self.devices.iter().enumerate() {
-            let device = Device(record);
-            if !device.fields_are_good(d, all) {
-                return Err(Answer::refused(5, d as u64));
-            }
-            if !device.keeps_object_rules() {
-                return Err(Answer::refused(6, d as u64));
-            }
-        }
-        Ok(())
     }
 
     /// The number of resources, R.
@@ -102,7 +123,7 @@ impl<'a> Table<'a> {
 
     /// The set of all R resources.
     pub fn all_resources(&self) -> u32 {
-        ((1u64 << self.resources.len()) - 1) as u32
+        first_resources(self.resources.len()) as u32
     }
 
     /// The deepest sleep state in which resource `r` can be on.
@@ -160,11 +181,23 @@ pub fn wake_range(sxd: Option<u8>, sxw: Option<u8>) -> Option<(u8, u8)> {
     }
 }
 
-/// A device record of 40 bytes.
+/// A device record of `N` bytes whose five sets have `W` bytes each: 40 and 4 in
+/// a table, 54 and 8 in a description.
 #[derive(Clone, Copy)]
-pub struct Device<'a>(&'a [u8; 40]);
+pub struct Device<'a, const N: usize = 40, const W: usize = 4>(&'a [u8; N]);
 
-impl Device<'_> {
+impl<const N: usize, const W: usize> Device<'_, N, W> {
+    /// Where the first set begins.
+    const SETS: usize = 4;
+    /// Where `_S1D` is.
+    const SXD: usize = Self::SETS + 5 * W;
+    /// Where `_S0W` is.
+    const SXW: usize = Self::SXD + 4;
+    /// Where the deepest sleep state is.
+    const DEEPEST: usize = Self::SXW + 5;
+    /// Where the reserved bytes begin. A description has none.
+    const RESERVED: usize = Self::DEEPEST + 1;
+
     /// The number of the parent.
     pub fn parent(self) -> Option<usize> {
         present(self.0[0]).map(usize::from)
@@ -195,42 +228,86 @@ impl Device<'_> {
         self.ps_mask() >> x & 1 != 0
     }
 
-    /// The resources of `_PRx`, x from 0 to 3; empty if it is absent.
-    pub fn pr_set(self, x: u8) -> u32 {
-        self.set(x as usize)
-    }
-
-    /// The resources of `_PRW`; empty if it is absent.
-    pub fn prw_set(self) -> u32 {
-        self.set(PRW_SET)
-    }
-
-    fn set(self, index: usize) -> u32 {
-        let start = 4 + 4 * index;
-        u32::from_le_bytes([
-            self.0[start],
-            self.0[start + 1],
-            self.0[start + 2],
-            self.0[start + 3],
-        ])
+    fn set(self, index: usize) -> u64 {
+        let start = Self::SETS + W * index;
+        let mut bytes = [0; 8];
+        bytes[..W].copy_from_slice(&self.0[start..start + W]);
+        u64::from_le_bytes(bytes)
     }
 
     /// `_SxD` for sleep state x, 0 to 4. There is no `_S0D`.
     pub fn sxd(self, x: u8) -> Option<u8> {
         match x {
             0 => None,
-            _ => present(self.0[23 + x as usize]),
+            _ => present(self.0[Self::SXD - 1 + x as usize]),
         }
     }
 
     /// `_SxW` for sleep state x, 0 to 4.
     pub fn sxw(self, x: u8) -> Option<u8> {
-        present(self.0[28 + x as usize])
+        present(self.0[Self::SXW + x as usize])
     }
 
     /// The deepest sleep state of `_PRW`.
     pub fn deepest_sleep(self) -> u8 {
-        self.0[33]
+        self.0[Self::DEEPEST]
+    }
+
+    /// The field rules of answer 5, for device number `d` and the set of all resources.
+    fn fields_are_good(self, d: usize, all: u64) -> bool {
+        let bytes = self.0;
+        (bytes[0] == ABSENT || (bytes[0] as usize) < d)
+            && (bytes[1] | bytes[2]) & 0xf0 == 0
+            && bytes[3] & !(PRW | DSW) == 0
+            && self.sets_are_good(all)
+            && bytes[Self::SXD..Self::SXW]
+                .iter()
+                .all(|&sxd| sxd <= 3 || sxd == ABSENT)
+            && bytes[Self::SXW..Self::DEEPEST]
+                .iter()
+                .all(|&sxw| sxw <= 4 || sxw == ABSENT)
+            && self.sleep_states_agree()
+            && self.deepest_sleep() <= 4
+            && (self.has_prw() || self.deepest_sleep() == 0)
+            && bytes[Self::RESERVED..] == [0; N][Self::RESERVED..]
+    }
+
+    /// Sets name only resources of the table, and those of absent objects are empty.
+    fn sets_are_good(self, all: u64) -> bool {
+        let listed = self.pr_mask() | u8::from(self.has_prw()) << PRW_SET;
+        (0..5).all(|i| {
+            let allowed = if listed >> i & 1 != 0 { all } else { 0 };
+            self.set(i) & !allowed == 0
+        })
+    }
+
+    /// `_SxD` is not larger than `_SxW` where both are present.
+    fn sleep_states_agree(self) -> bool {
+        (1..=4).all(|x| match (self.sxd(x), self.sxw(x)) {
+            (Some(sxd), Some(sxw)) => sxd <= sxw,
+            _ => true,
+        })
+    }
+
+    /// The object rules of answer 6.
+    fn keeps_object_rules(self) -> bool {
+        let (ps, pr) = (self.ps_mask(), self.pr_mask());
+        (ps == 0 || ps & 0b1001 == 0b1001)
+            && (pr == 0 || pr & 1 != 0)
+            && (ps == 0 || pr == 0 || (ps ^ pr) & 0b0111 == 0)
+            && (!self.has_dsw() || self.has_prw())
+    }
+}
+
+impl Device<'_> {
+    /// The resources of `_PRx`, x from 0 to 3; empty if it is absent.
+    pub fn pr_set(self, x: u8) -> u32 {
+        self.set(x as usize) as u32
+    }
+
+    /// The resources of `_PRW`; empty if it is absent.
+    pub fn prw_set(self) -> u32 {
+        self.set(PRW_SET) as u32
     }
 
     /// Whether the device has this state, 0 to 4.
@@ -263,47 +340,6 @@ impl Device<'_> {
             .rev()
             .find(|x| mask >> x & 1 != 0)
             .map_or(0, |x| self.pr_set(x))
-    }
-
-    /// The field rules of answer 5, for device number `d` and the set of all resources.
-    fn fields_are_good(self, d: usize, all: u32) -> bool {
-        let bytes = self.0;
-        (bytes[0] == ABSENT || (bytes[0] as usize) < d)
-            && (bytes[1] | bytes[2]) & 0xf0 == 0
-            && bytes[3] & !(PRW | DSW) == 0
-            && self.sets_are_good(all)
-            && bytes[24..28].iter().all(|&sxd| sxd <= 3 || sxd == ABSENT)
-            && bytes[28..33].iter().all(|&sxw| sxw <= 4 || sxw == ABSENT)
-            && self.sleep_states_agree()
-            && bytes[33] <= 4
-            && (self.has_prw() || bytes[33] == 0)
-            && bytes[34..] == [0; 6]
-    }
-
-    /// Sets name only resources of the table, and those of absent objects are empty.
-    fn sets_are_good(self, all: u32) -> bool {
-        let listed = self.pr_mask() | u8::from(self.has_prw()) << PRW_SET;
-        (0..5).all(|i| {
-            let allowed = if listed >> i & 1 != 0 { all } else { 0 };
-            self.set(i) & !allowed == 0
-        })
-    }
-
-    /// `_SxD` is not larger than `_SxW` where both are present.
-    fn sleep_states_agree(self) -> bool {
-        (1..=4).all(|x| match (self.sxd(x), self.sxw(x)) {
-            (Some(sxd), Some(sxw)) => sxd <= sxw,
-            _ => true,
-        })
-    }
-
-    /// The object rules of answer 6.
-    fn keeps_object_rules(self) -> bool {
-        let (ps, pr) = (self.ps_mask(), self.pr_mask());
-        (ps == 0 || ps & 0b1001 == 0b1001)
-            && (pr == 0 || pr & 1 != 0)
-            && (ps == 0 || pr == 0 || (ps ^ pr) & 0b0111 == 0)
-            && (!self.has_dsw() || self.has_prw())
     }
 }
 

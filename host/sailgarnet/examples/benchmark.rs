@@ -7,7 +7,7 @@
 use std::hint::black_box;
 use std::time::Instant;
 
-use cases::{workloads, Case, Workload};
+use cases::{workloads, Case, Description, Workload};
 
 /// So many calls are timed at once, each with buffers of its own. All of them
 /// stay in the cache, and they are reset between two rounds, outside the time.
@@ -15,14 +15,31 @@ const BUFFERS: usize = 64;
 const ROUNDS: usize = 400;
 
 /// What a function writes to.
-#[derive(Clone)]
+#[derive(Clone, PartialEq)]
 struct Buffers {
     state: Vec<u8>,
     plan: Vec<u8>,
+    written: Vec<u8>,
+    described: Description,
 }
 
 /// Calls one function of one planner.
 type Run = fn(&Case, &mut Buffers) -> u64;
+
+/// A function that is measured: its name, its answer number in a workload, and
+/// the library's and the reference's.
+type Function = (&'static str, fn(&Workload) -> Option<u8>, [Run; 2]);
+
+const FUNCTIONS: [Function; 4] = [
+    ("plan", |w| w.planner, [library_plan, reference_plan]),
+    ("check", |w| w.checker, [library_check, reference_check]),
+    ("write", |w| w.writer, [library_write, reference_write]),
+    (
+        "describe",
+        |w| w.describer,
+        [library_describe, reference_describe],
+    ),
+];
 
 /// One line of the table.
 struct Row<'a> {
@@ -46,13 +63,9 @@ fn main() {
 
 fn rows(workloads: &[Workload]) -> Vec<Row<'_>> {
     let mut rows = Vec::new();
-    for workload in workloads {
-        let functions: [(_, _, [Run; 2]); 2] = [
-            ("plan", workload.planner, [library_plan, reference_plan]),
-            ("check", workload.checker, [library_check, reference_check]),
-        ];
-        for (function, number, runs) in functions {
-            rows.extend(number.map(|number| Row {
+    for (function, number, runs) in FUNCTIONS {
+        for workload in workloads {
+            rows.extend(number(workload).map(|number| Row {
                 function,
                 workload,
                 number,
@@ -60,15 +73,17 @@ fn rows(workloads: &[Workload]) -> Vec<Row<'_>> {
             }));
         }
     }
-    rows.sort_by_key(|row| row.function == "check");
     rows
 }
 
 impl Row<'_> {
     fn buffers(&self) -> Buffers {
+        let case = &self.workload.case;
         Buffers {
-            state: self.workload.case.state.clone(),
-            plan: self.workload.case.plan.clone(),
+            state: case.state.clone(),
+            plan: case.plan.clone(),
+            written: case.written.clone(),
+            described: case.described.clone(),
         }
     }
 
@@ -81,7 +96,7 @@ impl Row<'_> {
 fn must_agree(row: &Row) {
     let [library, reference] = row.runs.map(|run| {
         let mut buffers = row.buffers();
-        (row.run(run, &mut buffers), buffers.state, buffers.plan)
+        (row.run(run, &mut buffers), buffers)
     });
     assert!(library == reference, "{} differs", row.workload.name);
     assert_eq!(library.0 as u8, row.number, "{}", row.workload.name);
@@ -90,7 +105,7 @@ fn must_agree(row: &Row) {
 fn print_times(rows: &[Row]) {
     println!(
         "Nanoseconds a call, of the fastest of {ROUNDS} rounds of {BUFFERS} calls. Both take turns in one \
-         run.\nAll buffers are in the cache; state and plan are reset before each round, outside the time.\n"
+         run.\nAll buffers are in the cache; what is written to is reset before each round, outside the time.\n"
     );
     println!("| function | input | answer | Sailgarnet ns | reference ns | ratio |");
     println!("|---|---|---|---|---|---|");
@@ -150,12 +165,12 @@ fn counted(row: &Row, run: Run, buffers: &mut Buffers) -> u64 {
 
 fn library_plan(case: &Case, buffers: &mut Buffers) -> u64 {
     let request = library_request(case);
-    let Buffers { state, plan } = buffers;
+    let Buffers { state, plan, .. } = buffers;
     sailgarnet::plan(&case.table, state, request, plan).pack()
 }
 
 fn reference_plan(case: &Case, buffers: &mut Buffers) -> u64 {
-    let Buffers { state, plan } = buffers;
+    let Buffers { state, plan, .. } = buffers;
     reference::plan(&case.table, state, case.request, plan).pack()
 }
 
@@ -166,6 +181,26 @@ fn library_check(case: &Case, buffers: &mut Buffers) -> u64 {
 
 fn reference_check(case: &Case, buffers: &mut Buffers) -> u64 {
     reference::check(&case.table, &buffers.state, case.request, &case.list).pack()
+}
+
+fn library_write(case: &Case, buffers: &mut Buffers) -> u64 {
+    let Description { resources, devices } = &case.description;
+    sailgarnet::write(case.version, resources, devices, &mut buffers.written).pack()
+}
+
+fn reference_write(case: &Case, buffers: &mut Buffers) -> u64 {
+    let Description { resources, devices } = &case.description;
+    reference::write(case.version, resources, devices, &mut buffers.written).pack()
+}
+
+fn library_describe(case: &Case, buffers: &mut Buffers) -> u64 {
+    let Description { resources, devices } = &mut buffers.described;
+    sailgarnet::describe(&case.table, resources, devices).pack()
+}
+
+fn reference_describe(case: &Case, buffers: &mut Buffers) -> u64 {
+    let Description { resources, devices } = &mut buffers.described;
+    reference::describe(&case.table, resources, devices).pack()
 }
 
 fn library_request(case: &Case) -> sailgarnet::Request {

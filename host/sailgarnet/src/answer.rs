@@ -10,7 +10,8 @@ pub struct Answer {
     /// The number of the resource or device the answer is about, 0 where there
     /// is none.
     pub place: u64,
-    /// The number of calls planned, 0 for a refusal and for the checker.
+    /// The number of calls planned, or of bytes that `write` or `describe` wrote.
+    /// It is 0 for a refusal and for every other function.
     pub count: u16,
 }
 
@@ -40,6 +41,11 @@ impl Answer {
     /// The length of the plan in bytes.
     pub const fn plan_length(self) -> usize {
         4 * self.count as usize
+    }
+
+    /// How many bytes `write` or `describe` wrote; of the latter, in both lists.
+    pub const fn bytes_written(self) -> usize {
+        self.count as usize
     }
 
     /// What the number means, `None` for a number that has no meaning.
@@ -82,15 +88,16 @@ pub enum Place {
 pub enum Verdict {
     /// Nothing is refused.
     Done = 0,
-    /// The table is too short for a header, or the header is wrong.
+    /// The table is too short for a header, the header is wrong, or the version
+    /// to write is not 1.
     NotATable = 1,
     /// The table has too many resources or devices.
     TooMany = 2,
     /// The table has the wrong length.
     WrongLength = 3,
-    /// A resource record is wrong.
+    /// A resource record is wrong or cut short.
     BadResource = 4,
-    /// A field of a device record is wrong.
+    /// A field of a device record is wrong, or the record is cut short.
     BadDevice = 5,
     /// A device breaks an object rule.
     BadObjects = 6,
@@ -98,7 +105,7 @@ pub enum Verdict {
     BadState = 7,
     /// The state is not consistent.
     Inconsistent = 8,
-    /// There is too little room for the plan.
+    /// There is too little room for the plan, the table or a list of records.
     NoRoom = 9,
     /// A number of the request is out of range.
     BadRequest = 10,
@@ -180,21 +187,23 @@ impl Verdict {
         match self {
             Verdict::Done => "done.",
             Verdict::NotATable => {
-                "the table is shorter than 8 bytes, or its mark, its version or its byte 7 is wrong."
+                "the table is shorter than 8 bytes, its mark, its version or its byte 7 is wrong, \
+                 or the version to write is not 1."
             }
             Verdict::TooMany => "the table has more than 32 resources or more than 32 devices.",
-            Verdict::WrongLength => {
-                "the table is not 8 bytes, 4 a resource and 40 a device long."
-            }
+            Verdict::WrongLength => "the table is not 8 bytes, 4 a resource and 40 a device long.",
             Verdict::BadResource => {
-                "the record of this resource has a system level above 4, or its byte 1 is not zero."
+                "the record of this resource has a system level above 4, its byte 1 is not zero, \
+                 or it is cut short."
             }
             Verdict::BadDevice => {
-                "the record of this device has a field with a value that is not allowed."
+                "the record of this device has a field with a value that is not allowed, or it is \
+                 cut short."
             }
             Verdict::BadObjects => {
                 "the objects of this device break a rule: any _PS needs _PS0 and _PS3, any _PR \
-                 needs _PR0, with both kinds their masks agree on 0 to 2, and _DSW needs _PRW."
+                 needs _PR0, with both kinds _PS1 is there exactly if _PR1 is and _PS2 exactly if \
+                 _PR2 is, and _DSW needs _PRW."
             }
             Verdict::BadState => {
                 "the state is not 132 bytes long, or a value in it is not allowed."
@@ -204,7 +213,10 @@ impl Verdict {
                  shallower than its parent, is armed for a wake pair that is not legal or \
                  shallower than its own state, or needs a resource that is off."
             }
-            Verdict::NoRoom => "the buffer for the plan has room for fewer than 33 calls.",
+            Verdict::NoRoom => {
+                "a buffer is too short for what is to be written: for 33 calls whatever the \
+                 request, or for the whole table or list of records."
+            }
             Verdict::BadRequest => {
                 "the kind, the device or a number of the request is out of range, or an unused \
                  number is not zero."
@@ -359,5 +371,6 @@ mod tests {
         assert_eq!(answer.pack(), 0x1234_5678_9abc_de0e);
         assert_eq!(Answer::unpack(answer.pack()), answer);
         assert_eq!(answer.plan_length(), 4 * 0xbcde);
+        assert_eq!(answer.bytes_written(), 0xbcde);
     }
 }

@@ -1,9 +1,10 @@
 //! The proved planner for ACPI power resources, called from Rust.
 //!
-//! The planner is a static library with three C functions. This crate declares
-//! them and offers each as a safe function: `fresh`, `plan` and `check`.
-//! They take the same byte buffers as the C functions and refuse a buffer of
-//! the wrong length by their answer, so no call can go wrong in another way.
+//! The planner is a static library with five C functions. This crate declares
+//! them and offers each as a safe function: `fresh`, `plan`, `check`, `write`
+//! and `describe`. They take the same byte buffers as the C functions and refuse
+//! a buffer of the wrong length by their answer, so no call can go wrong in
+//! another way.
 //!
 //! A table says which resources and devices there are. A state, 132 bytes, says
 //! what is on and in which state each device is. A [`Request`] moves, arms or
@@ -11,19 +12,24 @@
 //! [`Call`] for each four bytes, and the new state; or it refuses. The [`Answer`]
 //! says which, and its [`Verdict`] has a sentence for each number.
 //!
+//! An editor of tables has them described, works on each [`Resource`] and
+//! [`Device`] and writes the table again.
+//!
 //! The feature `link`, on by default, links the library. Without it only the
 //! types are there.
 
 mod answer;
 mod call;
+mod description;
 #[cfg(feature = "link")]
 mod library;
 mod request;
 
 pub use answer::{Answer, Place, Verdict};
 pub use call::{calls, Call};
+pub use description::{devices, resources, Device, Resource, NONE};
 #[cfg(feature = "link")]
-pub use library::{check, fresh, plan};
+pub use library::{check, describe, fresh, plan, write};
 pub use request::Request;
 
 /// The length of a state.
@@ -34,3 +40,12 @@ pub const PLAN_CALLS: usize = 33;
 
 /// The room the planner asks for in bytes, four a call.
 pub const PLAN_BYTES: usize = 4 * PLAN_CALLS;
+
+/// The most resources a table can have.
+pub const MAX_RESOURCES: usize = 32;
+
+/// The most devices a table can have.
+pub const MAX_DEVICES: usize = 32;
+
+/// The most bytes a table can have.
+pub const MAX_TABLE_BYTES: usize = 8 + 4 * MAX_RESOURCES + 40 * MAX_DEVICES;

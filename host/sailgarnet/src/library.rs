@@ -36,6 +36,25 @@ mod c {
             list: *const u8,
             list_len: usize,
         ) -> u64;
+
+        pub fn sailgarnet_write(
+            version: u32,
+            resources: *const u8,
+            resources_len: usize,
+            devices: *const u8,
+            devices_len: usize,
+            table: *mut u8,
+            table_len: usize,
+        ) -> u64;
+
+        pub fn sailgarnet_describe(
+            table: *const u8,
+            table_len: usize,
+            resources: *mut u8,
+            resources_len: usize,
+            devices: *mut u8,
+            devices_len: usize,
+        ) -> u64;
     }
 }
 
@@ -133,6 +152,93 @@ pub fn check(table: &[u8], state: &[u8], request: Request, list: &[u8]) -> Answe
             b,
             list.as_ptr(),
             list.len(),
+        )
+    };
+    Answer::unpack(packed)
+}
+
+/// Writes the table of described resources and devices, of four and 54 bytes
+/// each, to the first bytes of `table`. The bytes past it are left as they were.
+///
+/// Gives 0 and the table's length in bytes, or a refusal, which writes nothing:
+/// 1 if `version` is not 1, 2 for more than 32 records of a kind, 9 if `table`
+/// is too short, then 4, 5 and 6 as for a table that has these records. A record
+/// that is cut short counts, and is refused with 4 or 5.
+///
+/// ```
+/// use sailgarnet::{write, Device, Resource, Verdict, MAX_TABLE_BYTES};
+///
+/// // A lamp that needs resource 0 in D0 and nothing in D3hot.
+/// let supply = Resource { system_level: 0, order: 2 };
+/// let lamp = Device { pr_mask: 0b1001, sets: [0b1, 0, 0, 0, 0], ..Device::default() };
+/// let mut table = [0; MAX_TABLE_BYTES];
+/// let answer = write(1, &supply.to_bytes(), &lamp.to_bytes(), &mut table);
+/// assert_eq!(answer.verdict(), Some(Verdict::Done));
+/// assert_eq!(answer.bytes_written(), 8 + 4 + 40);
+/// assert_eq!(table[..12], [b'P', b'W', b'T', 1, 1, 0, 1, 0, 0, 0, 2, 0]);
+///
+/// // There is no resource 1.
+/// let lamp = Device { sets: [0b10, 0, 0, 0, 0], ..lamp };
+/// let answer = write(1, &supply.to_bytes(), &lamp.to_bytes(), &mut table);
+/// assert_eq!(answer.verdict(), Some(Verdict::BadDevice));
+/// ```
+#[inline]
+pub fn write(version: u32, resources: &[u8], devices: &[u8], table: &mut [u8]) -> Answer {
+    // SAFETY: each pointer is valid for its length, and a mutable borrow
+    // overlaps no other.
+    let packed = unsafe {
+        c::sailgarnet_write(
+            version,
+            resources.as_ptr(),
+            resources.len(),
+            devices.as_ptr(),
+            devices.len(),
+            table.as_mut_ptr(),
+            table.len(),
+        )
+    };
+    Answer::unpack(packed)
+}
+
+/// Writes what a table describes: its resources, four bytes each, to the first
+/// bytes of `resources`, and its devices, 54 bytes each, to the first bytes of
+/// `devices`. The bytes past them are left as they were.
+///
+/// Gives 0 and the number of bytes in both lists, or a refusal, which writes
+/// nothing: 1 to 6 for the table, then 9 if a buffer is too short.
+///
+/// ```
+/// use sailgarnet::{describe, devices, write, Device, Verdict, MAX_TABLE_BYTES};
+///
+/// // No resource, and a device without any object.
+/// let mut table = vec![b'P', b'W', b'T', 0, 1, 0, 1, 0];
+/// table.extend([255, 0, 0, 0]);
+/// table.extend([0; 20]);
+/// table.extend([255; 9]);
+/// table.extend([0; 7]);
+/// let mut list = [0; Device::BYTES];
+/// let answer = describe(&table, &mut [], &mut list);
+/// assert_eq!(answer.verdict(), Some(Verdict::Done));
+/// assert_eq!(answer.bytes_written(), Device::BYTES);
+/// assert!(devices(&list).eq([Device::default()]));
+///
+/// // What is described writes back as the same table.
+/// let mut buffer = [0; MAX_TABLE_BYTES];
+/// let answer = write(1, &[], &list, &mut buffer);
+/// assert_eq!(buffer[..answer.bytes_written()], table);
+/// ```
+#[inline]
+pub fn describe(table: &[u8], resources: &mut [u8], devices: &mut [u8]) -> Answer {
+    // SAFETY: each pointer is valid for its length, and a mutable borrow
+    // overlaps no other.
+    let packed = unsafe {
+        c::sailgarnet_describe(
+            table.as_ptr(),
+            table.len(),
+            resources.as_mut_ptr(),
+            resources.len(),
+            devices.as_mut_ptr(),
+            devices.len(),
         )
     };
     Answer::unpack(packed)

@@ -2,7 +2,8 @@
 
 use cases::sweep::bench_station;
 use sailgarnet::{
-    calls, check, fresh, plan, Answer, Call, Request, Verdict, PLAN_BYTES, STATE_BYTES,
+    calls, check, describe, devices, fresh, plan, resources, write, Answer, Call, Device, Request,
+    Resource, Verdict, MAX_TABLE_BYTES, NONE, PLAN_BYTES, STATE_BYTES,
 };
 
 const CAMERA: u32 = 1;
@@ -76,4 +77,100 @@ fn lengths_are_refused_by_the_answer() {
     assert_eq!(no_room.verdict(), Some(Verdict::NoRoom));
     let odd_list = check(&table, &state, request, &[3, 1, 2]);
     assert_eq!(odd_list.verdict(), Some(Verdict::NotConforming));
+}
+
+/// The lists of the bench station: three resources and three devices.
+type Lists = ([u8; 3 * Resource::BYTES], [u8; 3 * Device::BYTES]);
+
+fn described_bench() -> Lists {
+    let table = bench_station().table();
+    let mut lists = ([0xaa; 12], [0xaa; 162]);
+    let answer = describe(&table, &mut lists.0, &mut lists.1);
+    assert_eq!(answer.verdict(), Some(Verdict::Done));
+    assert_eq!(answer.bytes_written(), 12 + 162);
+    lists
+}
+
+#[test]
+fn the_bench_station_is_described() {
+    let lists = described_bench();
+    let resource = |system_level, order| {
+        Some(Resource {
+            system_level,
+            order,
+        })
+    };
+    let expected = [resource(3, 1), resource(0, 2), resource(3, 1)];
+    assert!(resources(&lists.0).eq(expected));
+    let bus = Device {
+        ps_mask: 0b1001,
+        pr_mask: 0b1001,
+        sets: [0b001, 0, 0, 0b001, 0],
+        ..Device::default()
+    };
+    let camera = Device {
+        parent: 0,
+        ps_mask: 0b1101,
+        pr_mask: 0b1101,
+        flags: Device::PRW | Device::DSW,
+        sets: [0b111, 0, 0b101, 0b001, 0b100],
+        sxd: [NONE, NONE, 2, NONE],
+        sxw: [NONE, NONE, NONE, 3, NONE],
+        deepest: 3,
+    };
+    let lamp = Device {
+        parent: 0,
+        pr_mask: 0b1001,
+        sets: [0b010, 0, 0, 0, 0],
+        ..Device::default()
+    };
+    assert!(devices(&lists.1).eq([bus, camera, lamp]));
+}
+
+#[test]
+fn an_edited_station_is_written() {
+    let lists = described_bench();
+    let mut edited: Vec<Device> = devices(&lists.1).collect();
+    edited[LAMP as usize].sets[0] = 0b100;
+    let edited: Vec<u8> = edited.iter().flat_map(|device| device.to_bytes()).collect();
+    let mut buffer = [0xaa; MAX_TABLE_BYTES];
+    let answer = write(1, &lists.0, &edited, &mut buffer);
+    assert_eq!(answer.verdict(), Some(Verdict::Done));
+    // Byte 104 is the lowest of the lamp's _PR0 (RULES.md 10.1).
+    let mut expected = bench_station().table();
+    expected[104] = 0b100;
+    let (table, rest) = buffer.split_at(answer.bytes_written());
+    assert_eq!(table, expected);
+    assert!(rest.iter().all(|&byte| byte == 0xaa));
+}
+
+#[test]
+fn a_bad_description_is_refused_at_its_place() {
+    let (list, mut edited) = described_bench();
+    edited[CAMERA as usize * Device::BYTES + 4] = 0b1000;
+    let mut buffer = [0xaa; MAX_TABLE_BYTES];
+    let answer = write(1, &list, &edited, &mut buffer);
+    assert_eq!((answer.number, answer.place, answer.count), (5, 1, 0));
+    assert_eq!(buffer, [0xaa; MAX_TABLE_BYTES]);
+    let answer = write(1, &list[..11], &edited, &mut buffer);
+    assert_eq!((answer.number, answer.place, answer.count), (4, 2, 0));
+}
+
+#[test]
+fn versions_numbers_and_rooms_are_refused() {
+    let (list, edited) = described_bench();
+    let table = bench_station().table();
+    let mut buffer = [0; MAX_TABLE_BYTES];
+    let refused = |answer: Answer| answer.verdict().expect("a verdict");
+    let version = write(2, &list, &edited, &mut buffer);
+    assert_eq!(refused(version), Verdict::NotATable);
+    let many = write(1, &[0; 129], &edited, &mut buffer);
+    assert_eq!(refused(many), Verdict::TooMany);
+    let short = write(1, &list, &edited, &mut buffer[..139]);
+    assert_eq!(refused(short), Verdict::NoRoom);
+    assert_eq!(refused(write(1, &[], &[], &mut [])), Verdict::NoRoom);
+    assert_eq!(refused(describe(&[], &mut [], &mut [])), Verdict::NotATable);
+    assert_eq!(refused(describe(&table, &mut [], &mut [])), Verdict::NoRoom);
+    let short = describe(&table, &mut [0; 12], &mut [0; 161]);
+    assert_eq!(refused(short), Verdict::NoRoom);
 }

@@ -5,7 +5,7 @@ use Rattle.sailgarnet.proofs.sailgarnet_check.Statement.{statement}
 use Rattle.sailgarnet.proofs.sailgarnet_check.Tie as tie
 
 pack-requires : tie.Need-pack-requires
-pack-requires c κs = fits _ _ _ (c .check-bytes .ensures .0) (check-fits _ _ _ _)
+pack-requires c κs = fits _ _ (c .check-bytes .ensures .0) (check-fits _ _ _ _)
 
 returns : tie.Need-returns
 returns c = (packs _ _ _ (c .before .check-bytes .ensures .0) (c .pack .ensures), search needs)

@@ -5,7 +5,7 @@ use Rattle.sailgarnet.proofs.sailgarnet_fresh.Statement.{statement}
 use Rattle.sailgarnet.proofs.sailgarnet_fresh.Tie as tie
 
 pack-requires : tie.Need-pack-requires
-pack-requires c κs = fits _ _ _ (c .before .before .fresh .ensures .0) (fresh-fits _ _)
+pack-requires c κs = fits _ _ (c .before .before .fresh .ensures .0) (fresh-fits _ _)
 
 returns : tie.Need-returns
 returns c = (packs _ _ _ (c .before .before .before .fresh .ensures .0) (c .pack .ensures), search needs)

@@ -5,7 +5,7 @@ use Rattle.sailgarnet.proofs.sailgarnet_plan.Statement.{statement}
 use Rattle.sailgarnet.proofs.sailgarnet_plan.Tie as tie
 
 pack-requires : tie.Need-pack-requires
-pack-requires c κs = fits _ _ _ (c .before .before .before .before .plan-bytes .ensures .0) (plan-fits _ _ _ _)
+pack-requires c κs = fits _ _ (c .before .before .before .before .plan-bytes .ensures .0) (plan-fits _ _ _ _)
 
 returns : tie.Need-returns
 returns c =

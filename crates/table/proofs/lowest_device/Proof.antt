@@ -1,24 +1,12 @@
--- The loop keeps: the lowest bad device is the lowest from i on. The measure is how many are left.
-use mathlib.Core.Path.{_≡_}
-use mathlib.Core.Bool.{not}
-use Prim.Native.Nat.{_-_, _≤_}
-use Rattle.rules.specs.Index.{leastFrom, least}
-use Rattle.rules.specs.Station.{countD}
-use Rattle.rules.specs.Table.{deviceGood}
-use borrow.Author.Needs.{needs}
+-- The devices' records are a run with zeros at the end of each.
 use Rattle.table.proofs.Verdicts.{lowest-bad}
+use borrow.Author.Needs.{needs}
 use Rattle.table.proofs.lowest_device.Statement.{statement}
 use Rattle.table.proofs.lowest_device.Tie as tie
-
-abbrev Inv-loop : tie.InvT-loop
-Inv-loop table n i₀ i = (i ≤ n) × (leastFrom (λ j. not (deviceGood table j)) i (n - i) ≡ least
-    (λ j. not (deviceGood table j)) (countD table))
-
-abbrev μ-loop : tie.MeasureT-loop
-μ-loop table n i₀ i = n - i
 
 pub lowest-device-spec : {M : Type 1} → statement M
 lowest-device-spec =
     tie.close
-    (tie.spec Inv-loop μ-loop (λ c κs. search needs) (λ c. search (needs, lowest-bad)) (λ c. search needs) (λ c κs. search needs)
-    (λ c. search (needs, lowest-bad)) (λ c. search needs) (λ c. search (needs, lowest-bad)) (λ c. search (needs, lowest-bad)))
+    (tie.spec (λ c κs. search needs) (λ c κs. search needs) (λ c κs. search needs) (λ c κs. search needs)
+    (λ c κs. (search needs, search (needs, lowest-bad), search (needs, lowest-bad), search (needs, lowest-bad)))
+    (λ c. search (needs, lowest-bad)))

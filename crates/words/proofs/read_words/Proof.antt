@@ -2,7 +2,7 @@ use Prim.Native.Nat.{_-_, _≤_}
 use borrow.Author.Needs.{needs}
 use Rattle.words.specs.Words.{byteWords}
 use Rattle.words.proofs.Put.{Emitted}
-use Rattle.words.proofs.Copy.{reading}
+use Rattle.words.proofs.Loops.{reading}
 use Rattle.words.proofs.read_words.Statement.{statement}
 use Rattle.words.proofs.read_words.Tie as tie
 

@@ -3,7 +3,7 @@ use borrow.Author.Needs.{needs}
 use lib.ListN.{take}
 use Rattle.words.specs.Words.{wordBytes}
 use Rattle.words.proofs.Put.{Emitted}
-use Rattle.words.proofs.Copy.{writing}
+use Rattle.words.proofs.Loops.{writing}
 use Rattle.words.proofs.write_words.Statement.{statement}
 use Rattle.words.proofs.write_words.Tie as tie
 

@@ -1,5 +1,5 @@
 //! Each answer the command can give, with its place. The command always lends
-//! enough room for a plan, so 9 cannot be given.
+//! enough room for what is written, so 9 cannot be given.
 
 use crate::desk::Desk;
 
@@ -11,6 +11,8 @@ fn refuses_table(desk: &Desk, change: impl Fn(&mut Vec<u8>), number: u8, place: 
     desk.write("table", &damaged);
     for line in [
         "show table",
+        "describe table",
+        "describe table -o new",
         "fresh table -o new",
         "plan table state move 1 D2",
         "check table state move 1 D2 state",
@@ -18,6 +20,7 @@ fn refuses_table(desk: &Desk, change: impl Fn(&mut Vec<u8>), number: u8, place: 
     ] {
         let text = desk.run(line).refused(number);
         assert!(text.contains(place), "{text}");
+        assert!(!desk.has("new"));
     }
     desk.write("table", &table);
 }

@@ -107,6 +107,13 @@ impl Run {
         self.output
     }
 
+    /// A mistake in a text: status 2, this line on standard error.
+    pub fn mistaken(self, line: &str) {
+        assert_eq!(self.status, 2, "{self:?}");
+        assert_eq!(self.output, "");
+        assert_eq!(self.error, format!("{line}\n"));
+    }
+
     /// Failed: status 2, a message with these words on standard error.
     pub fn failed(self, message: &str) {
         assert_eq!(self.status, 2, "{self:?}");

@@ -3,9 +3,12 @@
 mod answers;
 mod check;
 mod demo;
+mod describe;
 mod desk;
 mod fresh;
 mod plan;
 mod show;
+mod stations;
 mod trace;
 mod usage;
+mod write;

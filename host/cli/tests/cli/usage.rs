@@ -1,6 +1,8 @@
 use crate::desk::Desk;
 
-const SUBCOMMANDS: [&str; 6] = ["show", "fresh", "plan", "check", "trace", "demo"];
+const SUBCOMMANDS: [&str; 8] = [
+    "show", "describe", "write", "fresh", "plan", "check", "trace", "demo",
+];
 
 #[test]
 fn help_is_given_for_the_command_and_each_subcommand() {
@@ -17,7 +19,7 @@ fn help_is_given_for_the_command_and_each_subcommand() {
             assert!(text.starts_with(&format!("Usage: sailgarnet {name}")));
             assert!(text.contains("Exit status: 0 done, 1 refused, 2 "));
             let takes_request = ["plan", "check", "trace"].contains(&name);
-            assert_eq!(text.contains("D3cold"), takes_request);
+            assert_eq!(text.contains("REQUEST is one of"), takes_request);
         }
     }
     // Help is given wherever it is asked for.

@@ -1,6 +1,6 @@
 //! One case on the library and on the reference.
 
-use cases::{Case, Coverage, Guarded};
+use cases::{inverse_holds, Case, Coverage, Description, Guarded};
 use reference::{demand3, Answer};
 use sailgarnet::Request;
 
@@ -11,6 +11,14 @@ pub struct Lent {
     plan: Guarded,
     list: Guarded,
     fresh: Guarded,
+    /// What the writer reads.
+    resources: Guarded,
+    devices: Guarded,
+    /// What the writer writes.
+    written: Guarded,
+    /// What the describer writes.
+    described_resources: Guarded,
+    described_devices: Guarded,
 }
 
 impl Lent {
@@ -22,6 +30,11 @@ impl Lent {
             plan: empty(),
             list: empty(),
             fresh: empty(),
+            resources: empty(),
+            devices: empty(),
+            written: empty(),
+            described_resources: empty(),
+            described_devices: empty(),
         }
     }
 
@@ -31,6 +44,11 @@ impl Lent {
         self.plan.set(&case.plan);
         self.list.set(&case.list);
         self.fresh.set(&case.fresh);
+        self.resources.set(&case.description.resources);
+        self.devices.set(&case.description.devices);
+        self.written.set(&case.written);
+        self.described_resources.set(&case.described.resources);
+        self.described_devices.set(&case.described.devices);
     }
 
     /// Runs both on a case, counts the answers, and says what differs or what
@@ -40,13 +58,19 @@ impl Lent {
         let fresh = self.compare_fresh(case)?;
         let check = self.compare_check(case)?;
         let plan = self.compare_plan(case)?;
+        let write = self.compare_write(case)?;
+        let describe = self.compare_describe(case)?;
+        self.unwritten(case)?;
         coverage.fresh.add(fresh.number);
         coverage.checker.add(check.number);
         coverage.planner.add(plan.number);
+        coverage.writer.add(write.number);
+        coverage.places.add(write);
+        coverage.describer.add(describe.number);
         if plan.is_done() {
             self.check_own_list(case, 4 * usize::from(plan.count))?;
         }
-        self.unwritten(case)
+        inverse_holds(case, library_write, library_describe)
     }
 
     fn compare_fresh(&mut self, case: &Case) -> Result<Answer, String> {
@@ -82,6 +106,31 @@ impl Lent {
         Ok(expected)
     }
 
+    fn compare_write(&mut self, case: &Case) -> Result<Answer, String> {
+        let (resources, devices) = (self.resources.lent(), self.devices.lent());
+        let answer = sailgarnet::write(case.version, resources, devices, self.written.lent_mut());
+        let mut table = case.written.clone();
+        let Description { resources, devices } = &case.description;
+        let expected = reference::write(case.version, resources, devices, &mut table);
+        equal_answers("write", answer, expected)?;
+        equal_bytes("the table written", self.written.lent(), &table)?;
+        Ok(expected)
+    }
+
+    fn compare_describe(&mut self, case: &Case) -> Result<Answer, String> {
+        let resources = self.described_resources.lent_mut();
+        let devices = self.described_devices.lent_mut();
+        let answer = sailgarnet::describe(self.table.lent(), resources, devices);
+        let mut lists = case.described.clone();
+        let expected = reference::describe(&case.table, &mut lists.resources, &mut lists.devices);
+        equal_answers("describe", answer, expected)?;
+        let resources = self.described_resources.lent();
+        equal_bytes("the resources described", resources, &lists.resources)?;
+        let devices = self.described_devices.lent();
+        equal_bytes("the devices described", devices, &lists.devices)?;
+        Ok(expected)
+    }
+
     /// The planner's own list passes from the state that was lent to the planner.
     fn check_own_list(&self, case: &Case, length: usize) -> Result<(), String> {
         let list = &self.plan.lent()[..length];
@@ -94,12 +143,20 @@ impl Lent {
     fn unwritten(&self, case: &Case) -> Result<(), String> {
         equal_bytes("the table", self.table.lent(), &case.table)?;
         equal_bytes("the list", self.list.lent(), &case.list)?;
+        let Description { resources, devices } = &case.description;
+        equal_bytes("the list of resources", self.resources.lent(), resources)?;
+        equal_bytes("the list of devices", self.devices.lent(), devices)?;
         for (name, guarded) in [
             ("the table", &self.table),
             ("the state", &self.state),
             ("the plan", &self.plan),
             ("the list", &self.list),
             ("the fresh state", &self.fresh),
+            ("the list of resources", &self.resources),
+            ("the list of devices", &self.devices),
+            ("the table written", &self.written),
+            ("the resources described", &self.described_resources),
+            ("the devices described", &self.described_devices),
         ] {
             if !guarded.is_intact() {
                 return Err(format!("a byte beside {name} was written"));
@@ -122,6 +179,14 @@ fn equal_bytes(what: &str, bytes: &[u8], expected: &[u8]) -> Result<(), String> 
         true => Ok(()),
         false => Err(format!("{what} is\n{bytes:02x?}, not\n{expected:02x?}")),
     }
+}
+
+fn library_write(version: u32, lists: &Description, table: &mut [u8]) -> u64 {
+    sailgarnet::write(version, &lists.resources, &lists.devices, table).pack()
+}
+
+fn library_describe(table: &[u8], lists: &mut Description) -> u64 {
+    sailgarnet::describe(table, &mut lists.resources, &mut lists.devices).pack()
 }
 
 fn library_request(case: &Case) -> Request {

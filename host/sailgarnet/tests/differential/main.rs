@@ -1,16 +1,17 @@
 //! The library against the reference: the same answer and the same bytes on
-//! every input, no byte changed outside the lent buffers, and every list that
-//! passes carried out.
+//! every input, no byte changed outside the lent buffers, every list that passes
+//! carried out, and every table that is written described back.
 //!
 //! `SAILGARNET_SECONDS` sets how long the random cases run, else
 //! `SAILGARNET_CASES` how many there are. `SAILGARNET_SEED` sets their seed.
 
 mod compare;
+mod descriptions;
 
 use std::env;
 use std::time::{Duration, Instant};
 
-use cases::{sweep, workloads, Case, Cases, Coverage};
+use cases::{sweep, workloads, Case, Cases, Coverage, Description};
 use compare::Lent;
 use reference::Request;
 
@@ -90,32 +91,41 @@ fn bench_case() -> Case {
     state[8] = 4;
     state[128] = 0b101;
     Case {
-        table: sweep::bench_station().table(),
         state,
         request: Request::move_to(1, 0),
         plan: vec![0x5a; 132],
         list: vec![1, 1, 0, 0, 3, 1, 0, 0],
         fresh: vec![0x5a; 132],
-        device: 0,
+        ..Case::of_station(&sweep::bench_station())
     }
 }
 
 #[test]
 fn the_bench_case_is_accepted() {
-    let case = bench_case();
+    let mut case = bench_case();
     let answer = reference::check(&case.table, &case.state, case.request, &case.list);
     assert!(answer.is_done());
+    let Description { resources, devices } = &case.description;
+    let answer = reference::write(1, resources, devices, &mut case.written);
+    assert!(answer.is_done());
+    let Description { resources, devices } = &mut case.described;
+    assert!(reference::describe(&case.table, resources, devices).is_done());
 }
 
 /// A buffer of a case.
 type Part = fn(&mut Case) -> &mut Vec<u8>;
 
-const PARTS: [Part; 5] = [
+const PARTS: [Part; 10] = [
     |case| &mut case.table,
     |case| &mut case.state,
     |case| &mut case.list,
     |case| &mut case.plan,
     |case| &mut case.fresh,
+    |case| &mut case.description.resources,
+    |case| &mut case.description.devices,
+    |case| &mut case.written,
+    |case| &mut case.described.resources,
+    |case| &mut case.described.devices,
 ];
 
 /// Each byte of each buffer with each value in it, and each length of each buffer.

@@ -1,8 +1,8 @@
--- Resource r's record starts at byte 8 + 4r.
+-- No field is bad exactly if the first bad one is past the end.
 use Rattle.record.proofs.Tests.{record-tests}
 use borrow.Author.Needs.{needs}
 use Rattle.record.proofs.bad.resource_good.Statement.{statement}
 use Rattle.record.proofs.bad.resource_good.Tie as tie
 
 pub resource-good-spec : {M : Type 1} → statement M
-resource-good-spec = tie.close (tie.spec (λ c. search needs) (λ c. search needs) (λ c κs. search needs) (λ c. search (needs, record-tests)))
+resource-good-spec = tie.close (tie.spec (λ c κs. search needs) (λ c. search (needs, record-tests)))

@@ -1,4 +1,4 @@
--- A state is held against the limit, 255 too; any other byte must be 255.
+-- A state is deviceValue against the limit, 255 too; any other byte must be 255.
 use Rattle.record.proofs.Tests.{record-tests}
 use borrow.Author.Needs.{needs}
 use Rattle.record.proofs.good.sxd_good.Statement.{statement}

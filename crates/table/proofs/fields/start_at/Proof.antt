@@ -1,3 +1,4 @@
+-- Device d starts where a table of d devices ends.
 use Rattle.table.proofs.Readers.{field-laws}
 use borrow.Author.Needs.{needs}
 use Rattle.table.proofs.fields.start_at.Statement.{statement}
@@ -6,6 +7,5 @@ use Rattle.table.proofs.fields.start_at.Tie as tie
 pub start-at-spec : {M : Type 1} → statement M
 start-at-spec =
     tie.close
-    (tie.spec (λ c. search needs) (λ c κs. search needs) (λ c. search needs) (λ c. search needs) (λ c. search needs)
-    (λ c κs. search needs) (λ c. search needs) (λ c. search needs) (λ c. search (needs, field-laws)) (λ c. search needs)
-    (λ c. search needs) (λ c. search (needs, field-laws)))
+    (tie.spec (λ c κs. search needs) (λ c. search needs) (λ c κs. search needs) (λ c. search needs) (λ c κs. search needs)
+    (λ c. search (needs, field-laws)))

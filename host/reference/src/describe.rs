@@ -1,0 +1,126 @@
+//! Descriptions of stations: two lists of records, which a table is written
+//! from and read into.
+
+use crate::answer::Answer;
+use crate::table::{
+    check_devices, check_resources, table_length, Table, MARK, MAX_DEVICES, MAX_RESOURCES, VERSION,
+};
+
+/// The length of a described resource: its record in a table.
+pub const DESCRIBED_RESOURCE_BYTES: usize = 4;
+/// The length of a described device: the fields of its record, the sets with 8
+/// bytes each.
+pub const DESCRIBED_DEVICE_BYTES: usize = 54;
+
+/// Writes the table of a described station to the front of `table`, or refuses
+/// with 1, 2, 9, 4, 5 or 6. The count is the table's bytes.
+pub fn write(version: u32, resources: &[u8], devices: &[u8], table: &mut [u8]) -> Answer {
+    match Description::read(version, resources, devices, table.len()) {
+        Ok(description) => description.write(table),
+        Err(refusal) => refusal,
+    }
+}
+
+/// Writes the resources and the devices of a table to the fronts of the two
+/// buffers, or refuses with 1 to 6 or 9. The count is the bytes of both.
+pub fn describe(table: &[u8], resources: &mut [u8], devices: &mut [u8]) -> Answer {
+    let table = match Table::read(table) {
+        Ok(table) => table,
+        Err(refusal) => return refusal,
+    };
+    let resources_length = DESCRIBED_RESOURCE_BYTES * table.resource_count();
+    let devices_length = DESCRIBED_DEVICE_BYTES * table.device_count();
+    let (Some(resources), Some(devices)) = (
+        resources.get_mut(..resources_length),
+        devices.get_mut(..devices_length),
+    ) else {
+        return Answer::refused(9, 0);
+    };
+    resources.copy_from_slice(table.resources.as_flattened());
+    for (device, record) in devices.as_chunks_mut().0.iter_mut().zip(table.devices) {
+        *device = description_of(record);
+    }
+    Answer::done((resources_length + devices_length) as u16)
+}
+
+/// A description that was found good.
+struct Description<'a> {
+    resources: &'a [[u8; DESCRIBED_RESOURCE_BYTES]],
+    devices: &'a [[u8; DESCRIBED_DEVICE_BYTES]],
+}
+
+impl<'a> Description<'a> {
+    /// Reads a description for a table with so much room. A record that is cut
+    /// short is the last of its list, so it is looked at after the others.
+    fn read(
+        version: u32,
+        resources: &'a [u8],
+        devices: &'a [u8],
+        room: usize,
+    ) -> Result<Self, Answer> {
+        if version != u32::from(VERSION) {
+            return Err(Answer::refused(1, 0));
+        }
+        let r = resources.len().div_ceil(DESCRIBED_RESOURCE_BYTES);
+        let d = devices.len().div_ceil(DESCRIBED_DEVICE_BYTES);
+        if r > MAX_RESOURCES || d > MAX_DEVICES {
+            return Err(Answer::refused(2, 0));
+        }
+        if room < table_length(r, d) {
+            return Err(Answer::refused(9, 0));
+        }
+        let (resources, cut_resource) = resources.as_chunks();
+        check_resources(resources)?;
+        if !cut_resource.is_empty() {
+            return Err(Answer::refused(4, resources.len() as u64));
+        }
+        let (devices, cut_device) = devices.as_chunks();
+        check_devices::<DESCRIBED_DEVICE_BYTES, 8>(devices, r)?;
+        if !cut_device.is_empty() {
+            return Err(Answer::refused(5, devices.len() as u64));
+        }
+        Ok(Self { resources, devices })
+    }
+
+    /// Writes the table to the front of a buffer that has room for it.
+    fn write(&self, table: &mut [u8]) -> Answer {
+        let (r, d) = (self.resources.len(), self.devices.len());
+        let length = table_length(r, d);
+        let (header, records) = table[..length].split_at_mut(8);
+        header[..3].copy_from_slice(MARK);
+        header[3] = r as u8;
+        header[4..6].copy_from_slice(&VERSION.to_le_bytes());
+        header[6] = d as u8;
+        header[7] = 0;
+        let (resources, devices) = records.split_at_mut(4 * r);
+        resources.copy_from_slice(self.resources.as_flattened());
+        for (record, device) in devices.as_chunks_mut().0.iter_mut().zip(self.devices) {
+            *record = record_of(device);
+        }
+        Answer::done(length as u16)
+    }
+}
+
+/// The record of a described device. Its sets fit into four bytes.
+fn record_of(device: &[u8; DESCRIBED_DEVICE_BYTES]) -> [u8; 40] {
+    let mut record = [0; 40];
+    record[..4].copy_from_slice(&device[..4]);
+    let sets = record[4..24].as_chunks_mut().0;
+    for (set, described) in sets.iter_mut().zip(device[4..44].as_chunks().0) {
+        *set = (u64::from_le_bytes(*described) as u32).to_le_bytes();
+    }
+    record[24..34].copy_from_slice(&device[44..]);
+    record
+}
+
+/// The description of a device's record.
+fn description_of(record: &[u8; 40]) -> [u8; DESCRIBED_DEVICE_BYTES] {
+    let mut device = [0; DESCRIBED_DEVICE_BYTES];
+    device[..4].copy_from_slice(&record[..4]);
+    let sets = device[4..44].as_chunks_mut().0;
+    for (set, bytes) in sets.iter_mut().zip(record[4..24].as_chunks().0) {
+        *set = u64::from(u32::from_le_bytes(*bytes)).to_le_bytes();
+    }
+    device[44..].copy_from_slice(&record[24..34]);
+    device
+}
