@@ -1,5 +1,5 @@
 -- What a row of requests must meet: the planner, the checker, a fresh state and a device's record, on bytes and on words, and the list
--- carried out.
+-- carried out; and what a row of bring-up must.
 use Prim.Native.Nat.{ℕ, suc, _-_, _*_, _/_, _%_}
 use mathlib.Core.Bool.{Bool, true, false, _&&_, not, cond}
 use mathlib.Core.List.{List, [], _∷_, _++_, map, reverse}
@@ -14,12 +14,15 @@ use Rattle.rules.specs.declared.OptionalCall.the-variants.{Is, NoCall}
 use Rattle.rules.specs.Index.{every}
 use Rattle.rules.specs.Answers.{numberOf, placeOf, countOf}
 use Rattle.rules.specs.declared.Change.{Change}
+use Rattle.rules.specs.declared.Switching.{Switching}
 use Rattle.rules.specs.Station.{Station, countR, station}
 use Rattle.rules.specs.Status.{status, entryBytes}
 use Rattle.rules.specs.Calls.{wordOf, callOf, listOf, rising, arrange, changeOf}
 use Rattle.rules.specs.Execution.{execution}
 use Rattle.rules.specs.Outcomes.{Outcome, fresh, planWords, planBytes, checkWords, checkBytes, recordPart}
+use Rattle.rules.specs.BringUp.{bringUpWords, bringUpBytes, checkBringUpWords, checkBringUpBytes}
 use Rattle.rules.specs.Rows.{bytes, blank, Start, freshIn, given, Answer, Listed, Row}
+use Rattle.rules.specs.BringUpRows.{BringUpRow}
 
 -- two lists are equal
 unfoldable pub same : List ℕ → List ℕ → Bool
@@ -76,12 +79,16 @@ wordsRead (w ∷ ws) = wordRead (callOf w) ++ wordsRead ws
 unfoldable pub agree : Bool → Bool → Bool
 agree a b = cond a b (not b)
 
+-- the words of a switching
+unfoldable pub switchWords : Station → Switching → List ℕ
+switchWords s c = map wordOf (arrange (c .last) (listOf (c .own)) (rising s (c .added)) (reverse (rising s (c .removed))))
+
 -- what the request does, as one value, is the device's new entry, the on-set afterwards and the row's words
 unfoldable pub changes : Station → Change → ℕ → Answer → Bool
 changes s c d a =
     same (entryBytes (c .entry)) (take 4 (drop (4 * d) (a .entries)))
     && eqb (c .needed) (a .on)
-    && same (map wordOf (arrange (c .last) (listOf (c .own)) (rising s (c .added)) (reverse (rising s (c .removed))))) (wordsIn (a .calls))
+    && same (switchWords s (c .switching)) (wordsIn (a .calls))
 
 -- the row's words, each a call, carried out from the on-set before: every resource ends as the row's on-set has it
 unfoldable pub carried : List ℕ → List ℕ → Answer → Bool
@@ -89,15 +96,14 @@ carried t b a =
     let ws = wordsIn (a .calls) in
     same (wordsRead ws) ws && every (λ r. agree (execution (member (status t b .on)) ws r) (member (a .on) r)) (countR t)
 
--- the checker of bytes, and of words if they are whole: number, place and count of its answer to a list
-unfoldable pub checks : List ℕ → List ℕ → Request → List ℕ → ℕ → ℕ → Bool
-checks t b q list number place =
-    answers (checkBytes t b q list) number place 0
-    && cond (eqb (length list % 4) 0) (answers (checkWords t b q (wordsIn list)) number place 0) true
+-- a checker of bytes, and of words if they are whole: number, place and count of its answer to a list
+unfoldable pub checks : (List ℕ → Verdict) → (List ℕ → Verdict) → List ℕ → ℕ → ℕ → Bool
+checks onBytes onWords list number place =
+    answers (onBytes list) number place 0 && cond (eqb (length list % 4) 0) (answers (onWords (wordsIn list)) number place 0) true
 
-unfoldable pub checksAll : List ℕ → List ℕ → Request → List Listed → Bool
-checksAll t b q [] = true
-checksAll t b q (l ∷ ls) = checks t b q (l .list) (l .number) 0 && checksAll t b q ls
+unfoldable pub checksAll : (List ℕ → Verdict) → (List ℕ → Verdict) → List Listed → Bool
+checksAll onBytes onWords [] = true
+checksAll onBytes onWords (l ∷ ls) = checks onBytes onWords (l .list) (l .number) 0 && checksAll onBytes onWords ls
 
 -- the last request, from state b and with a plan of n bytes: the planner of bytes and of words, the checker of the row's calls and of the
 -- other lists, the record that is handed out; where it is done, the list carried out, and the request as one value
@@ -105,8 +111,8 @@ unfoldable pub holdsFrom : List ℕ → List ℕ → Request → ℕ → Answer 
 holdsFrom t b q n a r =
     leaves (planBytes t b q (blank n)) a (a .calls) (endState b a) (blank n)
     && leaves (planWords t b q (blank (n / 4))) a (wordsIn (a .calls)) (endState b a) (blank (n / 4))
-    && checks t b q (a .calls) (a .checked) (a .place)
-    && checksAll t b q (r .lists)
+    && checks (checkBytes t b q) (checkWords t b q) (a .calls) (a .checked) (a .place)
+    && checksAll (checkBytes t b q) (checkWords t b q) (r .lists)
     && same (recordPart t (q .device)) (r .part)
     && cond (eqb (a .number) 0) (carried t b a && changes (station t) (changeOf (station t) (status t b) q) (q .device) a) true
 
@@ -118,7 +124,20 @@ holdsIn t r =
 abbrev pub holds : Row → Bool
 holds r = holdsIn (r .lent .table) r
 
--- the places, counted from i, of the rows that fail
-unfoldable pub wrong : ℕ → List Row → List ℕ
-wrong i [] = []
-wrong i (r ∷ rs) = cond (holds r) (wrong (suc i) rs) (i ∷ wrong (suc i) rs)
+-- bring-up from a row's state and with its room: of bytes and of words, its checker of the row's calls and of the other lists; where it is
+-- done, the list carried out
+unfoldable pub holdsBringUp : List ℕ → List ℕ → ℕ → Answer → List Listed → Bool
+holdsBringUp t b n a ls =
+    leaves (bringUpBytes t b (blank n)) a (a .calls) (endState b a) (blank n)
+    && leaves (bringUpWords t b (blank (n / 4))) a (wordsIn (a .calls)) (endState b a) (blank (n / 4))
+    && checks (checkBringUpBytes t b) (checkBringUpWords t b) (a .calls) (a .checked) (a .place)
+    && checksAll (checkBringUpBytes t b) (checkBringUpWords t b) ls
+    && cond (eqb (a .number) 0) (carried t b a) true
+
+abbrev pub bringsUp : BringUpRow → Bool
+bringsUp r = holdsBringUp (r .table) (r .state) (r .room) (r .answer) (r .lists)
+
+-- the places, counted from i, of the rows that fail a test
+unfoldable pub wrong : {A : Type 0} → (A → Bool) → ℕ → List A → List ℕ
+wrong test i [] = []
+wrong test i (r ∷ rs) = cond (test r) (wrong test (suc i) rs) (i ∷ wrong test (suc i) rs)

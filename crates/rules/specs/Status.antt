@@ -104,15 +104,18 @@ consistent s st d = consistentButPower s (st .entries) d && powered s st d
 unfoldable pub valuesGood : ℕ → Station → Status → Bool
 valuesGood n s st = entriesGood n s (st .entries) && onGood s (st .on)
 
+-- an image has its size, and its values are good
+unfoldable pub imageGood : List ℕ → List ℕ → Bool
+imageGood t b = eqb (length b) (imageSize (width t)) && valuesGood (limit (width t)) (station t) (status t b)
+
+-- 7: an image that is not good
+unfoldable pub valuesVerdict : List ℕ → List ℕ → Verdict
+valuesVerdict t b = unless (imageGood t b) BadState 0
+
 -- 8: the lowest device that is not consistent
 unfoldable pub consistencyVerdict : Station → Status → Verdict
 consistencyVerdict s st = lowest (λ d. not (consistent s st d)) (s .devices) (Refused Inconsistent)
 
 -- 7, then 8
 unfoldable pub stateVerdict : List ℕ → List ℕ → Verdict
-stateVerdict t b =
-    firstOf
-    (unless (eqb (length b) (imageSize (width t)) && valuesGood (limit (width t)) (station t) (status t b)) BadState 0
-    ∷ consistencyVerdict (station t) (status t b)
-    ∷ [])
-    (Done 0)
+stateVerdict t b = firstOf (valuesVerdict t b ∷ consistencyVerdict (station t) (status t b) ∷ []) (Done 0)
