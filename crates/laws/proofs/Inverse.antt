@@ -29,7 +29,7 @@ use Rattle.laws.proofs.Accepted.{DeviceRules, values-rules, refuses, ac
 use Rattle.laws.proofs.Good.{good-each}
 use Rattle.laws.proofs.Write.{count-r, count-d, table-long, resources-back, devices-back}
 use Rattle.laws.proofs.Describe.{described-long, resources-long, described-representable, table-back}
-use Rattle.laws.proofs.Demand3.{number-passes}
+use Rattle.laws.proofs.Lists.{number-passes}
 use Rattle.laws.proofs.Verdict.{same-verdict}
 
 -- records that are each whole are all of a list that has no more than them
