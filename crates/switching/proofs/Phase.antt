@@ -1,4 +1,4 @@
--- One phase of the checker: the order of two resources, what may come next, and how a turn of the loop shortens `takePhase`.
+-- One phase of a list: the order of two resources, what may come next, and how a turn of the loop shortens `takePhase`.
 use mathlib.Core.Path.{_≡_, refl, sym, ap, _∙_}
 use mathlib.Core.Bool.{Bool, true, false, not, _||_}
 use mathlib.Core.List.{List}
@@ -19,11 +19,11 @@ use Rattle.laws.proofs.Take.{take-stop, take-short, take-bad, take-one}
 use Rattle.table.specs.Layout.{WellSized}
 use Rattle.table.proofs.Readers.{resources-few}
 use Rattle.calls.specs.Switch.{switchWord}
-use Rattle.checker.specs.declared.decode.OptionalResource.{OptionalResource}
-use Rattle.checker.specs.declared.decode.OptionalResource.the-variants.{Resource, NoResource}
-use Rattle.checker.specs.Decode.{switched}
-use Rattle.checker.specs.Phases.{follows, takePhase, comesNext}
-use Rattle.checker.proofs.Switched.{come-none, come-names, come-is}
+use Rattle.switching.specs.declared.decode.OptionalResource.{OptionalResource}
+use Rattle.switching.specs.declared.decode.OptionalResource.the-variants.{Resource, NoResource}
+use Rattle.switching.specs.Decode.{switched}
+use Rattle.switching.specs.Phases.{follows, takePhase, comesNext}
+use Rattle.switching.proofs.Switched.{come-none, come-names, come-is}
 
 -- ---- the order of two resources
 module _ (s : Station) (off : Bool) (last r a b : ℕ) where

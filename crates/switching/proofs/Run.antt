@@ -14,7 +14,7 @@ use Rattle.rules.specs.Station.{Station, width, countR, stationOf, station}
 use Rattle.rules.specs.declared.Call.{Call}
 use Rattle.rules.specs.declared.OptionalCall.{OptionalCall}
 use Rattle.rules.specs.declared.OptionalCall.the-variants.{Is, NoCall}
-use Rattle.rules.specs.declared.Change.{Change}
+use Rattle.rules.specs.declared.Switching.{Switching}
 use Rattle.rules.specs.Calls.{wordOf, listOf, membersFrom, earlier, orderIn, rising, arrange}
 use Rattle.rules.specs.Outcomes.{planRoom}
 use Rattle.laws.proofs.Sort.{length-sort}
@@ -23,8 +23,8 @@ use Rattle.calls.specs.Ranges.{OptionalInRange}
 use Rattle.calls.specs.Switch.{switchWord}
 use Rattle.calls.specs.Phases.{inOrder, switchWords, phaseWords}
 use Rattle.calls.proofs.Keys.{switch-long}
-use Rattle.request.specs.Permitted.{Disjoint, GoodChange}
-use Rattle.planner.specs.Plan.{changeWords}
+use Rattle.switching.specs.Switching.{Disjoint, GoodSwitching}
+use Rattle.switching.specs.Switching.{switchingWords}
 
 -- ---- the own call's word
 
@@ -108,30 +108,30 @@ own-long NoCall = omega arith
 
 ruleset regroup = (map-append, map-map, append-assoc)
 
-module _ (t : List ℕ) (c : Change) where
+module _ (t : List ℕ) (c : Switching) where
   abbrev own : List ℕ
   own = map wordOf (listOf (c .own))
 
   abbrev phases : List ℕ
   phases = phaseWords (station t) (c .added) (c .removed)
 
-  pub own-comes-last : c .last ≡ true → changeWords (station t) c ≡ phaseWords (station t) (c .added) (c .removed)
+  pub own-comes-last : c .last ≡ true → switchingWords (station t) c ≡ phaseWords (station t) (c .added) (c .removed)
       ++ map wordOf (listOf (c .own))
-  unfolding changeWords phaseWords switchWords switchWord inOrder arrange
+  unfolding switchingWords phaseWords switchWords switchWord inOrder arrange
   own-comes-last h = rw h (simp regroup)
 
-  pub own-comes-first : c .last ≡ false → changeWords (station t) c ≡ map wordOf (listOf (c .own)) ++ phaseWords
+  pub own-comes-first : c .last ≡ false → switchingWords (station t) c ≡ map wordOf (listOf (c .own)) ++ phaseWords
       (station t) (c .added) (c .removed)
-  unfolding changeWords phaseWords switchWords switchWord inOrder arrange
+  unfolding switchingWords phaseWords switchWords switchWord inOrder arrange
   own-comes-first h = rw h (simp regroup)
 
   -- a plan has at most R + 1 words, so each run has room
-  module _ (g : GoodChange t c) where
+  module _ (g : GoodSwitching t c) where
     runs-fit : length (phaseWords (station t) (c .added) (c .removed)) + length (listOf (c .own)) ≤ countR t + 1
     runs-fit = omega (arith, phase-fits t (c .added) (c .removed) (g .disjoint), own-long (c .own))
 
-    change-fits : length (changeWords (station t) c) ≤ countR t + 1
-    change-fits =
+    switching-fits : length (switchingWords (station t) c) ≤ countR t + 1
+    switching-fits =
         let n = runs-fit in
         let m = length-map (listOf (c .own)) wordOf in
         decide (c .last)
@@ -161,12 +161,12 @@ module _ (t : List ℕ) (c : Change) where
             rw f (omega (arith, runs-fit, z .resources, m, length-put d 0 own (omega (arith, own-first-room, m))))
 
       -- two runs are the whole plan
-      module _ (p r : ℕ) (xs ys : List ℕ) (w : changeWords (station t) c ≡ xs ++ ys) (e : p ≡ 0 + length xs) where
-        pub whole-count : r ≡ p + length ys → r ≡ length (changeWords (station t) c)
+      module _ (p r : ℕ) (xs ys : List ℕ) (w : switchingWords (station t) c ≡ xs ++ ys) (e : p ≡ 0 + length xs) where
+        pub whole-count : r ≡ p + length ys → r ≡ length (switchingWords (station t) c)
         whole-count f = omega (arith, run-place d 0 p xs ys _ w e r f)
 
-        pub whole-put : (l m : List ℕ) → l ≡ put d 0 xs → m ≡ put l p ys → m ≡ put d 0 (changeWords (station t) c)
-        whole-put l m f k = run-put d 0 p xs ys _ w e l m (omega (arith, change-fits, z .resources)) f k
+        pub whole-put : (l m : List ℕ) → l ≡ put d 0 xs → m ≡ put l p ys → m ≡ put d 0 (switchingWords (station t) c)
+        whole-put l m f k = run-put d 0 p xs ys _ w e l m (omega (arith, switching-fits, z .resources)) f k
 
 pub ruleset plan-runs =
     (own-comes-last, own-comes-first, own-good, own-first-room, phases-first-room, own-last-room, phases-last-room, whole-count, whole-put)

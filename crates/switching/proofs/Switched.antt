@@ -14,9 +14,9 @@ use Rattle.rules.specs.Calls.{callOf}
 use Rattle.rules.specs.Check.{onWord, offWord, resourceIn, mayCome}
 use Rattle.calls.specs.Switch.{switchWord}
 use Rattle.calls.proofs.Inverse.{call-of-word, word-of-call}
-use Rattle.checker.specs.declared.decode.OptionalResource.the-variants.{Resource, NoResource}
-use Rattle.checker.specs.Decode.{switchedBy, switched}
-use Rattle.checker.specs.Phases.{follows, comesNext}
+use Rattle.switching.specs.declared.decode.OptionalResource.the-variants.{Resource, NoResource}
+use Rattle.switching.specs.Decode.{switchedBy, switched}
+use Rattle.switching.specs.Phases.{follows, comesNext}
 
 not-none : (r : ℕ) → Resource r ≡ NoResource → ⊥
 not-none r e = let z : _≡_ {A = ℕ} 0 1 = cc in omega arith

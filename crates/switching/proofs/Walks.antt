@@ -11,18 +11,16 @@ use lib.ListN.{length, getD, drop, drop-of-length-le}
 use lib.Seq.{drop-cons}
 use Rattle.sets.proofs.Laws.{decide}
 use Rattle.rules.specs.declared.Call.{Call}
-use Rattle.rules.specs.declared.Change.{Change}
-use Rattle.rules.specs.declared.Request.{Request}
+use Rattle.rules.specs.declared.Switching.{Switching}
 use Rattle.rules.specs.declared.OptionalCall.{OptionalCall}
 use Rattle.rules.specs.declared.OptionalCall.the-variants.{Is, NoCall}
 use Rattle.rules.specs.Station.{Station}
-use Rattle.rules.specs.Status.{Status}
-use Rattle.rules.specs.Calls.{wordOf, listOf, ownLast, changeOf}
-use Rattle.rules.specs.Check.{Rest, left, refused, andThen, takeWords, isEnd, ownFirstCalls, ownLastCalls, conforming}
+use Rattle.rules.specs.Calls.{wordOf, listOf, switchingOf}
+use Rattle.rules.specs.Check.{Rest, left, refused, andThen, takeWords, isEnd, firstCalls, lastCalls, conforming}
 use Rattle.calls.specs.Switch.{switchWord}
-use Rattle.checker.specs.declared.Taken.{Taken}
-use Rattle.checker.specs.declared.Taken.the-variants.{UpTo, Refused}
-use Rattle.checker.specs.Phases.{Leaves, follows, takePhase, ownWords, takePhases, walked}
+use Rattle.switching.specs.declared.Taken.{Taken}
+use Rattle.switching.specs.declared.Taken.the-variants.{UpTo, Refused}
+use Rattle.switching.specs.Phases.{Leaves, follows, takePhase, ownWords, takePhases, walked}
 
 -- ---- a call's word. b is whether the word at the place is that
 module _ (l : List ℕ) (at w : ℕ) where
@@ -88,7 +86,7 @@ module _ (s : Station) (on off at : ℕ) (ws : List ℕ) (a : Taken) (ha : Leave
 pub ruleset switches = (within, ons-refused, offs-follow)
 
 -- the own call, these, and the own call
-module _ (s : Station) (c : Change) (ws : List ℕ) (a : Taken)
+module _ (s : Station) (c : Switching) (ws : List ℕ) (a : Taken)
     (ha : Leaves ws a (takeWords (ownWords (not (c .last)) (c .own)) (drop 0 ws))) where
   pub first-refused : a ≡ Refused → false ≡ walked s c ws
   unfolding walked andThen isEnd
@@ -110,7 +108,7 @@ module _ (s : Station) (c : Change) (ws : List ℕ) (a : Taken)
 
 pub ruleset walks = (within, first-refused, switches-refused, last-refused, at-the-end)
 
--- ---- the walk over a request's change is the test
+-- ---- the walk over a switching is the test
 then-then : (r : Rest) (f g : List ℕ → Rest) → andThen (andThen r f) g ≡ andThen r (λ a. andThen (f a) g)
 unfolding andThen
 then-then (left a) f g = refl
@@ -122,6 +120,8 @@ unfolding andThen
 joined (left a) ons offs last = then-then (ons a) offs last
 joined refused ons offs last = refl
 
-pub walked-is : (s : Station) (st : Status) (q : Request) (ws : List ℕ) → walked s (changeOf s st q) ws ≡ conforming s st q ws
-unfolding walked takePhases conforming switchWord follows ownWords ownFirstCalls ownLastCalls
-walked-is s st q ws = decide (ownLast q) (λ e. rw e (ap isEnd (joined _ _ _ _))) (λ e. rw e (ap isEnd (joined _ _ _ _)))
+pub walked-is : (s : Station) (own : OptionalCall) (last : Bool) (on target : ℕ) (ws : List ℕ)
+    → walked s (switchingOf own last on target) ws ≡ conforming s (listOf own) last on target ws
+unfolding walked takePhases conforming switchWord follows ownWords firstCalls lastCalls
+walked-is s own true on target ws = ap isEnd (joined _ _ _ _)
+walked-is s own false on target ws = ap isEnd (joined _ _ _ _)

@@ -4,8 +4,8 @@ use Rattle.rules.specs.declared.Call.{Call}
 use Rattle.rules.specs.declared.Call.the-variants.{ResourceOn, ResourceOff, SetState, SetWake}
 use Rattle.rules.specs.declared.OptionalCall.{OptionalCall}
 use Rattle.rules.specs.declared.OptionalCall.the-variants.{Is, NoCall}
-use Rattle.checker.specs.declared.decode.OptionalResource.{OptionalResource}
-use Rattle.checker.specs.declared.decode.OptionalResource.the-variants.{Resource, NoResource}
+use Rattle.switching.specs.declared.decode.OptionalResource.{OptionalResource}
+use Rattle.switching.specs.declared.decode.OptionalResource.the-variants.{Resource, NoResource}
 
 -- the resource that a call turns off, or on
 unfoldable pub switchedBy : Bool → Call → OptionalResource

@@ -1,18 +1,18 @@
--- The checker's phases over a list and a place in it, in terms of the test `conforming`.
+-- The phases of a list, from a place in it on, in terms of the test `conforming`.
 use Prim.Native.Nat.{ℕ, _≤_}
 use mathlib.Core.Path.{_≡_}
 use mathlib.Core.Bool.{Bool, true, false, not, cond, _&&_, _||_}
 use mathlib.Core.List.{List, [], map}
 use lib.ListN.{length, drop}
 use Rattle.sets.specs.Sets.{member}
-use Rattle.rules.specs.declared.Change.{Change}
+use Rattle.rules.specs.declared.Switching.{Switching}
 use Rattle.rules.specs.declared.OptionalCall.{OptionalCall}
 use Rattle.rules.specs.Station.{Station}
 use Rattle.rules.specs.Calls.{wordOf, listOf}
 use Rattle.rules.specs.Check.{Rest, left, refused, andThen, takeWords, takeSet, isEnd, notLower, notHigher}
 use Rattle.calls.specs.Switch.{switchWord}
-use Rattle.checker.specs.declared.Taken.{Taken}
-use Rattle.checker.specs.declared.Taken.the-variants.{UpTo, Refused}
+use Rattle.switching.specs.declared.Taken.{Taken}
+use Rattle.switching.specs.declared.Taken.the-variants.{UpTo, Refused}
 
 -- a phase that came up to a place of the list leaves what stands from there on; one that is refused leaves nothing to go on with
 abbrev pub Leaves : List ℕ → Taken → Rest → Type 0
@@ -42,7 +42,7 @@ takePhases s on off ws =
     andThen (takePhase s false on true 0 ws) λ a. takePhase s true off true 0 a
 
 -- the own call first or last, what is to be switched between, and nothing after
-unfoldable pub walked : Station → Change → List ℕ → Bool
+unfoldable pub walked : Station → Switching → List ℕ → Bool
 walked s c ws =
     isEnd
     (andThen (takeWords (ownWords (not (c .last)) (c .own)) ws)

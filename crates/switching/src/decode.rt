@@ -3,7 +3,7 @@ use rules::Call;
 use rules::OptionalCall;
 ghost use mathlib.Core.Path.{_≡_};
 ghost use Rattle.rules.specs.Calls.{callOf};
-ghost use Rattle.checker.specs.Decode.{switchedBy, switched};
+ghost use Rattle.switching.specs.Decode.{switchedBy, switched};
 
 // A resource or none.
 pub enum OptionalResource {

@@ -8,7 +8,7 @@ ghost use Prim.Native.Nat.{_^_, _<_, _≤_};
 ghost use lib.ListN.{length, drop};
 ghost use Rattle.rules.specs.Station.{countR, station};
 ghost use Rattle.table.specs.Layout.{WellSized};
-ghost use Rattle.checker.specs.Phases.{Leaves, follows, takePhase, comesNext};
+ghost use Rattle.switching.specs.Phases.{Leaves, follows, takePhase, comesNext};
 
 // Whether r's resourceorder may follow the last one's: not higher for OFFs, not lower for ONs.
 fn in_order(table: &[u8], off: bool, last: usize, r: usize) -> bool

@@ -2,8 +2,8 @@
 use crate::Taken;
 use crate::take::take_phase;
 use rules::Call;
-use rules::Change;
 use rules::OptionalCall;
+use rules::Switching;
 ghost use mathlib.Core.Path.{_≡_};
 ghost use mathlib.Core.List.{[], _∷_};
 ghost use Prim.Native.Nat.{_^_, _<_, _≤_};
@@ -13,8 +13,8 @@ ghost use Rattle.rules.specs.Calls.{wordOf};
 ghost use Rattle.rules.specs.Check.{takeWords};
 ghost use Rattle.table.specs.Layout.{WellSized};
 ghost use Rattle.calls.specs.Ranges.{InRange, OptionalInRange};
-ghost use Rattle.request.specs.Permitted.{GoodChange};
-ghost use Rattle.checker.specs.Phases.{Leaves, ownWords, takePhases, walked};
+ghost use Rattle.switching.specs.Switching.{GoodSwitching};
+ghost use Rattle.switching.specs.Phases.{Leaves, ownWords, takePhases, walked};
 
 // The place after a call's word. Words are compared: a word is this call's exactly if it decodes to the call (`says-call` of crates/calls).
 fn take_call(call: Call, list: &[u32], at: usize) -> Taken
@@ -55,9 +55,9 @@ fn take_phases(table: &[u8], on: u32, off: u32, list: &[u32], at: usize) -> Take
     take_phase(table, true, off, list, offs)
 }
 
-// Whether the list is the calls of a change and nothing else.
-pub fn walk(table: &[u8], c: Change, list: &[u32]) -> bool
-    requires { ⌜ WellSized (now table) × GoodChange (now table) c ⌝ }
+// Whether the list is the calls of a switching and nothing else.
+pub fn walk(table: &[u8], c: Switching, list: &[u32]) -> bool
+    requires { ⌜ WellSized (now table) × GoodSwitching (now table) c ⌝ }
     ensures { λ r. ⌜ r ≡ walked (station (now (table .entry))) c (now (list .entry)) ⌝ }
 {
     let own = c.own;

@@ -1,8 +1,8 @@
-// All calls of a change, written into the plan in their order.
+// All calls of a switching, written into the plan in their order.
 use calls::order::emit;
 use calls::word_of;
-use rules::Change;
 use rules::OptionalCall;
+use rules::Switching;
 ghost use mathlib.Core.Path.{_≡_};
 ghost use mathlib.Core.List.{map};
 ghost use Prim.Native.Nat.{_+_, _≤_};
@@ -14,8 +14,15 @@ ghost use Rattle.rules.specs.Outcomes.{planRoom};
 ghost use Rattle.table.specs.Layout.{WellSized};
 ghost use Rattle.calls.specs.Ranges.{OptionalInRange};
 ghost use Rattle.calls.specs.Phases.{phaseWords};
-ghost use Rattle.request.specs.Permitted.{GoodChange};
-ghost use Rattle.planner.specs.Plan.{changeWords};
+ghost use Rattle.switching.specs.Switching.{GoodSwitching};
+ghost use Rattle.switching.specs.Switching.{switchingWords};
+
+// The words that a plan must have room for.
+pub fn room(table: &[u8]) -> usize
+    ensures { λ r. ⌜ (r ≡ planRoom (width (now (table .entry)))) × (r ≤ 65) ⌝ }
+{
+    table::fields::limit(table) + 1
+}
 
 // The own call's word, if there is one. The answer is the place after it.
 fn write_own(own: OptionalCall, plan: &mut [u32], at: usize) -> usize
@@ -42,11 +49,11 @@ fn write_switches(table: &[u8], on: u32, off: u32, plan: &mut [u32], at: usize) 
     emit(table, true, off, plan, p)
 }
 
-// The words of all calls of a change, from the start of the plan. The answer is their count.
-pub fn write_calls(table: &[u8], c: Change, plan: &mut [u32]) -> usize
-    requires { ⌜ WellSized (now table) × GoodChange (now table) c × (planRoom (width (now table)) ≤ length (now plan)) ⌝ }
-    ensures { λ r. ⌜ (r ≡ length (changeWords (station (now (table .entry))) c))
-        × (now (plan .exit) ≡ put (now (plan .entry)) 0 (changeWords (station (now (table .entry))) c)) ⌝ }
+// The words of all calls, from the start of the plan. The answer is their count.
+pub fn write_calls(table: &[u8], c: Switching, plan: &mut [u32]) -> usize
+    requires { ⌜ WellSized (now table) × GoodSwitching (now table) c × (planRoom (width (now table)) ≤ length (now plan)) ⌝ }
+    ensures { λ r. ⌜ (r ≡ length (switchingWords (station (now (table .entry))) c))
+        × (now (plan .exit) ≡ put (now (plan .entry)) 0 (switchingWords (station (now (table .entry))) c)) ⌝ }
 {
     let own = c.own;
     if c.last {

@@ -1,7 +1,7 @@
 -- What the word says, matched.
 use borrow.Author.Needs.{needs}
-use Rattle.checker.proofs.decode.switched.Statement.{statement}
-use Rattle.checker.proofs.decode.switched.Tie as tie
+use Rattle.switching.proofs.decode.switched.Statement.{statement}
+use Rattle.switching.proofs.decode.switched.Tie as tie
 
 returns : tie.Need-returns
 returns c = cc

@@ -1,8 +1,8 @@
 -- Each arm by what the match and the test told.
-use Rattle.checker.specs.Decode.{switchedBy}
+use Rattle.switching.specs.Decode.{switchedBy}
 use borrow.Author.Needs.{needs}
-use Rattle.checker.proofs.decode.switched_by.Statement.{statement}
-use Rattle.checker.proofs.decode.switched_by.Tie as tie
+use Rattle.switching.proofs.decode.switched_by.Statement.{statement}
+use Rattle.switching.proofs.decode.switched_by.Tie as tie
 
 returns : tie.Need-returns
 unfolding switchedBy

@@ -1,8 +1,8 @@
 -- Each arm by what the match told.
-use Rattle.checker.specs.Decode.{switched}
+use Rattle.switching.specs.Decode.{switched}
 use borrow.Author.Needs.{needs}
-use Rattle.checker.proofs.decode.switched_in.Statement.{statement}
-use Rattle.checker.proofs.decode.switched_in.Tie as tie
+use Rattle.switching.proofs.decode.switched_in.Statement.{statement}
+use Rattle.switching.proofs.decode.switched_in.Tie as tie
 
 returns : tie.Need-returns
 unfolding switched

@@ -4,11 +4,11 @@ use mathlib.Core.Bool.{true, false, true≢false}
 use Prim.Native.Nat.{_-_, _^_, _≤_, _<_}
 use lib.ListN.{length, drop}
 use Rattle.rules.specs.Station.{countR, station}
-use Rattle.checker.specs.Phases.{takePhase}
-use Rattle.checker.proofs.Phase.{phases}
+use Rattle.switching.specs.Phases.{takePhase}
+use Rattle.switching.proofs.Phase.{phases}
 use borrow.Author.Needs.{needs}
-use Rattle.checker.proofs.take.take_phase.Statement.{statement}
-use Rattle.checker.proofs.take.take_phase.Tie as tie
+use Rattle.switching.proofs.take.take_phase.Statement.{statement}
+use Rattle.switching.proofs.take.take_phase.Tie as tie
 
 abbrev Inv-loop : tie.InvT-loop
 Inv-loop table off set list at left₀ first₀ last₀ i₀ left first last i =

@@ -1,8 +1,8 @@
 -- A law for each way out.
-use Rattle.checker.proofs.Walks.{own-call}
+use Rattle.switching.proofs.Walks.{own-call}
 use borrow.Author.Needs.{needs}
-use Rattle.checker.proofs.walk.take_call.Statement.{statement}
-use Rattle.checker.proofs.walk.take_call.Tie as tie
+use Rattle.switching.proofs.walk.take_call.Statement.{statement}
+use Rattle.switching.proofs.walk.take_call.Tie as tie
 
 pub take-call-spec : {M : Type 1} → statement M
 take-call-spec =

@@ -1,9 +1,9 @@
 -- A law for each way out.
 use Rattle.calls.proofs.OwnCall.{call-in-range}
-use Rattle.checker.proofs.Walks.{own-call}
+use Rattle.switching.proofs.Walks.{own-call}
 use borrow.Author.Needs.{needs}
-use Rattle.checker.proofs.walk.take_own.Statement.{statement}
-use Rattle.checker.proofs.walk.take_own.Tie as tie
+use Rattle.switching.proofs.walk.take_own.Statement.{statement}
+use Rattle.switching.proofs.walk.take_own.Tie as tie
 
 pub take-own-spec : {M : Type 1} → statement M
 take-own-spec =

@@ -1,8 +1,8 @@
 -- Each phase's answer is matched; a law for each way out.
-use Rattle.checker.proofs.Walks.{walks}
+use Rattle.switching.proofs.Walks.{walks}
 use borrow.Author.Needs.{needs}
-use Rattle.checker.proofs.walk.walk.Statement.{statement}
-use Rattle.checker.proofs.walk.walk.Tie as tie
+use Rattle.switching.proofs.walk.walk.Statement.{statement}
+use Rattle.switching.proofs.walk.walk.Tie as tie
 
 pub walk-spec : {M : Type 1} → statement M
 walk-spec =

@@ -1,8 +1,8 @@
 -- Two runs, the own call last or first; together they have at most R + 1 words.
-use Rattle.planner.proofs.Run.{plan-runs}
+use Rattle.switching.proofs.Run.{plan-runs}
 use borrow.Author.Needs.{needs}
-use Rattle.planner.proofs.write.write_calls.Statement.{statement}
-use Rattle.planner.proofs.write.write_calls.Tie as tie
+use Rattle.switching.proofs.write.write_calls.Statement.{statement}
+use Rattle.switching.proofs.write.write_calls.Tie as tie
 
 pub write-calls-spec : {M : Type 1} → statement M
 write-calls-spec =

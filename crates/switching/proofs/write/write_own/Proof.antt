@@ -1,11 +1,11 @@
 -- One store, or none.
 use Rattle.calls.proofs.OwnCall.{call-in-range}
-use Rattle.planner.proofs.Run.{own-room, own-word, own-none}
+use Rattle.switching.proofs.Run.{own-room, own-word, own-none}
 use borrow.Author.Needs.{needs}
-use Rattle.planner.proofs.write.write_own.Statement.{statement}
-use Rattle.planner.proofs.write.write_own.Tie as tie
-use Rattle.planner.proofs.write.write_own.Reads as reads
-use Rattle.planner.proofs.write.write_own.Lts as lts
+use Rattle.switching.proofs.write.write_own.Statement.{statement}
+use Rattle.switching.proofs.write.write_own.Tie as tie
+use Rattle.switching.proofs.write.write_own.Reads as reads
+use Rattle.switching.proofs.write.write_own.Lts as lts
 use Rattle.calls.proofs.word_of.Reads as word-of-reads
 
 -- src/write.rt:26:26

@@ -1,8 +1,8 @@
 -- Two runs, one after the other.
-use Rattle.planner.proofs.Run.{phase-runs}
+use Rattle.switching.proofs.Run.{phase-runs}
 use borrow.Author.Needs.{needs}
-use Rattle.planner.proofs.write.write_switches.Statement.{statement}
-use Rattle.planner.proofs.write.write_switches.Tie as tie
+use Rattle.switching.proofs.write.write_switches.Statement.{statement}
+use Rattle.switching.proofs.write.write_switches.Tie as tie
 
 pub write-switches-spec : {M : Type 1} → statement M
 write-switches-spec =
