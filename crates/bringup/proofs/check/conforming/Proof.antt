@@ -1,0 +1,15 @@
+-- The walk over the switching.
+use Rattle.bringup.proofs.Whole.{upward}
+use borrow.Author.Needs.{needs}
+use Rattle.bringup.proofs.check.conforming.Statement.{statement}
+use Rattle.bringup.proofs.check.conforming.Tie as tie
+
+pub conforming-spec : {M : Type 1} → statement M
+conforming-spec =
+    tie.close
+    (tie.spec
+    (λ c κs. search needs)
+    (λ c κs. search (needs, upward))
+    (λ c κs. search needs)
+    (λ c κs. search (needs, upward))
+    (λ c. search (needs, upward)))
