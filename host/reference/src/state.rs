@@ -43,7 +43,7 @@ impl Entry {
     }
 }
 
-/// A state that was found consistent for its table.
+/// A state that was found good for its table.
 #[derive(Clone, Copy)]
 pub struct State<'a> {
     /// One entry for each device of the table.
@@ -52,10 +52,27 @@ pub struct State<'a> {
 }
 
 impl<'a> State<'a> {
-    /// Reads a state, or refuses it with 7 or 8.
+    /// Reads a consistent state, or refuses it with 7 or 8.
     pub fn read(table: &Table, bytes: &'a [u8]) -> Result<Self, Answer> {
+        Self::read_where(table, bytes, |state, d| {
+            state.agrees(table, d) && state.is_supplied(table, d)
+        })
+    }
+
+    /// Reads a state for bring-up, where needed resources may be off, or refuses
+    /// it with 7 or 8.
+    pub fn read_for_bring_up(table: &Table, bytes: &'a [u8]) -> Result<Self, Answer> {
+        Self::read_where(table, bytes, |state, d| state.agrees(table, d))
+    }
+
+    /// Reads a state of which every device is good, or refuses it with 7 or 8.
+    fn read_where(
+        table: &Table,
+        bytes: &'a [u8],
+        is_good: impl Fn(&Self, usize) -> bool,
+    ) -> Result<Self, Answer> {
         let state = Self::read_values(table, bytes).ok_or(Answer::refused(7, 0))?;
-        match (0..table.device_count()).find(|&d| !state.is_consistent(table, d)) {
+        match (0..table.device_count()).find(|&d| !is_good(&state, d)) {
             Some(d) => Err(Answer::refused(8, d as u64)),
             None => Ok(state),
         }
@@ -72,7 +89,8 @@ impl<'a> State<'a> {
         good.then_some(Self { entries, on })
     }
 
-    fn is_consistent(&self, table: &Table, d: usize) -> bool {
+    /// Whether device `d` is consistent apart from what it needs being on.
+    fn agrees(&self, table: &Table, d: usize) -> bool {
         let device = table.device(d);
         let entry = self.entry(d);
         device.supports(entry.state)
@@ -82,7 +100,11 @@ impl<'a> State<'a> {
             && (!entry.armed
                 || entry.state <= entry.wake_d
                     && table.wake_pair(device, entry.wake_s, entry.wake_d).is_ok())
-            && device.needs(entry) & !self.on == 0
+    }
+
+    /// Whether everything that device `d` needs is on.
+    fn is_supplied(&self, table: &Table, d: usize) -> bool {
+        table.device(d).needs(self.entry(d)) & !self.on == 0
     }
 
     /// The entry of device `d`.
@@ -128,5 +150,10 @@ pub(crate) fn write_fresh(table: &Table, state: &mut [u8; STATE_BYTES]) {
 /// Writes the new entry of device `d` and the set of resources that are on.
 pub(crate) fn write_change(state: &mut [u8], d: usize, entry: Entry, on: u32) {
     state[4 * d..4 * d + 4].copy_from_slice(&entry.to_bytes());
+    write_on_set(state, on);
+}
+
+/// Writes the set of resources that are on.
+pub(crate) fn write_on_set(state: &mut [u8], on: u32) {
     state[ON_SET..STATE_BYTES].copy_from_slice(&on.to_le_bytes());
 }
