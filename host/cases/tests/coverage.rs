@@ -2,7 +2,8 @@
 
 use cases::{sweep, workloads, Case, Cases, Counts, Coverage, Description, Rng, Station, SHAPES};
 use reference::{
-    check, describe, effect, fresh, plan, wake_range, write, Answer, Call, Effect, Table,
+    bring_up, check, check_bring_up, describe, effect, fresh, plan, wake_range, write, Answer,
+    Call, Effect, Table,
 };
 
 const CASES: usize = 200_000;
@@ -14,6 +15,8 @@ struct Answers {
     fresh: Answer,
     writer: Answer,
     describer: Answer,
+    bring_up: Answer,
+    bring_up_checker: Answer,
 }
 
 impl Answers {
@@ -24,6 +27,8 @@ impl Answers {
         let described = &mut lent.described;
         Self {
             planner: plan(table, &mut lent.state, request, &mut lent.plan),
+            bring_up: bring_up(table, &mut lent.reported, &mut lent.plan),
+            bring_up_checker: check_bring_up(table, &case.reported, &case.bring_up_list),
             checker: check(table, &case.state, request, &case.list),
             fresh: fresh(table, &mut lent.fresh),
             writer: write(case.version, resources, devices, &mut lent.written),
@@ -38,12 +43,13 @@ fn every_answer_is_given() {
     let mut cases = Cases::new(1);
     for _ in 0..CASES {
         let answers = Answers::of(cases.next_case());
-        coverage.planner.add(answers.planner.number);
-        coverage.checker.add(answers.checker.number);
-        coverage.fresh.add(answers.fresh.number);
-        coverage.writer.add(answers.writer.number);
-        coverage.places.add(answers.writer);
-        coverage.describer.add(answers.describer.number);
+        coverage.planner.add(answers.planner);
+        coverage.checker.add(answers.checker);
+        coverage.fresh.add(answers.fresh);
+        coverage.writer.add(answers.writer);
+        coverage.describer.add(answers.describer);
+        coverage.bring_up.add(answers.bring_up);
+        coverage.bring_up_checker.add(answers.bring_up_checker);
     }
     println!("{coverage}");
     coverage.must_be_whole(100);
@@ -219,13 +225,13 @@ fn sweeps_reach_their_answers() {
     let mut moves = Counts::default();
     sweep::each_move(|table, state, request| {
         let mut state = state.to_vec();
-        moves.add(plan(table, &mut state, request, &mut [0; 132]).number);
+        moves.add(plan(table, &mut state, request, &mut [0; 132]));
     });
     moves.must_be("moves", &[0, 8, 11, 12, 13, 14], 100);
     let mut armings = Counts::default();
     sweep::each_arming(|table, state, request| {
         let mut state = state.to_vec();
-        armings.add(plan(table, &mut state, request, &mut [0; 132]).number);
+        armings.add(plan(table, &mut state, request, &mut [0; 132]));
     });
     armings.must_be("armings", &[0, 5, 8, 16, 17, 18], 100);
 }
@@ -244,12 +250,15 @@ fn changed_lists_conform_only_within_equal_orders() {
         }
     });
     // Of 24 resources to switch off, eight pairs have equal orders.
-    assert_eq!((passed, refused), (8, 300 - 8 + 3 * 25 + 4 * 33));
+    assert_eq!(
+        (passed, refused),
+        (8, 300 - 8 + 3 * 25 + 24 + 26 * (66 + 12))
+    );
 }
 
 #[test]
 fn workloads_get_their_answers() {
-    let mut numbers: [Vec<u8>; 4] = Default::default();
+    let mut numbers: [Vec<u8>; 6] = Default::default();
     for workload in workloads() {
         let answers = Answers::of(&workload.case);
         let pairs = [
@@ -257,6 +266,8 @@ fn workloads_get_their_answers() {
             (workload.checker, answers.checker),
             (workload.writer, answers.writer),
             (workload.describer, answers.describer),
+            (workload.bring_up, answers.bring_up),
+            (workload.bring_up_checker, answers.bring_up_checker),
         ];
         for ((expected, answer), numbers) in pairs.into_iter().zip(&mut numbers) {
             let same = expected.is_none_or(|number| number == answer.number);
@@ -265,9 +276,11 @@ fn workloads_get_their_answers() {
         }
     }
     // Accepted, and refused at each stage: table, state, consistency, room, request, list.
-    let [planner, checker, writer, describer] = numbers;
+    let [planner, checker, writer, describer, bring_up, bring_up_checker] = numbers;
     assert!([0, 1, 5, 7, 8, 9, 10].iter().all(|n| planner.contains(n)));
     assert!([0, 1, 5, 7, 8, 10, 19].iter().all(|n| checker.contains(n)));
     assert_eq!(writer, [0, 0, 5]);
     assert_eq!(describer, [0, 0, 9]);
+    assert_eq!(bring_up, [0, 0, 0, 8, 9]);
+    assert_eq!(bring_up_checker, [0, 0, 0, 8, 19]);
 }
