@@ -1,7 +1,7 @@
 //! The state image, read in place (answers 7 and 8).
 
 use crate::answer::Answer;
-use crate::table::Table;
+use crate::table::{Device, Table};
 
 /// The length of a state image.
 pub const STATE_BYTES: usize = 132;
@@ -54,25 +54,28 @@ pub struct State<'a> {
 impl<'a> State<'a> {
     /// Reads a consistent state, or refuses it with 7 or 8.
     pub fn read(table: &Table, bytes: &'a [u8]) -> Result<Self, Answer> {
-        Self::read_where(table, bytes, |state, d| {
-            state.agrees(table, d) && state.is_supplied(table, d)
+        Self::read_where(table, bytes, |state, device, entry| {
+            state.agrees(table, device, entry) && device.needs(entry) & !state.on == 0
         })
     }
 
     /// Reads a state for bring-up, where needed resources may be off, or refuses
     /// it with 7 or 8.
     pub fn read_for_bring_up(table: &Table, bytes: &'a [u8]) -> Result<Self, Answer> {
-        Self::read_where(table, bytes, |state, d| state.agrees(table, d))
+        Self::read_where(table, bytes, |state, device, entry| {
+            state.agrees(table, device, entry)
+        })
     }
 
     /// Reads a state of which every device is good, or refuses it with 7 or 8.
     fn read_where(
         table: &Table,
         bytes: &'a [u8],
-        is_good: impl Fn(&Self, usize) -> bool,
+        is_good: impl Fn(&Self, Device, Entry) -> bool,
     ) -> Result<Self, Answer> {
         let state = Self::read_values(table, bytes).ok_or(Answer::refused(7, 0))?;
-        match (0..table.device_count()).find(|&d| !is_good(&state, d)) {
+        let is_bad = |&d: &usize| !is_good(&state, table.device(d), state.entry(d));
+        match (0..table.device_count()).find(is_bad) {
             Some(d) => Err(Answer::refused(8, d as u64)),
             None => Ok(state),
         }
@@ -89,10 +92,8 @@ impl<'a> State<'a> {
         good.then_some(Self { entries, on })
     }
 
-    /// Whether device `d` is consistent apart from what it needs being on.
-    fn agrees(&self, table: &Table, d: usize) -> bool {
-        let device = table.device(d);
-        let entry = self.entry(d);
+    /// Whether a device with this entry is consistent, whatever is on.
+    fn agrees(&self, table: &Table, device: Device, entry: Entry) -> bool {
         device.supports(entry.state)
             && device
                 .parent()
@@ -100,11 +101,6 @@ impl<'a> State<'a> {
             && (!entry.armed
                 || entry.state <= entry.wake_d
                     && table.wake_pair(device, entry.wake_s, entry.wake_d).is_ok())
-    }
-
-    /// Whether everything that device `d` needs is on.
-    fn is_supplied(&self, table: &Table, d: usize) -> bool {
-        table.device(d).needs(self.entry(d)) & !self.on == 0
     }
 
     /// The entry of device `d`.
