@@ -59,9 +59,9 @@ fn plan_calls(
     write: impl FnMut(usize, u32),
 ) -> Answer {
     match work_of_plan(table, state, request, room) {
-        Ok((table, change, switching)) => {
-            let count = switching.write_calls(&table, write);
-            write_change(state, change.device, change.entry, switching.target);
+        Ok((table, work)) => {
+            let count = work.switching.write_calls(&table, write);
+            write_change(state, work.device, work.entry, work.switching.target);
             Answer::done(count)
         }
         Err(refusal) => refusal,
@@ -73,14 +73,14 @@ fn work_of_plan<'a>(
     state: &[u8],
     request: Request,
     room: usize,
-) -> Result<(Table<'a>, Change, Switching), Answer> {
+) -> Result<(Table<'a>, Work), Answer> {
     let table = Table::read(table)?;
     let state = State::read(&table, state)?;
     if room < PLAN_WORDS {
         return Err(Answer::refused(9, 0));
     }
-    let (change, switching) = work(&table, &state, request)?;
-    Ok((table, change, switching))
+    let work = Work::of(&table, &state, request)?;
+    Ok((table, work))
 }
 
 fn check_calls(
@@ -90,7 +90,7 @@ fn check_calls(
     list: Option<impl Iterator<Item = u32>>,
 ) -> Answer {
     match work_of_check(table, state, request) {
-        Ok((table, switching)) => switching.check(&table, list),
+        Ok((table, work)) => work.switching.check(&table, list),
         Err(refusal) => refusal,
     }
 }
@@ -99,20 +99,37 @@ fn work_of_check<'a>(
     table: &'a [u8],
     state: &[u8],
     request: Request,
-) -> Result<(Table<'a>, Switching), Answer> {
+) -> Result<(Table<'a>, Work), Answer> {
     let table = Table::read(table)?;
     let state = State::read(&table, state)?;
-    let (_, switching) = work(&table, &state, request)?;
-    Ok((table, switching))
+    let work = Work::of(&table, &state, request)?;
+    Ok((table, work))
 }
 
-/// The change that a request makes and its switching, or its refusal.
-fn work(table: &Table, state: &State, request: Request) -> Result<(Change, Switching), Answer> {
-    let change = verdict(table, state, request)?;
-    let needed = state.needed_with(table, change.device, change.entry);
-    let switching =
-        Switching::new(state.on(), needed).with_own_call(change.own_call, change.own_call_first);
-    Ok((change, switching))
+/// What is to be done for a permitted request.
+struct Work {
+    device: usize,
+    /// The new entry of the device.
+    entry: Entry,
+    switching: Switching,
+}
+
+impl Work {
+    fn of(table: &Table, state: &State, request: Request) -> Result<Self, Answer> {
+        let Change {
+            device,
+            entry,
+            own_call,
+            own_call_first,
+        } = verdict(table, state, request)?;
+        let needed = state.needed_with(table, device, entry);
+        let switching = Switching::new(state.on(), needed);
+        Ok(Self {
+            device,
+            entry,
+            switching: switching.with_own_call(own_call, own_call_first),
+        })
+    }
 }
 
 /// What a permitted request does, apart from its list.
@@ -145,7 +162,7 @@ pub struct Effect {
 pub fn effect(table: &[u8], state: &[u8], request: Request) -> Result<Effect, Answer> {
     let table = Table::read(table)?;
     let state = State::read(&table, state)?;
-    let (change, switching) = work(&table, &state, request)?;
+    let change = verdict(&table, &state, request)?;
     let device = table.device(change.device);
     let entry_before = state.entry(change.device);
     let device_needs_before = device.needs(entry_before);
@@ -156,7 +173,7 @@ pub fn effect(table: &[u8], state: &[u8], request: Request) -> Result<Effect, An
         entry_after: change.entry,
         on_before: state.on(),
         needed_before: state.needed(&table),
-        needed_after: switching.target,
+        needed_after: state.needed_with(&table, change.device, change.entry),
         device_needs_before,
         device_needs_after,
         own_call: change.own_call.and_then(Call::from_word),
