@@ -16,6 +16,16 @@ pub fn each_length(bytes: &[u8], extra: usize, mut each: impl FnMut(&[u8])) {
     }
 }
 
+/// Longer by 256 and by 65,536 bytes, so that the length is the same in its
+/// lowest byte or its lowest two. Bytes past the end are zero.
+pub fn each_wide_length(bytes: &[u8], mut each: impl FnMut(&[u8])) {
+    for extra in [1 << 8, 1 << 16] {
+        let mut longer = bytes.to_vec();
+        longer.resize(bytes.len() + extra, 0);
+        each(&longer);
+    }
+}
+
 /// Each byte in turn with each of its 255 other values.
 pub fn each_byte(bytes: &[u8], mut each: impl FnMut(&[u8])) {
     let mut changed = bytes.to_vec();

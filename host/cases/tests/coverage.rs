@@ -307,6 +307,9 @@ fn sweeps_have_their_sizes() {
     sweep::each_wild_byte(&[0, 7, 255], |_| count += 1);
     assert_eq!(count, 15 + 16 + 15);
     let mut lengths = Vec::new();
+    sweep::each_wide_length(&[1, 2], |bytes| lengths.push(bytes.len()));
+    assert_eq!(lengths, [258, 65_538]);
+    lengths.clear();
     sweep::each_record_limit(&[0; 8], 4, |bytes| lengths.push(bytes.len()));
     assert_eq!(lengths, [0, 1, 3, 4, 5, 7, 8, 9, 11, 12, 13, 15, 16, 17]);
     count = 0;

@@ -163,6 +163,7 @@ fn each_byte_and_each_length_agree() {
         };
         sweep::each_byte(&good, &mut run);
         sweep::each_length(&good, 48, &mut run);
+        sweep::each_wide_length(&good, &mut run);
     }
     comparison.report("each byte and each length of each buffer, bench station");
 }
@@ -183,6 +184,7 @@ fn each_bit_and_each_length_of_a_workload_agree() {
             };
             sweep::each_bit(&good, &mut run);
             sweep::each_length(&good, 8, &mut run);
+            sweep::each_wide_length(&good, &mut run);
             run(&good);
         }
     }
