@@ -83,7 +83,7 @@ impl Lent {
         let plan = self.compare_plan(case)?;
         let write = self.compare_write(case)?;
         let describe = self.compare_describe(case)?;
-        self.compare_bring_ups(case, coverage)?;
+        self.compare_both_of_bring_up(case, coverage)?;
         self.unwritten(case)?;
         coverage.fresh.add(fresh);
         coverage.checker.add(check);
@@ -97,28 +97,25 @@ impl Lent {
     }
 
     /// As [`Self::compare`], for bring-up and its checker alone.
-    pub fn compare_bring_up(&mut self, case: &Case, coverage: &mut Coverage) -> Result<(), String> {
+    pub fn compare_bring_up_alone(
+        &mut self,
+        case: &Case,
+        coverage: &mut Coverage,
+    ) -> Result<(), String> {
         self.set_for_bring_up(case);
-        self.compare_bring_ups(case, coverage)?;
+        self.compare_both_of_bring_up(case, coverage)?;
         self.unwritten_by_bring_up(case)
     }
 
-    fn compare_bring_ups(&mut self, case: &Case, coverage: &mut Coverage) -> Result<(), String> {
-        let (table, state) = (self.table.lent(), self.reported.lent_mut());
-        let list = self.bring_up_list.lent();
-        let answer = sailgarnet::check_bring_up(table, state, list);
-        let expected = reference::check_bring_up(&case.table, &case.reported, &case.bring_up_list);
-        equal_answers("check_bring_up", answer, expected)?;
-        equal_bytes("the state after check_bring_up", state, &case.reported)?;
-        coverage.bring_up_checker.add(expected);
-
-        let answer = sailgarnet::bring_up(table, state, self.bring_up_plan.lent_mut());
-        let (mut state, mut plan) = (case.reported.clone(), case.plan.clone());
-        let expected = reference::bring_up(&case.table, &mut state, &mut plan);
-        equal_answers("bring_up", answer, expected)?;
-        equal_bytes("the state after bring_up", self.reported.lent(), &state)?;
-        equal_bytes("the plan of bring_up", self.bring_up_plan.lent(), &plan)?;
-        coverage.bring_up.add(expected);
+    fn compare_both_of_bring_up(
+        &mut self,
+        case: &Case,
+        coverage: &mut Coverage,
+    ) -> Result<(), String> {
+        let check = self.compare_check_bring_up(case)?;
+        let bring_up = self.compare_bring_up(case)?;
+        coverage.bring_up_checker.add(check);
+        coverage.bring_up.add(bring_up);
         LIBRARY.holds(case)
     }
 
@@ -153,6 +150,26 @@ impl Lent {
         equal_answers("plan", answer, expected)?;
         equal_bytes("the state after plan", self.state.lent(), &state)?;
         equal_bytes("the plan", self.plan.lent(), &plan)?;
+        Ok(expected)
+    }
+
+    fn compare_check_bring_up(&mut self, case: &Case) -> Result<Answer, String> {
+        let (table, state) = (self.table.lent(), self.reported.lent());
+        let answer = sailgarnet::check_bring_up(table, state, self.bring_up_list.lent());
+        let expected = reference::check_bring_up(&case.table, &case.reported, &case.bring_up_list);
+        equal_answers("check_bring_up", answer, expected)?;
+        equal_bytes("the state after check_bring_up", state, &case.reported)?;
+        Ok(expected)
+    }
+
+    fn compare_bring_up(&mut self, case: &Case) -> Result<Answer, String> {
+        let (state, plan) = (self.reported.lent_mut(), self.bring_up_plan.lent_mut());
+        let answer = sailgarnet::bring_up(self.table.lent(), state, plan);
+        let (mut state, mut plan) = (case.reported.clone(), case.plan.clone());
+        let expected = reference::bring_up(&case.table, &mut state, &mut plan);
+        equal_answers("bring_up", answer, expected)?;
+        equal_bytes("the state after bring_up", self.reported.lent(), &state)?;
+        equal_bytes("the plan of bring_up", self.bring_up_plan.lent(), &plan)?;
         Ok(expected)
     }
 

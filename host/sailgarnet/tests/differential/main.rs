@@ -50,7 +50,7 @@ impl Comparison {
 
     /// Runs bring-up and its checker alone.
     fn run_bring_up(&mut self, case: &Case, input: impl FnOnce(u64) -> String) {
-        let result = self.lent.compare_bring_up(case, &mut self.coverage);
+        let result = self.lent.compare_bring_up_alone(case, &mut self.coverage);
         self.count(case, input, result);
     }
 
