@@ -81,7 +81,9 @@ impl<'a> State<'a> {
         }
     }
 
-    fn read_values(table: &Table, bytes: &'a [u8]) -> Option<Self> {
+    /// Reads a state whose values are good, or gives `None`. Its devices need not be
+    /// consistent.
+    pub fn read_values(table: &Table, bytes: &'a [u8]) -> Option<Self> {
         let bytes: &[u8; STATE_BYTES] = bytes.try_into().ok()?;
         let (entries, on) = bytes.as_chunks::<4>().0.split_at(ON_SET / 4);
         let on = u32::from_le_bytes(on[0]);
