@@ -3,17 +3,12 @@
 use std::ffi::OsString;
 use std::path::Path;
 
-use reference::Effect;
-use sailgarnet::{
-    Answer, Device, Request, Resource, Verdict, MAX_TABLE_BYTES, PLAN_BYTES, STATE_BYTES,
-};
+use sailgarnet::{Answer, Device, Resource, Verdict, MAX_TABLE_BYTES, STATE_BYTES};
 
 use crate::args::Args;
 use crate::help::{self, Help};
-use crate::trace::Trace;
-use crate::{
-    backend, demo, files, grid, printer, reader, request, show, svg, words, Failure, Report,
-};
+use crate::subject::Subject;
+use crate::{backend, demo, files, grid, printer, reader, show, svg, words, Failure, Report};
 
 type Outcome = Result<Report, Failure>;
 
@@ -60,7 +55,8 @@ fn with_args(
     run(help, &args)
 }
 
-fn usage(help: &Help, message: &str) -> Failure {
+/// What is wrong with the words after a subcommand, and how it is used.
+pub fn usage(help: &Help, message: &str) -> Failure {
     Failure::new(format!(
         "{message}\nUsage: {}\nMore with: sailgarnet {} --help",
         help.usage_line(),
@@ -87,22 +83,15 @@ fn exactly<'a, const N: usize>(
 }
 
 /// The planner and the reference differ, which must not happen.
-pub fn disagreement(number: u8) -> Failure {
+pub fn disagreement(refusal: reference::Answer) -> Failure {
     Failure::new(format!(
-        "the planner accepted what the reference refuses with {number}; please report this"
+        "the planner accepted what the reference refuses with {}; please report this",
+        refusal.number
     ))
 }
 
 fn refusal(answer: Answer) -> Report {
-    refusal_with(answer, "")
-}
-
-/// A refusal, with more lines about it.
-fn refusal_with(answer: Answer, more: &str) -> Report {
-    Report {
-        text: words::answer_line(answer) + more,
-        refused: true,
-    }
+    Report::refused(words::answer_line(answer))
 }
 
 /// What was done with a table, and how large it is.
@@ -163,10 +152,7 @@ fn write_table(help: &Help, args: &Args) -> Outcome {
     if !answer.is_done() {
         let line = words::answer_line_with(answer, reader::refusal_sentence(answer));
         let part = position(text.refused_part(answer));
-        return Ok(Report {
-            text: format!("{line}{part}\n"),
-            refused: true,
-        });
+        return Ok(Report::refused(format!("{line}{part}\n")));
     }
     let table = &buffer[..answer.bytes_written()];
     files::write(output, table)?;
@@ -191,71 +177,8 @@ fn write_fresh(help: &Help, args: &Args) -> Outcome {
     )))
 }
 
-/// The operands that plan, check and trace begin with.
-struct Subject<'a> {
-    table_path: &'a Path,
-    state_path: &'a Path,
-    table: Vec<u8>,
-    state: Vec<u8>,
-    request: Request,
-}
-
-/// Reads TABLE STATE REQUEST, and gives the operands after them.
-fn subject<'a>(help: &Help, args: &'a Args) -> Result<(Subject<'a>, &'a [OsString]), Failure> {
-    let [table, state, rest @ ..] = args.operands.as_slice() else {
-        return Err(usage(help, "TABLE, STATE and REQUEST are expected"));
-    };
-    let (request, rest) = request::parse(rest).map_err(|message| usage(help, &message))?;
-    let (table_path, state_path) = (Path::new(table), Path::new(state));
-    let subject = Subject {
-        table_path,
-        state_path,
-        table: files::read(table_path)?,
-        state: files::read(state_path)?,
-        request,
-    };
-    Ok((subject, rest))
-}
-
-impl Subject<'_> {
-    /// Plans the request: the answer, the list and the new state.
-    fn plan(&self) -> (Answer, Vec<u8>, Vec<u8>) {
-        let mut state = self.state.clone();
-        let mut list = vec![0; PLAN_BYTES];
-        let answer = backend::plan(&self.table, &mut state, self.request, &mut list);
-        list.truncate(answer.plan_length());
-        (answer, list, state)
-    }
-
-    /// The list of a file with the checker's answer, or the planner's own.
-    fn answered_list(&self, path: Option<&Path>) -> Result<(Answer, Vec<u8>), Failure> {
-        let Some(path) = path else {
-            let (answer, list, _) = self.plan();
-            return Ok((answer, list));
-        };
-        let list = files::read(path)?;
-        let answer = backend::check(&self.table, &self.state, self.request, &list);
-        Ok((answer, list))
-    }
-
-    /// What the request does, or the number of its refusal.
-    fn effect(&self) -> Result<Effect, u8> {
-        let request = backend::reference_request(self.request);
-        reference::effect(&self.table, &self.state, request).map_err(|answer| answer.number)
-    }
-
-    /// The planner's list, if another one was found not to conform.
-    fn planned_instead(&self, answer: Answer) -> String {
-        if answer.verdict() != Some(Verdict::NotConforming) {
-            return String::new();
-        }
-        let (_, list, _) = self.plan();
-        format!("The planner's list has {}", words::call_lines(&list))
-    }
-}
-
 fn plan_request(help: &Help, args: &Args) -> Outcome {
-    let (subject, rest) = subject(help, args)?;
+    let (subject, rest) = Subject::read(help, args)?;
     let [] = exactly(help, rest, [])?;
     let (state_output, list_output) = (args.option("-o"), args.option("--list"));
     let (table_path, state_path) = (Some(subject.table_path), Some(subject.state_path));
@@ -264,7 +187,7 @@ fn plan_request(help: &Help, args: &Args) -> Outcome {
 
     let (answer, list, state) = subject.plan();
     if !answer.is_done() {
-        return Ok(refusal(answer));
+        return Ok(subject.refusal(answer));
     }
     if let Some(path) = list_output {
         files::write(path, &list)?;
@@ -282,22 +205,25 @@ fn plan_request(help: &Help, args: &Args) -> Outcome {
 }
 
 fn check_list(help: &Help, args: &Args) -> Outcome {
-    let (subject, rest) = subject(help, args)?;
+    let (subject, rest) = Subject::read(help, args)?;
     let [list] = exactly(help, rest, ["LIST"])?;
     let list = files::read(Path::new(list))?;
-    let answer = backend::check(&subject.table, &subject.state, subject.request, &list);
-    if !answer.is_done() {
-        return Ok(refusal_with(answer, &subject.planned_instead(answer)));
-    }
-    let count = words::count(list.len() / 4, "call");
-    Ok(Report::done(format!(
-        "{}The list of {count} conforms to the request.\n",
-        words::answer_line(answer)
-    )))
+    let answer = subject.check(&list);
+    let line = words::answer_line(answer);
+    Ok(match answer.verdict() {
+        Some(Verdict::Done) => {
+            let calls = words::count(list.len() / 4, "call");
+            Report::done(format!(
+                "{line}The list of {calls} conforms to the request.\n"
+            ))
+        }
+        Some(Verdict::NotConforming) => Report::refused(line + &subject.planned_instead(answer)),
+        _ => subject.refusal(answer),
+    })
 }
 
 fn trace_list(help: &Help, args: &Args) -> Outcome {
-    let (subject, rest) = subject(help, args)?;
+    let (subject, rest) = Subject::read(help, args)?;
     let list_path = match rest {
         [] => None,
         rest => {
@@ -309,13 +235,12 @@ fn trace_list(help: &Help, args: &Args) -> Outcome {
     let (table_path, state_path) = (Some(subject.table_path), Some(subject.state_path));
     files::must_keep(svg_output, &[table_path, state_path, list_path])?;
     let (answer, list) = subject.answered_list(list_path)?;
-    let effect = match subject.effect() {
-        Ok(effect) => effect,
+    let trace = match subject.trace(&list) {
+        Ok(trace) => trace,
         // The request itself is refused, so there is nothing to trace.
-        Err(_) if !answer.is_done() => return Ok(refusal(answer)),
-        Err(number) => return Err(disagreement(number)),
+        Err(_) if !answer.is_done() => return Ok(subject.refusal(answer)),
+        Err(refusal) => return Err(disagreement(refusal)),
     };
-    let trace = Trace::new(&subject.table, &effect, &list)?;
     if let Some(path) = svg_output {
         files::write(path, svg::draw(&trace, subject.request, answer).as_bytes())?;
     }

@@ -7,6 +7,7 @@
 mod args;
 mod backend;
 mod commands;
+mod consistency;
 mod demo;
 mod files;
 mod grid;
@@ -17,6 +18,7 @@ mod printer;
 mod reader;
 mod request;
 mod show;
+mod subject;
 mod svg;
 mod trace;
 mod words;
@@ -46,6 +48,14 @@ impl Report {
         Self {
             text,
             refused: false,
+        }
+    }
+
+    /// A refusal.
+    pub fn refused(text: String) -> Self {
+        Self {
+            text,
+            refused: true,
         }
     }
 }

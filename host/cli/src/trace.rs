@@ -3,8 +3,7 @@
 use reference::{numbers, Effect, Execution, Table};
 use sailgarnet::{calls, Call};
 
-use crate::commands::disagreement;
-use crate::{words, Failure};
+use crate::words;
 
 /// The execution of a list.
 pub struct Trace {
@@ -49,22 +48,21 @@ impl Row {
 
 impl Trace {
     /// Carries out a list for a permitted request.
-    pub fn new(table: &[u8], effect: &Effect, list: &[u8]) -> Result<Self, Failure> {
-        let table = Table::read(table).map_err(|answer| disagreement(answer.number))?;
+    pub fn new(table: &Table, effect: &Effect, list: &[u8]) -> Self {
         let steps = steps(effect, list);
         let points = points(effect, list);
         let rows: Vec<Row> = (0..table.resource_count())
-            .map(|r| row(&table, effect, &points, r))
+            .map(|r| row(table, effect, &points, r))
             .collect();
         let end = points[points.len() - 1];
-        let mut faults = faults_of_words(&table, &steps);
+        let mut faults = faults_of_words(table, &steps);
         faults.extend(faults_on_the_way(effect, &steps, &rows, &points));
         faults.extend(faults_at_the_end(effect, end, list.len() % 4));
-        Ok(Self {
+        Self {
             steps,
             rows,
             faults,
-        })
+        }
     }
 }
 

@@ -51,8 +51,10 @@ fn answers_7_and_8_are_for_states() {
     }
     desk.write("state", &[0; 132]);
     for line in lines {
-        let text = desk.run(line).refused(8);
-        assert!(text.contains("device 0: the state is not consistent"));
+        assert_eq!(
+            desk.run(line).refused(8),
+            "Answer 8, device 0: the state is not consistent: this device needs what is off: r0.\n"
+        );
     }
 }
 
