@@ -217,7 +217,11 @@ fn check_list(help: &Help, args: &Args) -> Outcome {
                 "{line}The list of {calls} conforms to the request.\n"
             ))
         }
-        Some(Verdict::NotConforming) => Report::refused(line + &subject.planned_instead(answer)),
+        Some(Verdict::NotConforming) => {
+            let trace = subject.trace(&list).map_err(disagreement)?;
+            let faults = grid::faults(&trace);
+            Report::refused(line + &faults + &subject.planned_instead(answer))
+        }
         _ => subject.refusal(answer),
     })
 }

@@ -111,8 +111,8 @@ pub const CHECK: Help = Help {
     purpose: "check a list of method calls",
     text: "\
 LIST is a file of calls, four bytes each. It conforms if it has exactly the
-calls of the request, each once and in order. STATE is the state before the
-request.
+calls of the request, each once and in order. Else its faults, as trace has them,
+and the planner's list are shown. STATE is the state before the request.
 ",
 };
 
