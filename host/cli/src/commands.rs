@@ -5,7 +5,7 @@ use std::path::Path;
 
 use sailgarnet::{Answer, Device, Resource, Verdict, MAX_TABLE_BYTES, STATE_BYTES};
 
-use crate::args::Args;
+use crate::args::{Args, ON};
 use crate::help::{self, Help};
 use crate::subject::Subject;
 use crate::{backend, demo, files, grid, printer, reader, show, svg, words, Failure, Report};
@@ -25,9 +25,16 @@ pub fn run(line: Vec<OsString>) -> Outcome {
         "describe" => with_args(&help::DESCRIBE, rest, &["-o"], describe_table),
         "write" => with_args(&help::WRITE, rest, &["-o"], write_table),
         "fresh" => with_args(&help::FRESH, rest, &["-o"], write_fresh),
-        "plan" => with_args(&help::PLAN, rest, &["-o", "--list"], plan_request),
+        "plan" => with_args(&help::PLAN, rest, &["-o", "--list"], plan_list),
         "check" => with_args(&help::CHECK, rest, &[], check_list),
         "trace" => with_args(&help::TRACE, rest, &["--svg"], trace_list),
+        "bring-up" => with_args(
+            &help::BRING_UP,
+            rest,
+            &[ON, "-o", "--list", "--svg"],
+            plan_list,
+        ),
+        "check-bring-up" => with_args(&help::CHECK_BRING_UP, rest, &[ON], check_list),
         "demo" => with_args(&help::DEMO, rest, &[], run_demo),
         "-h" | "--help" | "help" => Ok(Report::done(help::overview())),
         "-V" | "--version" => Ok(Report::done(version())),
@@ -177,17 +184,23 @@ fn write_fresh(help: &Help, args: &Args) -> Outcome {
     )))
 }
 
-fn plan_request(help: &Help, args: &Args) -> Outcome {
+fn plan_list(help: &Help, args: &Args) -> Outcome {
     let (subject, rest) = Subject::read(help, args)?;
     let [] = exactly(help, rest, [])?;
-    let (state_output, list_output) = (args.option("-o"), args.option("--list"));
+    let [state_output, list_output, svg_output] = ["-o", "--list", "--svg"].map(|o| args.option(o));
     let (table_path, state_path) = (Some(subject.table_path), Some(subject.state_path));
     files::must_keep(state_output, &[table_path])?;
     files::must_keep(list_output, &[table_path, state_path, state_output])?;
+    let others = [table_path, state_path, state_output, list_output];
+    files::must_keep(svg_output, &others)?;
 
     let (answer, list, state) = subject.plan();
     if !answer.is_done() {
         return Ok(subject.refusal(answer));
+    }
+    if let Some(path) = svg_output {
+        let trace = subject.trace(&list).map_err(disagreement)?;
+        files::write(path, svg::draw(&trace, subject.task, answer).as_bytes())?;
     }
     if let Some(path) = list_output {
         files::write(path, &list)?;
@@ -196,9 +209,10 @@ fn plan_request(help: &Help, args: &Args) -> Outcome {
         files::write(path, &state)?;
     }
     Ok(Report::done(format!(
-        "Request: {}\n{}{}On afterwards: {}\n",
-        subject.request,
+        "{}\n{}{}{}On afterwards: {}\n",
+        subject.task.heading(),
         words::answer_line(answer),
+        subject.on_at_the_start(),
         words::call_lines(&list),
         words::resources(words::on_set(&state)),
     )))
@@ -212,14 +226,14 @@ fn check_list(help: &Help, args: &Args) -> Outcome {
     let line = words::answer_line(answer);
     Ok(match answer.verdict() {
         Some(Verdict::Done) => {
-            let calls = words::count(list.len() / 4, "call");
+            let (calls, noun) = (words::count(list.len() / 4, "call"), subject.task.noun());
             Report::done(format!(
-                "{line}The list of {calls} conforms to the request.\n"
+                "{line}The list of {calls} conforms to the {noun}.\n"
             ))
         }
         Some(Verdict::NotConforming) => {
             let trace = subject.trace(&list).map_err(disagreement)?;
-            let faults = grid::faults(&trace);
+            let faults = subject.on_at_the_start() + &grid::faults(&trace);
             Report::refused(line + &faults + &subject.planned_instead(answer))
         }
         _ => subject.refusal(answer),
@@ -246,12 +260,12 @@ fn trace_list(help: &Help, args: &Args) -> Outcome {
         Err(refusal) => return Err(disagreement(refusal)),
     };
     if let Some(path) = svg_output {
-        files::write(path, svg::draw(&trace, subject.request, answer).as_bytes())?;
+        files::write(path, svg::draw(&trace, subject.task, answer).as_bytes())?;
     }
     Ok(Report {
         text: format!(
-            "Request: {}\n{}{}{}",
-            subject.request,
+            "{}\n{}{}{}",
+            subject.task.heading(),
             words::answer_line(answer),
             grid::draw(&trace),
             subject.planned_instead(answer),

@@ -1,6 +1,6 @@
 //! The command `sailgarnet`: shows power tables, describes them as text and
-//! writes them from it, plans requests, and checks and traces lists of method
-//! calls.
+//! writes them from it, plans requests and bring-ups, and checks and traces lists
+//! of method calls.
 
 #![forbid(unsafe_code)]
 
@@ -17,6 +17,7 @@ mod objects;
 mod printer;
 mod reader;
 mod request;
+mod resources;
 mod show;
 mod subject;
 mod svg;
