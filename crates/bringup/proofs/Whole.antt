@@ -2,25 +2,27 @@
 use mathlib.Core.Path.{_≡_, refl, sym, ap, _∙_}
 use mathlib.Core.Bool.{Bool, true, false, not}
 use mathlib.Core.List.{List}
-use Prim.Native.Nat.{ℕ, _*_, _≤_}
+use Prim.Native.Nat.{ℕ, _+_, _*_, _^_, _≤_, _<_}
 use native.Mathlib.Omega.{arith}
 use borrow.Author.Tests.{leb-true, not-true, not-false}
 use lib.Dec.{leb}
 use lib.ListN.{length, take}
+use Rattle.sets.specs.Sets.{minus}
+use Rattle.sets.proofs.Laws.{minus-lt}
 use Rattle.words.specs.Words.{put, wordBytes}
-use Rattle.rules.specs.declared.OptionalCall.the-variants.{NoCall}
-use Rattle.rules.specs.declared.Switching.{Switching}
 use Rattle.rules.specs.declared.Verdict.{Verdict}
 use Rattle.rules.specs.declared.Verdict.the-variants.{Done, Refused}
 use Rattle.rules.specs.declared.Reason.the-variants.{NotATable, NoRoom, NotConforming}
 use Rattle.rules.specs.Answers.{numberOf, countOf, passes}
-use Rattle.rules.specs.Station.{width, stationOf, station}
+use Rattle.rules.specs.Station.{width, countR, stationOf, station}
 use Rattle.rules.specs.Table.{headerGood, tableVerdict}
 use Rattle.rules.specs.Power.{needed}
 use Rattle.rules.specs.Status.{entriesSize, entries, statusOf, status, imageOf}
-use Rattle.rules.specs.Calls.{listOf, switchingOf}
+use Rattle.rules.specs.Calls.{toTurnOn, toTurnOff}
+use Rattle.rules.specs.Check.{isEnd}
 use Rattle.rules.specs.Outcomes.{planRoom, ofBytes}
-use Rattle.rules.specs.BringUp.{stateButPowerVerdict, bringUpStages, bringUpCalls, statusBroughtUp, bringUpList, stateBroughtUp, bringUpWords, bringUpBytes}
+use Rattle.rules.specs.BringUp.{stateButPowerVerdict, bringUpStages, bringUpCalls, statusBroughtUp, bringUpList, stateBroughtUp}
+use Rattle.rules.specs.BringUp.{bringUpWords, bringUpBytes}
 use Rattle.rules.specs.BringUp.{conformingToBringUp, checkBringUpWords, checkBringUpBytes}
 use Rattle.rules.proofs.Answers.{done-passes, refused-stops, first-pass, first-stop, first-none, unless-of, unless-stop}
 use Rattle.laws.specs.BringUp.{BringsUpWords}
@@ -29,12 +31,13 @@ use Rattle.laws.proofs.Stages.{KeptStages, kept-of, kept-pass}
 use Rattle.laws.proofs.BringUp.{brings-up-words}
 use Rattle.table.specs.Layout.{WellSized}
 use Rattle.table.proofs.Verdicts.{sized-of, no-table, table-passed}
+use Rattle.calls.specs.Phases.{phaseWords}
 use Rattle.status.specs.Ready.{statusWith}
-use Rattle.switching.specs.Switching.{switchingWords, GoodSwitching}
 use Rattle.switching.specs.Written.{WrittenPlan}
-use Rattle.switching.specs.Phases.{walked}
-use Rattle.switching.proofs.Made.{switching-good, words-are}
-use Rattle.switching.proofs.Walks.{walked-is}
+use Rattle.switching.specs.Phases.{takePhases}
+use Rattle.switching.proofs.Made.{minus-disjoint, phases-words}
+use Rattle.switching.proofs.Run.{phase-fits}
+use Rattle.switching.proofs.Walks.{phases-are}
 use Rattle.switching.proofs.Answered.{Answered, outcome-refused, outcome-written, front-bytes, list-refused, list-19, list-done}
 use Rattle.bringup.specs.Kept.{KeptState}
 
@@ -48,7 +51,8 @@ module _ (t : List ℕ) (v : Verdict) (p : Bool) (e : v ≡ tableVerdict t) (f :
 pub stop-header : (t b : List ℕ) (room h : Bool) → h ≡ headerGood t → not h ≡ true → Refused NotATable 0 ≡ bringUpStages room t b
 stop-header t b room h e n = stop-table t (Refused NotATable 0) false (no-table t h e n) (sym (refused-stops NotATable 0)) b room refl
 
-module _ (t b : List ℕ) (done : tableVerdict t ≡ Done 0) (v : Verdict) (p : Bool) (e : v ≡ stateButPowerVerdict t b) (f : p ≡ passes v) (room : Bool) where
+module _ (t b : List ℕ) (done : tableVerdict t ≡ Done 0) (v : Verdict) (p : Bool) (e : v ≡ stateButPowerVerdict t b) (f : p ≡ passes v)
+    (room : Bool) where
   on-table : passes (tableVerdict t) ≡ true
   on-table = ap passes done ∙ done-passes 0
 
@@ -97,33 +101,45 @@ module _ (t b : List ℕ) (g : KeptState t b) where
   pub kept-long : entriesSize (width t) ≤ length b
   kept-long = omega (arith, g .long)
 
--- ---- the switching of a kept state, from the values as the code has them
-module _ (t b : List ℕ) (on target : ℕ) (c : Switching) (k : c ≡ switchingOf NoCall false on target) (h : on ≡ status t b .on)
+-- ---- the switching of a kept state, from the values as the code has them: u is turned on, v off
+module _ (t b : List ℕ) (g : KeptState t b) (on target u v : ℕ) (h : on ≡ status t b .on)
     (n : target ≡ needed (station t) (entries t b)) where
-  pub up-good : KeptState t b → GoodSwitching t c
+  pub added-small : u ≡ minus target on → u < 2 ^ countR t
   unfolding stationOf
-  up-good g =
-      let stages = kept-stages t b g in
-      rw k (switching-good NoCall false on target t (rw h (values-of t b (stages .values) .on)) (rw n (needed-small t (stages .table) (entries t b))) tt)
+  added-small p = rw (p, n) (minus-lt _ _ on (needed-small t (kept-stages t b g .table) (entries t b)))
 
-  pub list-is : switchingWords (station t) c ≡ bringUpList t b
-  unfolding bringUpList bringUpCalls listOf statusOf
-  list-is = rw (k, h, n) (words-are NoCall false _ _ (station t))
+  pub removed-small : v ≡ minus on target → v < 2 ^ countR t
+  unfolding stationOf
+  removed-small q = rw (q, h) (minus-lt _ _ target (values-of t b (kept-stages t b g .values) .on))
 
-  pub test-is : (ws : List ℕ) (r : Bool) → r ≡ walked (station t) c ws → r ≡ conformingToBringUp (station t) (status t b) ws
-  unfolding listOf statusOf
-  test-is ws r e = e ∙ rw (k, h, n) (walked-is (station t) NoCall false _ _ ws)
+pub switches-room : (t b : List ℕ) (m on target u v : ℕ) → KeptState t b → u ≡ minus target on → v ≡ minus on target
+    → planRoom (width t) ≤ m → 0 + length (phaseWords (station t) u v) ≤ m
+switches-room t b m on target u v g p q h =
+    let fits = phase-fits t u v (rw (p, q) (minus-disjoint target on)) in
+    omega (arith, fits, g .sized .resources)
 
-pub up-written : (t b : List ℕ) (m : ℕ) (b′ plan plan′ : List ℕ) (on target : ℕ) (c : Switching) → c ≡ switchingOf NoCall false on target
-    → on ≡ status t b .on → target ≡ needed (station t) (entries t b) → m ≡ length (switchingWords (station t) c)
-    → plan′ ≡ put plan 0 (switchingWords (station t) c) → b′ ≡ imageOf (width t) (statusWith t b target)
-    → WrittenPlan (bringUpList t b) (stateBroughtUp t b) plan m b′ plan′
-unfolding stateBroughtUp statusBroughtUp statusOf
-up-written t b m b′ plan plan′ on target c k h n count put′ image =
-    let are = list-is t b on target c k h n in
-    record { count = count ∙ ap length are; state = image ∙ rw n refl; words = put′ ∙ ap (put plan 0) are }
+module _ (t b : List ℕ) (on target u v : ℕ) (h : on ≡ status t b .on) (n : target ≡ needed (station t) (entries t b))
+    (p : u ≡ minus target on) (q : v ≡ minus on target) where
+  list-is : phaseWords (station t) u v ≡ bringUpList t b
+  unfolding bringUpList bringUpCalls statusOf
+  list-is = rw (p, q, h, n) (phases-words (station t) _ _)
 
-pub ruleset upward = (kept-sized, kept-long, up-good, test-is)
+  pub test-is : (ws : List ℕ) (r : Bool) → r ≡ isEnd (takePhases (station t) u v ws) → r ≡ conformingToBringUp (station t) (status t b) ws
+  unfolding statusOf toTurnOn toTurnOff
+  test-is ws r e = e ∙ rw (p, q, h, n) (phases-are (station t) _ _ ws)
+
+  pub up-written : (m : ℕ) (b′ plan plan′ : List ℕ) → m ≡ 0 + length (phaseWords (station t) u v)
+      → plan′ ≡ put plan 0 (phaseWords (station t) u v) → b′ ≡ imageOf (width t) (statusWith t b target)
+      → WrittenPlan (bringUpList t b) (stateBroughtUp t b) plan m b′ plan′
+  unfolding stateBroughtUp statusBroughtUp statusOf
+  up-written m b′ plan plan′ count put′ image =
+      record {
+        count = omega (arith, ap length list-is);
+        state = image ∙ rw n refl;
+        words = put′ ∙ ap (put plan 0) list-is;
+      }
+
+pub ruleset upward = (kept-sized, kept-long, added-small, removed-small, test-is)
 
 -- ---- the outcome; n: the room that a plan must have, in words; m: the words or bytes that it has
 module _ (t b : List ℕ) (n m : ℕ) (i : n ≡ planRoom (width t)) (v : Verdict) (p : Bool) (f : p ≡ passes v) where
@@ -144,7 +160,8 @@ module _ (t b plan : List ℕ) (n : ℕ) (i : n ≡ planRoom (width t)) (v : Ver
         → Answered (Done k) b′ plan′ (bringUpWords t b plan)
     unfolding bringUpWords
     words-brought h k b′ plan′ w =
-        outcome-written _ v p (rw i at e) f (λ ws. ws) b plan (stateBroughtUp t b) (bringUpList t b) h k b′ plan′ (w .count) (w .state) (w .words)
+        outcome-written _ v p (rw i at e) f (λ ws. ws) b plan (stateBroughtUp t b) (bringUpList t b) h k b′ plan′ (w .count) (w .state)
+        (w .words)
 
   -- a plan of bytes
   module _ (e : v ≡ bringUpStages (leb (4 * n) (length plan)) t b) where

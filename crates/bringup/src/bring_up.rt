@@ -1,5 +1,4 @@
 // The calls of bring-up into a lent plan, and the state after them. A refusal writes neither.
-use rules::OptionalCall;
 use rules::Verdict;
 ghost use mathlib.Core.Path.{_≡_};
 ghost use Prim.Native.Nat.{_≤_};
@@ -12,7 +11,7 @@ ghost use Rattle.laws.specs.BringUp.{BringsUpWords};
 ghost use Rattle.switching.specs.Written.{WrittenPlan};
 ghost use Rattle.bringup.specs.Kept.{KeptState};
 
-// The calls and the state of a kept state that has passed every check: no device's own call, for none changes its state.
+// The calls and the state of a kept state that has passed every check. No device changes its state, so none has a call of its own.
 pub fn write_bring_up(table: &[u8], state: &mut [u8], plan: &mut [u32]) -> usize
     requires { ⌜ KeptState (now table) (now state) × (planRoom (width (now table)) ≤ length (now plan)) ⌝ }
     ensures { λ r. ⌜ WrittenPlan (bringUpList (now (table .entry)) (now (state .entry)))
@@ -20,8 +19,9 @@ pub fn write_bring_up(table: &[u8], state: &mut [u8], plan: &mut [u32]) -> usize
 {
     let on = status::image::on_set(table, state);
     let target = status::needed::needed(table, state);
-    let c = switching::switching(OptionalCall::NoCall, false, on, target);
-    let count = switching::write::write_calls(table, c, plan);
+    let added = sets::minus(target, on);
+    let removed = sets::minus(on, target);
+    let count = switching::write::write_switches(table, added, removed, plan, 0);
     status::image::set_on(table, state, target);
     count
 }

@@ -1,5 +1,4 @@
 // Whether a list of calls conforms to bring-up: answers 1 to 8, then 19. Nothing is written.
-use rules::OptionalCall;
 use rules::Reason;
 use rules::Verdict;
 ghost use mathlib.Core.Path.{_≡_};
@@ -17,8 +16,9 @@ pub fn conforming(table: &[u8], state: &[u8], list: &[u32]) -> bool
 {
     let on = status::image::on_set(table, state);
     let target = status::needed::needed(table, state);
-    let c = switching::switching(OptionalCall::NoCall, false, on, target);
-    switching::walk::walk(table, c, list)
+    let added = sets::minus(target, on);
+    let removed = sets::minus(on, target);
+    switching::walk::walk_phases(table, added, removed, list)
 }
 
 // The checker of bring-up on a list of words.

@@ -1,5 +1,5 @@
--- What bring-up promises holds of every table, state and plan: the state afterwards is consistent, a consistent one gets no ONs, and a second
--- time there are no calls. From the laws of plans and of what is turned on and off.
+-- What bring-up promises holds of every table, state and plan: the state afterwards is consistent, a consistent one gets no ONs, and a
+-- second time there are no calls. From the laws of plans and of what is turned on and off.
 use mathlib.Core.Path.{_≡_, refl, sym, ap, _∙_}
 use mathlib.Core.Bool.{Bool, true, and-false}
 use mathlib.Core.List.{List, [], _∷_, map, map-map}
@@ -24,7 +24,8 @@ use Rattle.rules.specs.Status.{noEntry, status, consistencyVerdict, stateVerdic
 use Rattle.rules.specs.Calls.{toTurnOn, toTurnOff, rising, turnOn, turnOff, arrange, switchCalls}
 use Rattle.rules.specs.Check.{offWord}
 use Rattle.rules.specs.Outcomes.{Outcome, planRoom, planOutcome}
-use Rattle.rules.specs.BringUp.{butPowerVerdict, bringUpStages, bringUpCalls, statusBroughtUp, bringUpList, stateBroughtUp, bringUpWords, bringUpBytes}
+use Rattle.rules.specs.BringUp.{butPowerVerdict, bringUpStages, bringUpCalls, statusBroughtUp, bringUpList, stateBroughtUp, bringUpWords}
+use Rattle.rules.specs.BringUp.{bringUpBytes}
 use Rattle.rules.proofs.Answers.{first-both, done-passes, refused-stops, lowest-at, lowest-of}
 use Rattle.laws.specs.Demand2.{ExactlyNeeded}
 use Rattle.laws.specs.Demand3.{neededBefore}
@@ -112,7 +113,8 @@ kept-consistent t b e f =
     }
 
 -- a consistent state has on what it needs
-needs-on : (t b : List ℕ) → passes (stateVerdict t b) ≡ true → (r : ℕ) → member (neededBefore t b) r ≡ true → member (status t b .on) r ≡ true
+needs-on : (t b : List ℕ) → passes (stateVerdict t b) ≡ true → (r : ℕ) → member (neededBefore t b) r ≡ true
+    → member (status t b .on) r ≡ true
 unfolding needed
 needs-on t b f r e =
     let n = needed-by (station t) (status t b .entries) (station t .devices) r e in
@@ -132,7 +134,8 @@ module _ (t b : List ℕ) (e : passes (tableVerdict t) ≡ true) where
   offs-alone : passes (stateVerdict t b) ≡ true → bringUpList t b ≡ map offWord (turnOff (station t) (status t b .on) (neededBefore t b))
   unfolding bringUpList bringUpCalls switchCalls arrange
   offs-alone f =
-      rw (ons-none (station t) (station t .resources) (status t b .on) (neededBefore t b) (needed-small t e (status t b .entries)) (needs-on t b f))
+      rw (ons-none (station t) (station t .resources) (status t b .on) (neededBefore t b) (needed-small t e (status t b .entries))
+      (needs-on t b f))
       (simp map-map)
 
 -- of a state after bring-up

@@ -1,5 +1,5 @@
--- What the checker of bring-up promises holds of every table, state and list: from the laws of lists and switching, with no own call and the
--- needed set as the target.
+-- What the checker of bring-up promises holds of every table, state and list: from the laws of lists and switching, with no own call and
+-- the needed set as the target.
 use mathlib.Core.Path.{_≡_, refl, ap, _∙_}
 use mathlib.Core.Bool.{true, false}
 use mathlib.Core.List.{List, []}
@@ -52,7 +52,9 @@ module _ (t b : List ℕ) (g : KeptStages t b) where
 
   own-fit : (i : ℕ) → getD (bringUpList t b) i 0 < 2 ^ 32
   unfolding All
-  own-fit = all-fit (bringUpList t b) (conforms-fits (station t) [] false (status t b .on) (neededBefore t b) up-able (bringUpList t b) own-conforms tt)
+  own-fit =
+      all-fit (bringUpList t b)
+      (conforms-fits (station t) [] false (status t b .on) (neededBefore t b) up-able (bringUpList t b) own-conforms tt)
 
 up-passed : (t b ws : List ℕ) → PassedBringUp t b ws → KeptStages t b × (conformingToBringUp (station t) (status t b) ws ≡ true)
 unfolding checkBringUpWords

@@ -64,7 +64,8 @@ module _ (t b : List ℕ) (q : Request) (g : Stages t b q) where
 
   words-fit : (i : ℕ) → getD (planned t b q) i 0 < 2 ^ 32
   words-fit =
-      all-fit _ (conforms-fits (station t) (ownCalls (station t) (status t b) q) (ownLast q) (status t b .on) (neededAfter t b q) (able t b q g)
+      all-fit _ (conforms-fits (station t) (ownCalls (station t) (status t b) q) (ownLast q) (status t b .on) (neededAfter t b q)
+      (able t b q g)
       (planned t b q) (planner-conforms t b q g) own)
 
 -- ---- demand 3

@@ -1,5 +1,5 @@
--- The checker's test passes exactly the lists that `Conforms` describes, and the list in the usual orders is one of them, for any own calls,
--- on-set and target. From what each phase takes, and from the laws of the lists of a set's members.
+-- The checker's test passes exactly the lists that `Conforms` describes, and the list in the usual orders is one of them, for any own
+-- calls, on-set and target. From what each phase takes, and from the laws of the lists of a set's members.
 use mathlib.Core.Path.{_≡_, refl, sym, _∙_}
 use mathlib.Core.Bool.{Bool, true, false, true≢false}
 use mathlib.Core.List.{List, [], _∷_, _++_, map, map-map, map-append, append-assoc, append-nil}

@@ -1,5 +1,5 @@
--- A plan whose checks pass is done with the count of its words, which stand at its front, the rest being as it was; and a list passes exactly
--- if its checks pass and its test holds. Of words and of bytes, for any checks, words and test.
+-- A plan whose checks pass is done with the count of its words, which stand at its front, the rest being as it was; and a list passes
+-- exactly if its checks pass and its test holds. Of words and of bytes, for any checks, words and test.
 use mathlib.Core.Path.{_≡_, refl, sym, ap, _∙_}
 use mathlib.Core.Bool.{Bool, true}
 use mathlib.Core.List.{List}

@@ -1,4 +1,5 @@
--- The state image along requests: a fresh one is consistent, and an accepted request leaves a consistent one with exactly the needed set on.
+-- The state image along requests: a fresh one is consistent, and an accepted request leaves a consistent one with exactly the needed set
+-- on.
 use mathlib.Core.Path.{_≡_, refl, sym, ap, _∙_}
 use mathlib.Core.Bool.{Bool, true, false, not, _&&_, _||_, true≢false, and-true}
 use mathlib.Core.List.{List}
@@ -49,7 +50,8 @@ pub few : (t : List ℕ) → passes (tableVerdict t) ≡ true → station t .res
 unfolding stationOf
 few t e = omega (arith, accepted t e .resources, width-wide t .high)
 
-pub needed-small : (t : List ℕ) → passes (tableVerdict t) ≡ true → (entries : ℕ → Entry) → needed (station t) entries < 2 ^ station t .resources
+pub needed-small : (t : List ℕ) → passes (tableVerdict t) ≡ true → (entries : ℕ → Entry)
+    → needed (station t) entries < 2 ^ station t .resources
 unfolding needed
 needed-small t e entries =
     needed-lt (station t .resources) (station t) entries (station t .devices) (station-rules t (accepted t e) .sets)
@@ -121,7 +123,8 @@ module _ (t : List ℕ) (e : passes (tableVerdict t) ≡ true) (st : Status) (c 
     (out : (k : ℕ) → limit (width t) ≤ k → st .entries k ≡ noEntry) where
   pub image-reads : status t (imageOf (width t) st) ≡ st
   image-reads =
-      status-image (width t) st (fits-image (width t) (station t .resources) (st .on) (unfold stationOf in accepted t e .resources) (c .on)) out
+      status-image (width t) st
+      (fits-image (width t) (station t .resources) (st .on) (unfold stationOf in accepted t e .resources) (c .on)) out
 
   pub image-consistent : stateVerdict t (imageOf (width t) st) ≡ Done 0
   image-consistent = consistent-is t (imageOf (width t) st) (image-length (width t) st) (rw image-reads c)
@@ -142,7 +145,8 @@ powered-apart s entries on h =
     (λ d l. refl)
 
 pub all-on-apart : (t : List ℕ) → passes (tableVerdict t) ≡ true → (entries : ℕ → Entry)
-    → consistencyVerdict (station t) (record { entries = entries; on = firstN (station t .resources) }) ≡ butPowerVerdict (station t) entries
+    → consistencyVerdict (station t) (record { entries = entries; on = firstN (station t .resources) })
+    ≡ butPowerVerdict (station t) entries
 all-on-apart t e entries =
     powered-apart (station t) entries (firstN (station t .resources))
     (λ d h. all-on (station t) (station-rules t (accepted t e)) d h (entries d))

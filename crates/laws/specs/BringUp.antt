@@ -25,8 +25,8 @@ use Rattle.laws.specs.Demand3.{neededBefore}
 abbrev pub CanBringUp : List ℕ → List ℕ → Type 0
 CanBringUp t b = numberOf (bringUpStages true t b) ≡ 0
 
--- what bring-up does, of a plan in which a word has `size` elements, `written` turning words into these; `bringUp` is bring-up on such a plan.
--- Number and count are the answer's; b and plan are state and plan as they are lent, b′ and plan′ as they are afterwards
+-- what bring-up does, of a plan in which a word has `size` elements, `written` turning words into these; `bringUp` is bring-up on such a
+-- plan. Number and count are the answer's; b and plan are state and plan as they are lent, b′ and plan′ as they are afterwards
 pub record BringsUp (size : ℕ) (written : List ℕ → List ℕ) (bringUp : List ℕ → List ℕ → List ℕ → Outcome) (t b plan : List ℕ)
     (number count : ℕ) (b′ plan′ : List ℕ) : Type 0 where
   -- the answer is 0 exactly if the checks pass and the plan has room

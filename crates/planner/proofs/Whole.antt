@@ -105,7 +105,8 @@ module _ (t b : List ℕ) (q : Request) (plan : List ℕ) (n : ℕ) (i : n ≡ p
         → Answered (Done k) b′ plan′ (planWords t b q plan)
     unfolding planWords
     words-planned h k b′ plan′ w =
-        outcome-written _ v p (rw i at e) f (λ ws. ws) b plan (stateAfter t b q) (planned t b q) h k b′ plan′ (w .count) (w .state) (w .words)
+        outcome-written _ v p (rw i at e) f (λ ws. ws) b plan (stateAfter t b q) (planned t b q) h k b′ plan′ (w .count) (w .state)
+        (w .words)
 
   -- a plan of bytes
   module _ (e : v ≡ stagesVerdict (leb (4 * n) (length plan)) t b q) where

@@ -32,8 +32,8 @@ answered number list = record { list = list; number = number }
 
 abbrev pub doneRows : List BringUpRow
 doneRows =
-    -- all in D0 and nothing on: r0, r2, r1, of which the first two have the same order. These two exchanged conform; a higher order first, a
-    -- call too few, a call twice, a method, a byte too many and no call do not
+    -- all in D0 and nothing on: r0, r2, r1, of which the first two have the same order. These two exchanged conform; a higher order first,
+    -- a call too few, a call twice, a method, a byte too many and no call do not
     benchUp 0x00000000_00000000_00000000 0 (done (bytes 12 0x01000000_01020000_01010000) (bytes 12 0x00000000_00000000_00000000) 7)
     (conforms 12 0x01020000_01000000_01010000
     ∷ differs 12 0x01000000_01010000_01020000

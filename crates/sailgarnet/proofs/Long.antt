@@ -28,7 +28,8 @@ once-long s m l h o =
     ∙ ap length (unique before order (sort before l) (rising s m) (sort-sorted before order l) (rising-sorted s m)
     (λ r. times-sort before r l ∙ o r ∙ sym (rising-once s m h r)))
 
-ends-long : (last : Bool) (own : List Call) → length (map wordOf (firstCalls last own)) + length (map wordOf (lastCalls last own)) ≡ length own
+ends-long : (last : Bool) (own : List Call)
+    → length (map wordOf (firstCalls last own)) + length (map wordOf (lastCalls last own)) ≡ length own
 unfolding firstCalls lastCalls
 ends-long true own = omega (arith, length-map own wordOf)
 ends-long false own = omega (arith, length-map own wordOf)

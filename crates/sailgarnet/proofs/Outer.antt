@@ -59,7 +59,8 @@ module _ (t b : List ℕ) (q : Request) (g : Stages t b q) where
 
   pub planned-short : length (planned t b q) ≤ planRoom (width t)
   planned-short =
-      let l = conforms-long (station t) (ownCalls (station t) (status t b) q) (ownLast q) (status t b .on) (neededAfter t b q) (able t b q g)
+      let l = conforms-long (station t) (ownCalls (station t) (status t b) q) (ownLast q) (status t b .on) (neededAfter t b q)
+      (able t b q g)
       (planned t b q) (planner-conforms t b q g) in
       omega (arith, few t (g .table), own-one)
 

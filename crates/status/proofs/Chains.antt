@@ -86,7 +86,8 @@ module _ (t b : List ℕ) (g : Bool) (i : g ≡ imageGood t b) where
           good = values .entries;
         }
 
-    pub state-is : (on : ℕ) (v : Verdict) → on ≡ status t b .on → v ≡ consistencyVerdict (station t) (statusWith t b on) → v ≡ stateVerdict t b
+    pub state-is : (on : ℕ) (v : Verdict) → on ≡ status t b .on → v ≡ consistencyVerdict (station t) (statusWith t b on)
+        → v ≡ stateVerdict t b
     unfolding stateVerdict valuesVerdict statusOf consistencyVerdict
     state-is on v r c =
         rw (← i, not-false g n, ← r, unless-of true BadState 0 refl, first-pass (Done 0) _ (Done 0) (done-passes 0))

@@ -143,7 +143,8 @@ unfolding put
 put-end b ws n l =
     ap (λ (r : List ℕ). take n b ++ ws ++ r) (drop-of-length-le b {i = n + length ws} (omega arith)) ∙ append-nil (take n b ++ ws)
 
-with-on : (b : List ℕ) (on : ℕ) → length b ≡ 132 → take 128 b ++ bytesLE 4 on ≡ imageOf 4 (record { entries = statusOf 4 b .entries; on = on })
+with-on : (b : List ℕ) (on : ℕ) → length b ≡ 132
+    → take 128 b ++ bytesLE 4 on ≡ imageOf 4 (record { entries = statusOf 4 b .entries; on = on })
 with-on b on l =
     let st : State = record { devices = loadState b .devices; on = on } in
     let long : length (st .devices) ≡ 128 = unfold loadState in length-take-le 128 b (omega arith) in
@@ -151,7 +152,8 @@ with-on b on l =
     let stored : storeState st ≡ take 128 b ++ bytesLE 4 on = unfold storeState loadState in refl in
     sym stored ∙ sym (image-of st long) ∙ ap (imageOf 4) said
 
-pub on-written : (t b : List ℕ) (at on : ℕ) (b′ : List ℕ) → length b ≡ imageSize (width t) → at ≡ width t → b′ ≡ put b (32 * at) (bytesLE 4 on)
+pub on-written : (t b : List ℕ) (at on : ℕ) (b′ : List ℕ) → length b ≡ imageSize (width t) → at ≡ width t
+    → b′ ≡ put b (32 * at) (bytesLE 4 on)
     → b′ ≡ imageOf (width t) (statusWith t b on)
 unfolding versionWidth width
 on-written t b at on b′ l a w =

@@ -27,7 +27,8 @@ pub parts : {v : Verdict} {b plan : List ℕ} {o : Outcome} → Answered v b pla
 parts a = (a .verdict, a .state, a .plan)
 
 -- the bytes of the words that stand at the front of a plan of words
-pub front-bytes : (list after d d′ : List ℕ) (n : ℕ) (b′ : List ℕ) → WrittenPlan list after d n b′ d′ → wordBytes (take n d′) ≡ wordBytes list
+pub front-bytes : (list after d d′ : List ℕ) (n : ℕ) (b′ : List ℕ) → WrittenPlan list after d n b′ d′
+    → wordBytes (take n d′) ≡ wordBytes list
 front-bytes list after d d′ n b′ w = ap wordBytes (ap (take n) (w .words) ∙ take-put d list n (sym (w .count)))
 
 -- v is the answer of the checks, p whether it passes

@@ -1,15 +1,17 @@
 -- A switching made of an on-set and a target: it is good, and its words are those of the rules.
-use mathlib.Core.Path.{_≡_, refl}
+use mathlib.Core.Path.{_≡_, refl, sym}
 use mathlib.Core.Bool.{Bool, false, not, _&&_}
-use mathlib.Core.List.{List, map}
+use mathlib.Core.List.{List, [], map, map-append, map-map}
 use Prim.Native.Nat.{ℕ, _^_, _<_}
 use Rattle.sets.specs.Sets.{member, minus}
 use Rattle.sets.proofs.Bits.{both}
 use Rattle.sets.proofs.Laws.{member-minus, minus-lt}
 use Rattle.rules.specs.declared.OptionalCall.{OptionalCall}
 use Rattle.rules.specs.Station.{Station, countR}
-use Rattle.rules.specs.Calls.{wordOf, listOf, toTurnOn, toTurnOff, turnOn, turnOff, switchCalls, switchingOf}
+use Rattle.rules.specs.Calls.{wordOf, listOf, toTurnOn, toTurnOff, turnOn, turnOff, arrange, switchCalls, switchingOf}
 use Rattle.calls.specs.Ranges.{OptionalInRange}
+use Rattle.calls.specs.Switch.{switchWord}
+use Rattle.calls.specs.Phases.{inOrder, switchWords, phaseWords}
 use Rattle.switching.specs.Switching.{switchingWords, Disjoint, GoodSwitching}
 
 -- from its parts
@@ -40,3 +42,9 @@ module _ (own : OptionalCall) (last : Bool) (on target : ℕ) where
   pub words-are : (s : Station) → switchingWords s (switchingOf own last on target) ≡ map wordOf (switchCalls s (listOf own) last on target)
   unfolding switchingWords switchCalls turnOn turnOff
   words-are s = refl
+
+-- without own calls, they are the words of the ONs and of the OFFs
+pub phases-words : (s : Station) (on target : ℕ)
+    → phaseWords s (minus target on) (minus on target) ≡ map wordOf (switchCalls s [] false on target)
+unfolding phaseWords switchWords switchWord inOrder switchCalls arrange turnOn turnOff toTurnOn toTurnOff
+phases-words s on target = sym (simp (map-append, map-map))

@@ -94,7 +94,7 @@ rising-fit s a b h =
     let before = earlier (orderIn s) in
     omega (arith, length-sort before (membersFrom a 0 n), length-sort before (membersFrom b 0 n), members-fit a b 0 n h)
 
-phase-fits : (t : List ℕ) (on off : ℕ) → Disjoint on off → length (phaseWords (station t) on off) ≤ countR t
+pub phase-fits : (t : List ℕ) (on off : ℕ) → Disjoint on off → length (phaseWords (station t) on off) ≤ countR t
 phase-fits t on off h =
     let s = station t in
     unfold stationOf in omega (arith, phase-long s on off, switch-long false s on, switch-long true s off, rising-fit s on off h)

@@ -1,5 +1,5 @@
 -- A whole list from its phases: a phase that is refused ends it, and what the last leaves must be nothing.
-use mathlib.Core.Path.{_≡_, refl, sym, ap, _∙_}
+use mathlib.Core.Path.{_≡_, refl, sym, ap, _∙_, fun-ext}
 use mathlib.Core.Bool.{Bool, true, false, not}
 use mathlib.Core.List.{List, [], _∷_}
 use Prim.Native.Nat.{ℕ, _+_, _≤_, _<_}
@@ -15,8 +15,9 @@ use Rattle.rules.specs.declared.Switching.{Switching}
 use Rattle.rules.specs.declared.OptionalCall.{OptionalCall}
 use Rattle.rules.specs.declared.OptionalCall.the-variants.{Is, NoCall}
 use Rattle.rules.specs.Station.{Station}
-use Rattle.rules.specs.Calls.{wordOf, listOf, switchingOf}
-use Rattle.rules.specs.Check.{Rest, left, refused, andThen, takeWords, isEnd, firstCalls, lastCalls, conforming}
+use Rattle.rules.specs.Calls.{wordOf, listOf, toTurnOn, toTurnOff, switchingOf}
+use Rattle.rules.specs.Check.{Rest, left, refused, andThen, takeWords, takeSet, isEnd, onWord, offWord, notLower, notHigher}
+use Rattle.rules.specs.Check.{firstCalls, lastCalls, conforming}
 use Rattle.calls.specs.Switch.{switchWord}
 use Rattle.switching.specs.declared.Taken.{Taken}
 use Rattle.switching.specs.declared.Taken.the-variants.{UpTo, Refused}
@@ -85,6 +86,18 @@ module _ (s : Station) (on off at : ℕ) (ws : List ℕ) (a : Taken) (ha : Leave
 
 pub ruleset switches = (within, ons-refused, offs-follow)
 
+-- these alone
+module _ (s : Station) (on off : ℕ) (ws : List ℕ) (a : Taken) (ha : Leaves ws a (takePhases s on off (drop 0 ws))) where
+  pub phases-refused : a ≡ Refused → false ≡ isEnd (takePhases s on off ws)
+  unfolding isEnd
+  phases-refused e = sym (ap isEnd (refused-is ws a (takePhases s on off ws) ha e))
+
+  pub phases-end : (i : ℕ) → a ≡ UpTo i → eqb i (length ws) ≡ isEnd (takePhases s on off ws)
+  phases-end i e =
+      end-is ws i (within ws a (takePhases s on off ws) i ha e) ∙ sym (ap isEnd (left-is ws a (takePhases s on off ws) i ha e))
+
+pub ruleset phases-alone = (phases-refused, phases-end)
+
 -- the own call, these, and the own call
 module _ (s : Station) (c : Switching) (ws : List ℕ) (a : Taken)
     (ha : Leaves ws a (takeWords (ownWords (not (c .last)) (c .own)) (drop 0 ws))) where
@@ -125,3 +138,17 @@ pub walked-is : (s : Station) (own : OptionalCall) (last : Bool) (on target : �
 unfolding walked takePhases conforming switchWord follows ownWords firstCalls lastCalls
 walked-is s own true on target ws = ap isEnd (joined _ _ _ _)
 walked-is s own false on target ws = ap isEnd (joined _ _ _ _)
+
+-- without own calls, the ONs and the OFFs are all
+then-left : (r : Rest) → andThen r left ≡ r
+unfolding andThen
+then-left (left a) = refl
+then-left refused = refl
+
+pub phases-are : (s : Station) (on target : ℕ) (ws : List ℕ)
+    → isEnd (takePhases s (toTurnOn on target) (toTurnOff on target) ws) ≡ conforming s [] false on target ws
+unfolding takePhases conforming switchWord follows firstCalls lastCalls takeWords andThen
+phases-are s on target ws =
+    let off = takeSet offWord (notHigher s) (toTurnOff on target) true 0 in
+    ap (λ (f : List ℕ → Rest). isEnd (andThen (takeSet onWord (notLower s) (toTurnOn on target) true 0 ws) f))
+    (fun-ext (λ a. sym (then-left (off a))))

@@ -1,5 +1,5 @@
-// Switching: the calls that turn an on-set into a target, around a device's own call or none. They are written into a plan, and looked for in
-// a list.
+// Switching: the calls that turn an on-set into a target, around a device's own call or none. They are written into a plan, and looked for
+// in a list.
 pub mod decode;
 pub mod take;
 pub mod walk;

@@ -10,7 +10,7 @@ ghost use Prim.Native.Nat.{_^_, _<_, _≤_};
 ghost use lib.ListN.{length, drop};
 ghost use Rattle.rules.specs.Station.{countR, station};
 ghost use Rattle.rules.specs.Calls.{wordOf};
-ghost use Rattle.rules.specs.Check.{takeWords};
+ghost use Rattle.rules.specs.Check.{takeWords, isEnd};
 ghost use Rattle.table.specs.Layout.{WellSized};
 ghost use Rattle.calls.specs.Ranges.{InRange, OptionalInRange};
 ghost use Rattle.switching.specs.Switching.{GoodSwitching};
@@ -53,6 +53,17 @@ fn take_phases(table: &[u8], on: u32, off: u32, list: &[u32], at: usize) -> Take
         return Taken::Refused;
     };
     take_phase(table, true, off, list, offs)
+}
+
+// Whether the list turns one set on, then another off, and nothing else.
+pub fn walk_phases(table: &[u8], on: u32, off: u32, list: &[u32]) -> bool
+    requires { ⌜ WellSized (now table) × (on < 2 ^ countR (now table)) × (off < 2 ^ countR (now table)) ⌝ }
+    ensures { λ r. ⌜ r ≡ isEnd (takePhases (station (now (table .entry))) on off (now (list .entry))) ⌝ }
+{
+    let Taken::UpTo(end) = take_phases(table, on, off, list, 0) else {
+        return false;
+    };
+    end == list.len()
 }
 
 // Whether the list is the calls of a switching and nothing else.

@@ -40,7 +40,7 @@ fn write_own(own: OptionalCall, plan: &mut [u32], at: usize) -> usize
 }
 
 // The words that turn one set on, then those that turn another off. The answer is the place after the last.
-fn write_switches(table: &[u8], on: u32, off: u32, plan: &mut [u32], at: usize) -> usize
+pub fn write_switches(table: &[u8], on: u32, off: u32, plan: &mut [u32], at: usize) -> usize
     requires { ⌜ WellSized (now table) × (at + length (phaseWords (station (now table)) on off) ≤ length (now plan)) ⌝ }
     ensures { λ r. ⌜ (r ≡ at + length (phaseWords (station (now (table .entry))) on off))
         × (now (plan .exit) ≡ put (now (plan .entry)) at (phaseWords (station (now (table .entry))) on off)) ⌝ }

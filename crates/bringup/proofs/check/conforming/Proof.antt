@@ -1,4 +1,4 @@
--- The walk over the switching.
+-- The walk over what is to be switched.
 use Rattle.bringup.proofs.Whole.{upward}
 use borrow.Author.Needs.{needs}
 use Rattle.bringup.proofs.check.conforming.Statement.{statement}
@@ -10,6 +10,7 @@ conforming-spec =
     (tie.spec
     (λ c κs. search needs)
     (λ c κs. search (needs, upward))
+    (λ c κs. search needs)
     (λ c κs. search needs)
     (λ c κs. search (needs, upward))
     (λ c. search (needs, upward)))
