@@ -197,9 +197,11 @@ fn refused_requests() -> Vec<Workload> {
 fn bring_ups() -> Vec<Workload> {
     let bench = bench_station().table();
     let full = full_station().table();
-    let all_in = |state| [[state, 0, 0, 0]; 32];
+    // In D0, and armed for S3 and D3cold.
+    let in_use = image(&[[0, 1, 3, 4]; 32], 0);
+    let unused = image(&[[4, 0, 0, 0]; 32], u32::MAX);
     let changed = |change: fn(&mut Case)| {
-        let mut case = Case::of_bring_up(&full, &image(&all_in(0), 0));
+        let mut case = Case::of_bring_up(&full, &in_use);
         change(&mut case);
         case
     };
@@ -208,12 +210,10 @@ fn bring_ups() -> Vec<Workload> {
             Case::of_bring_up(&bench, &image(&[[0; 4], [3, 0, 0, 0]], 0b100))
         }),
         Workload::both_of_bring_up("full, 32 ONs", 0, changed(|_| {})),
-        Workload::both_of_bring_up("full, 32 OFFs", 0, {
-            Case::of_bring_up(&full, &image(&all_in(4), u32::MAX))
-        }),
+        Workload::both_of_bring_up("full, 32 OFFs", 0, Case::of_bring_up(&full, &unused)),
         Workload::both_of_bring_up("wake pair, last device", 8, {
-            // S1 and D0, which its _S1D forbids.
-            changed(|case| case.reported[4 * LAST as usize + 1..][..2].fill(1))
+            // D0, which its _S3D forbids.
+            changed(|case| case.reported[4 * LAST as usize + 3] = 0)
         }),
         Workload::bring_up("room", 9, {
             changed(|case| case.plan.truncate(PLAN_BYTES - 1))

@@ -95,6 +95,12 @@ fn the_bench_station_is_brought_up() {
 }
 
 #[test]
+fn the_entries_of_32_devices_are_kept() {
+    let bare = table(&[(4, 0)], &[Record::default(); 32]);
+    brings_up(&bare, &[at(3); 32], 1, &[OFF0], 0);
+}
+
+#[test]
 fn a_table_without_resources_and_devices_is_brought_up() {
     brings_up(&table(&[], &[]), &[], 0, &[], 0);
     // Nothing needs the resources.
@@ -208,7 +214,7 @@ fn answer_8_names_the_lowest_device() {
 #[test]
 fn answer_7_comes_before_8() {
     let good = state(&[], 0);
-    for length in (0..132).chain(133..140) {
+    for length in (0..132).chain(133..140).chain([132 + 256, 132 + 65_536]) {
         let mut reported = good.clone();
         reported.resize(length, 0);
         refuses(&bench(), &reported, 7, 0);
@@ -224,7 +230,7 @@ fn answer_7_comes_before_8() {
 #[test]
 fn answer_9_is_the_room_for_33_words_and_comes_last() {
     let reported = state(&[], 0);
-    for room in 0..=PLAN_BYTES + 4 {
+    for room in (0..=PLAN_BYTES + 4).chain([1 << 8, 1 << 16]) {
         let (mut lent, mut buffer) = (reported.clone(), vec![0x5a; room]);
         let answer = bring_up(&bench(), &mut lent, &mut buffer);
         if room < 4 * PLAN_WORDS {
@@ -311,6 +317,9 @@ fn answer_19_for_a_list_that_ends_within_a_call() {
     for more in 1..9 {
         assert_eq!(check_bytes(&[&good[..], &vec![0; more]].concat()), 19);
     }
+    for more in [1 << 8, 1 << 16] {
+        assert_eq!(check_bytes(&[&good[..], &vec![0; more]].concat()), 19);
+    }
     // Where there is nothing to do, the empty list conforms and a byte does not.
     let up = state(&[], 0b111);
     assert_eq!(check_bring_up(&bench(), &up, &[]), Answer::done(0));
@@ -340,12 +349,34 @@ fn equal_orders_may_come_in_any_sequence() {
             }
         );
     }
-    let mut calls: Vec<[u8; 4]> = (0..32).map(|r| [2, (r * 7 + 3) % 32, 0, 0]).collect();
+    let reported = state(&[at(4); 3], 0b111);
+    for (calls, number) in [
+        ([OFF1, OFF2, OFF0], 0),
+        ([OFF1, OFF0, OFF2], 0),
+        ([OFF2, OFF0, OFF1], 19),
+        ([OFF0, OFF1, OFF2], 19),
+    ] {
+        let answer = check_bring_up(&bench(), &reported, calls.as_flattened());
+        assert_eq!(answer.number, number, "{calls:?}");
+    }
+}
+
+#[test]
+fn thirty_two_calls_of_equal_order_pass_in_any_sequence_and_no_more() {
     let reported = state(&[at(4)], u32::MAX);
-    let passes = |calls: &[[u8; 4]]| check_bring_up(&wide(), &reported, calls.as_flattened());
-    assert_eq!(passes(&calls), Answer::done(0));
+    let number = |calls: &[[u8; 4]]| {
+        let answer = check_bring_up(&wide(), &reported, calls.as_flattened());
+        answer.number
+    };
+    let mut calls: Vec<[u8; 4]> = (0..32).map(|r| [2, (r * 7 + 3) % 32, 0, 0]).collect();
+    assert_eq!(number(&calls), 0);
+    for more in [1, 2, 3, 100] {
+        let longer = [calls.clone(), calls[..1].repeat(more)].concat();
+        assert_eq!(number(&longer), 19, "{more} more");
+    }
+    assert_eq!(number(&calls[..31]), 19);
     calls[31] = calls[0];
-    assert_eq!(passes(&calls), Answer::refused(19, 0));
+    assert_eq!(number(&calls), 19);
 }
 
 /// The checker wants no call for what is on and needed.

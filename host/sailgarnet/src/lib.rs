@@ -13,8 +13,8 @@
 //! says which, and its [`Verdict`] has a sentence for each number.
 //!
 //! At power-on a state has the entries that the board kept and the resources that
-//! are on by then. `bring_up` gives the calls that make it consistent, after which
-//! every request can be planned.
+//! are on by then. `bring_up` gives the calls that make it consistent, as a request
+//! needs it.
 //!
 //! An editor of tables has them described, works on each [`Resource`] and
 //! [`Device`] and writes the table again.
