@@ -340,14 +340,7 @@ fn equal_orders_may_come_in_any_sequence() {
         ([ON1, ON0, ON2], 19),
     ] {
         let answer = check_bring_up(&bench(), &reported, calls.as_flattened());
-        assert_eq!(
-            answer,
-            Answer {
-                number,
-                place: 0,
-                count: 0
-            }
-        );
+        assert_eq!(answer.number, number, "{calls:?}");
     }
     let reported = state(&[at(4); 3], 0b111);
     for (calls, number) in [
