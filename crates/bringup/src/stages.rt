@@ -7,7 +7,7 @@ ghost use Rattle.rules.specs.Table.{tableVerdict};
 ghost use Rattle.rules.specs.BringUp.{bringUpStages};
 
 // The first refusal past the table, or done, of a table that is accepted.
-pub fn past_table(table: &[u8], state: &[u8], room: bool) -> Verdict
+fn past_table(table: &[u8], state: &[u8], room: bool) -> Verdict
     requires { ⌜ tableVerdict (now table) ≡ Done 0 ⌝ }
     ensures { λ r. ⌜ r ≡ bringUpStages room (now (table .entry)) (now (state .entry)) ⌝ }
 {

@@ -16,7 +16,7 @@ use Rattle.rules.specs.declared.Verdict.the-variants.{Done}
 use Rattle.rules.specs.Answers.{numberOf, countOf, passes}
 use Rattle.rules.specs.Station.{versionWidth, width, station}
 use Rattle.rules.specs.Status.{Status, status}
-use Rattle.rules.specs.Calls.{ownCall, ownLast, calls, changeOf}
+use Rattle.rules.specs.Calls.{ownCall, ownLast, calls, switchingWords, changeOf}
 use Rattle.rules.specs.Outcomes.{planRoom, planned, stagesVerdict, stateAfter, planWords, planBytes}
 use Rattle.table.specs.Layout.{WellSized}
 use Rattle.status.specs.State.{loadState, storeState, withEntry}
@@ -27,7 +27,6 @@ use Rattle.request.proofs.Changes.{status-with, on-small}
 use Rattle.laws.specs.Demand2.{Demand2Words}
 use Rattle.laws.proofs.Stages.{room-passed}
 use Rattle.laws.proofs.Demand2.{demand2-words}
-use Rattle.switching.specs.Switching.{switchingWords}
 use Rattle.switching.proofs.Made.{words-are}
 use Rattle.switching.proofs.Answered.{Answered, outcome-refused, outcome-written, front-bytes}
 use Rattle.planner.specs.Plan.{changedState, Written}

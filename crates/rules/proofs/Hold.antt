@@ -26,7 +26,7 @@ use Rattle.rules.specs.Request.{numbersGood, formGood, notShallowerOrD0,
 use Rattle.rules.specs.Request.{kindVerdict, requestVerdict, newEntry, replaceEntry}
 use Rattle.rules.specs.Calls.{wakeOf, callOfBytes, callOf, listOf, only, methodFor, callsMethod, moveCall, wakeCall, ownCall}
 use Rattle.rules.specs.Calls.{ownLast, endSet, toTurnOn, toTurnOff, membersFrom, earlier, insert, sort, rising, turnOn, turnOff}
-use Rattle.rules.specs.Calls.{arrange, switchCalls, calls, statusAfter}
+use Rattle.rules.specs.Calls.{arrange, switchCalls, calls, statusAfter, switchingWords}
 use Rattle.rules.specs.Check.{onWord, offWord, andThen, takeWords, mayCome, takeSet, firstCalls, lastCalls, isEnd, conforming}
 use Rattle.rules.specs.Outcomes.{outcome, freshVerdict, fresh, requestStage, stagesVerdict, planVerdict, planOutcome, planned}
 use Rattle.rules.specs.Outcomes.{stateAfter}
@@ -40,7 +40,6 @@ use Rattle.rules.specs.Rows.{bytes, rows, benchTable, benchDevices}
 use Rattle.rules.specs.OwnStation.{ownTable, ownState, wideTable}
 use Rattle.rules.specs.OwnRows.{ownRows, callWords, otherWords}
 use Rattle.rules.specs.Holds.{same, answers, freshAnswers, startOf, stateOf, endState, leaves, wordRead, wordsRead, agree}
-use Rattle.rules.specs.Holds.{switchWords}
 use Rattle.rules.specs.Holds.{changes, carried, checks, checksAll, holdsFrom, holdsIn, holds, wrong, holdsBringUp, bringsUp}
 
 pub all-hold : (wrong holds 1 rows ≡ []) × (wrong holds 1 ownRows ≡ [])
@@ -58,7 +57,7 @@ unfolding member union minus single firstN subset readLE bytesLE put wordBytes b
     freshVerdict fresh requestStage stagesVerdict planVerdict planOutcome planned stateAfter planBytes listVerdict ofBytes checkBytes
     carryOut execution wakeOf
     callOfBytes callOf planWords checkWords recordPart same answers freshAnswers startOf stateOf endState leaves wordRead wordsRead
-    agree switchWords changes carried checks checksAll holdsFrom holdsIn wrong ownTable ownState wideTable
+    agree switchingWords changes carried checks checksAll holdsFrom holdsIn wrong ownTable ownState wideTable
 all-hold = (refl, refl)
 
 -- and so do the rows of bring-up

@@ -1,4 +1,4 @@
--- RULES.md 2.9 and 6: a call as a word, the calls of a request and their order, and the planner's list.
+-- RULES.md 2.9 and 6: a call as a word, the calls from an on-set to a target set and their order, and the planner's list for a request.
 use Prim.Native.Nat.{ℕ, zero, suc, _+_, _-_, _*_, _/_, _%_}
 use mathlib.Core.Bool.{Bool, _&&_, _||_, not, cond}
 use mathlib.Core.List.{List, [], _∷_, _++_, map, reverse}
@@ -153,6 +153,10 @@ statusAfter s st q = record { entries = entriesAfter (st .entries) q; on = endSe
 -- the calls from an on-set to a target as one value: what is turned on, what is turned off, the own call or none and whether it comes last
 abbrev pub switchingOf : OptionalCall → Bool → ℕ → ℕ → Switching
 switchingOf own last on target = record { added = toTurnOn on target; removed = toTurnOff on target; own = own; last = last }
+
+-- the words of all its calls
+unfoldable pub switchingWords : Station → Switching → List ℕ
+switchingWords s c = map wordOf (arrange (c .last) (listOf (c .own)) (rising s (c .added)) (reverse (rising s (c .removed))))
 
 -- all that a request does as one value: the new entry, the set needed afterwards, and the calls
 abbrev pub changeOf : Station → Status → Request → Change

@@ -1,5 +1,5 @@
--- The test that the checker computes: the words are taken from the front, phase by phase, and the first that cannot stand there ends it.
--- That it says what `Conforms` says (RULES.md 7), for accepted tables and states, is proved in crates/laws.
+-- The test that a checker computes: the words are taken from the front, phase by phase, and the first that cannot stand there ends it.
+-- That it says what `Conforms` says (RULES.md 7), for sets of resources that a byte can name, is proved in crates/laws.
 use Prim.Native.Nat.{ℕ, _/_, _%_}
 use mathlib.Core.Bool.{Bool, true, false, _&&_, _||_, cond}
 use mathlib.Core.List.{List, [], _∷_, map}

@@ -2,7 +2,7 @@
 -- carried out; and what a row of bring-up must.
 use Prim.Native.Nat.{ℕ, suc, _-_, _*_, _/_, _%_}
 use mathlib.Core.Bool.{Bool, true, false, _&&_, not, cond}
-use mathlib.Core.List.{List, [], _∷_, _++_, map, reverse}
+use mathlib.Core.List.{List, [], _∷_, _++_, reverse}
 use lib.ListN.{length, replicate, take, drop}
 use lib.Dec.{eqb, leb}
 use Rattle.sets.specs.Sets.{member}
@@ -14,10 +14,9 @@ use Rattle.rules.specs.declared.OptionalCall.the-variants.{Is, NoCall}
 use Rattle.rules.specs.Index.{every}
 use Rattle.rules.specs.Answers.{numberOf, placeOf, countOf}
 use Rattle.rules.specs.declared.Change.{Change}
-use Rattle.rules.specs.declared.Switching.{Switching}
 use Rattle.rules.specs.Station.{Station, countR, station}
 use Rattle.rules.specs.Status.{status, entryBytes}
-use Rattle.rules.specs.Calls.{wordOf, callOf, listOf, rising, arrange, changeOf}
+use Rattle.rules.specs.Calls.{wordOf, callOf, switchingWords, changeOf}
 use Rattle.rules.specs.Execution.{execution}
 use Rattle.rules.specs.Outcomes.{Outcome, fresh, planWords, planBytes, checkWords, checkBytes, recordPart}
 use Rattle.rules.specs.BringUp.{bringUpWords, bringUpBytes, checkBringUpWords, checkBringUpBytes}
@@ -79,16 +78,12 @@ wordsRead (w ∷ ws) = wordRead (callOf w) ++ wordsRead ws
 unfoldable pub agree : Bool → Bool → Bool
 agree a b = cond a b (not b)
 
--- the words of a switching
-unfoldable pub switchWords : Station → Switching → List ℕ
-switchWords s c = map wordOf (arrange (c .last) (listOf (c .own)) (rising s (c .added)) (reverse (rising s (c .removed))))
-
 -- what the request does, as one value, is the device's new entry, the on-set afterwards and the row's words
 unfoldable pub changes : Station → Change → ℕ → Answer → Bool
 changes s c d a =
     same (entryBytes (c .entry)) (take 4 (drop (4 * d) (a .entries)))
     && eqb (c .needed) (a .on)
-    && same (switchWords s (c .switching)) (wordsIn (a .calls))
+    && same (switchingWords s (c .switching)) (wordsIn (a .calls))
 
 -- the row's words, each a call, carried out from the on-set before: every resource ends as the row's on-set has it
 unfoldable pub carried : List ℕ → List ℕ → Answer → Bool

@@ -1,6 +1,6 @@
 -- The station of our own rows, and one with 32 resources.
 use Prim.Native.Nat.{ℕ, _+_, _*_}
-use mathlib.Core.List.{List, [], _∷_, _++_}
+use mathlib.Core.List.{List, [], _++_}
 use lib.ListN.{replicate}
 use Rattle.rules.specs.Rows.{bytes, image, freshIn, given, Lent, lend, Answer, done}
 

@@ -1,5 +1,5 @@
 -- RULES.md 2.7 and 4: the image's bytes as a status, which are good, and answers 7 and 8.
-use Prim.Native.Nat.{ℕ, zero, _+_, _*_, _^_}
+use Prim.Native.Nat.{ℕ, _+_, _*_, _^_}
 use mathlib.Core.Bool.{Bool, _&&_, _||_, not}
 use mathlib.Core.List.{List, [], _∷_, _++_}
 use lib.ListN.{length, getD}

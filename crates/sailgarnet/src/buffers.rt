@@ -1,5 +1,5 @@
-// Plans and lists as bytes, four a word, lowest first. The stages are asked one after the other, so that what is no table is refused before
-// anything else is called.
+// Plans and lists as bytes, four a word, lowest first. For requests the stages are asked one after the other, so that what is no table is
+// refused before anything else is called.
 use rules::Reason;
 use rules::Request;
 use rules::Verdict;

@@ -39,7 +39,7 @@ pub fn check_state(table: &[u8], image: &[u8]) -> Verdict
     crate::consistency::consistency(table, image, on)
 }
 
-// The same whatever is on: were all resources on, a device could be inconsistent only for another reason.
+// The same without rule 4 of RULES.md 4.3: with all resources on, nothing that a device needs is missing.
 pub fn check_kept(table: &[u8], image: &[u8]) -> Verdict
     requires { ⌜ tableVerdict (now table) ≡ Done 0 ⌝ }
     ensures { λ r. ⌜ r ≡ stateButPowerVerdict (now (table .entry)) (now (image .entry)) ⌝ }

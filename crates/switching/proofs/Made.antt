@@ -8,11 +8,11 @@ use Rattle.sets.proofs.Bits.{both}
 use Rattle.sets.proofs.Laws.{member-minus, minus-lt}
 use Rattle.rules.specs.declared.OptionalCall.{OptionalCall}
 use Rattle.rules.specs.Station.{Station, countR}
-use Rattle.rules.specs.Calls.{wordOf, listOf, toTurnOn, toTurnOff, turnOn, turnOff, arrange, switchCalls, switchingOf}
+use Rattle.rules.specs.Calls.{wordOf, listOf, toTurnOn, toTurnOff, turnOn, turnOff, arrange, switchCalls, switchingOf, switchingWords}
 use Rattle.calls.specs.Ranges.{OptionalInRange}
 use Rattle.calls.specs.Switch.{switchWord}
 use Rattle.calls.specs.Phases.{inOrder, switchWords, phaseWords}
-use Rattle.switching.specs.Switching.{switchingWords, Disjoint, GoodSwitching}
+use Rattle.switching.specs.Switching.{Disjoint, GoodSwitching}
 
 -- from its parts
 pub switching-is : (own : OptionalCall) (last : Bool) (on target u v : ℕ) → u ≡ minus target on → v ≡ minus on target

@@ -15,7 +15,7 @@ use Rattle.rules.specs.declared.Call.{Call}
 use Rattle.rules.specs.declared.OptionalCall.{OptionalCall}
 use Rattle.rules.specs.declared.OptionalCall.the-variants.{Is, NoCall}
 use Rattle.rules.specs.declared.Switching.{Switching}
-use Rattle.rules.specs.Calls.{wordOf, listOf, membersFrom, earlier, orderIn, rising, arrange}
+use Rattle.rules.specs.Calls.{wordOf, listOf, membersFrom, earlier, orderIn, rising, arrange, switchingWords}
 use Rattle.rules.specs.Outcomes.{planRoom}
 use Rattle.laws.proofs.Sort.{length-sort}
 use Rattle.table.specs.Layout.{WellSized}
@@ -24,7 +24,6 @@ use Rattle.calls.specs.Switch.{switchWord}
 use Rattle.calls.specs.Phases.{inOrder, switchWords, phaseWords}
 use Rattle.calls.proofs.Keys.{switch-long}
 use Rattle.switching.specs.Switching.{Disjoint, GoodSwitching}
-use Rattle.switching.specs.Switching.{switchingWords}
 
 -- ---- the own call's word
 

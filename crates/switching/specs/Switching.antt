@@ -1,17 +1,12 @@
--- The words of a switching, and what holds of one whose calls can be written or looked for.
+-- What holds of a switching whose calls can be written or looked for.
 use Prim.Native.Nat.{ℕ, _^_, _<_}
 use mathlib.Core.Path.{_≡_}
 use mathlib.Core.Bool.{false, _&&_}
-use mathlib.Core.List.{List, map, reverse}
+use mathlib.Core.List.{List}
 use Rattle.sets.specs.Sets.{member}
 use Rattle.rules.specs.declared.Switching.{Switching}
-use Rattle.rules.specs.Station.{Station, countR}
-use Rattle.rules.specs.Calls.{wordOf, listOf, rising, arrange}
+use Rattle.rules.specs.Station.{countR}
 use Rattle.calls.specs.Ranges.{OptionalInRange}
-
--- the words of all its calls
-unfoldable pub switchingWords : Station → Switching → List ℕ
-switchingWords s c = map wordOf (arrange (c .last) (listOf (c .own)) (rising s (c .added)) (reverse (rising s (c .removed))))
 
 -- no resource is in both sets
 unfoldable pub Disjoint : ℕ → ℕ → Type 0

@@ -9,13 +9,12 @@ ghost use Prim.Native.Nat.{_+_, _≤_};
 ghost use lib.ListN.{length};
 ghost use Rattle.words.specs.Words.{put};
 ghost use Rattle.rules.specs.Station.{width, station};
-ghost use Rattle.rules.specs.Calls.{wordOf, listOf};
+ghost use Rattle.rules.specs.Calls.{wordOf, listOf, switchingWords};
 ghost use Rattle.rules.specs.Outcomes.{planRoom};
 ghost use Rattle.table.specs.Layout.{WellSized};
 ghost use Rattle.calls.specs.Ranges.{OptionalInRange};
 ghost use Rattle.calls.specs.Phases.{phaseWords};
 ghost use Rattle.switching.specs.Switching.{GoodSwitching};
-ghost use Rattle.switching.specs.Switching.{switchingWords};
 
 // The words that a plan must have room for.
 pub fn room(table: &[u8]) -> usize
