@@ -1,4 +1,4 @@
--- Bring-up whole: the checks in turn, the words and the state of a kept state, and the answers of bring-up and of its checker.
+-- Bring-up whole: the checks in turn, the words and the state afterwards, and the answers of bring-up and of its checker.
 use mathlib.Core.Path.{_≡_, refl, sym, ap, _∙_}
 use mathlib.Core.Bool.{Bool, true, false, not}
 use mathlib.Core.List.{List}
@@ -12,10 +12,10 @@ use Rattle.sets.proofs.Laws.{minus-lt}
 use Rattle.words.specs.Words.{put, wordBytes}
 use Rattle.rules.specs.declared.Verdict.{Verdict}
 use Rattle.rules.specs.declared.Verdict.the-variants.{Done, Refused}
-use Rattle.rules.specs.declared.Reason.the-variants.{NotATable, NoRoom, NotConforming}
+use Rattle.rules.specs.declared.Reason.the-variants.{NoRoom, NotConforming}
 use Rattle.rules.specs.Answers.{numberOf, countOf, passes}
 use Rattle.rules.specs.Station.{width, countR, stationOf, station}
-use Rattle.rules.specs.Table.{headerGood, tableVerdict}
+use Rattle.rules.specs.Table.{tableVerdict}
 use Rattle.rules.specs.Power.{needed}
 use Rattle.rules.specs.Status.{entriesSize, entries, statusOf, status, imageOf}
 use Rattle.rules.specs.Calls.{toTurnOn, toTurnOff}
@@ -24,13 +24,13 @@ use Rattle.rules.specs.Outcomes.{planRoom, ofBytes}
 use Rattle.rules.specs.BringUp.{stateButPowerVerdict, bringUpStages, bringUpCalls, statusBroughtUp, bringUpList, stateBroughtUp}
 use Rattle.rules.specs.BringUp.{bringUpWords, bringUpBytes}
 use Rattle.rules.specs.BringUp.{conformingToBringUp, checkBringUpWords, checkBringUpBytes}
-use Rattle.rules.proofs.Answers.{done-passes, refused-stops, first-pass, first-stop, first-none, unless-of, unless-stop}
+use Rattle.rules.proofs.Answers.{done-passes, refused-stops, first-pass, first-stop, first-none, unless-of, unless-stop, answer-passed, answer-stopped}
 use Rattle.laws.specs.BringUp.{BringsUpWords}
 use Rattle.laws.proofs.States.{needed-small, values-of}
-use Rattle.laws.proofs.Stages.{KeptStages, kept-of, kept-pass}
+use Rattle.laws.proofs.Stages.{BringUpPassed, bring-up-of, bring-up-pass}
 use Rattle.laws.proofs.BringUp.{brings-up-words}
 use Rattle.table.specs.Layout.{WellSized}
-use Rattle.table.proofs.Verdicts.{sized-of, no-table, table-passed}
+use Rattle.table.proofs.Verdicts.{sized-of, table-passed}
 use Rattle.calls.specs.Phases.{phaseWords}
 use Rattle.status.specs.Ready.{statusWith}
 use Rattle.switching.specs.Written.{WrittenPlan}
@@ -39,80 +39,76 @@ use Rattle.switching.proofs.Made.{minus-disjoint, phases-words}
 use Rattle.switching.proofs.Run.{phase-fits}
 use Rattle.switching.proofs.Walks.{phases-are}
 use Rattle.switching.proofs.Answered.{Answered, outcome-refused, outcome-written, front-bytes, list-refused, list-19, list-done}
-use Rattle.bringup.specs.Kept.{KeptState}
+use Rattle.bringup.specs.Passed.{BringUpState}
 
 -- ---- the checks in turn; v is a stage's answer, p whether it passes
-module _ (t : List ℕ) (v : Verdict) (p : Bool) (e : v ≡ tableVerdict t) (f : p ≡ passes v) where
-  pub stop-table : (b : List ℕ) (room : Bool) → not p ≡ true → v ≡ bringUpStages room t b
-  unfolding bringUpStages
-  stop-table b room n = rw e (sym (first-stop (tableVerdict t) _ (Done 0) (sym (ap passes e) ∙ sym f ∙ not-true p n)))
-
--- h: whether the header is good
-pub stop-header : (t b : List ℕ) (room h : Bool) → h ≡ headerGood t → not h ≡ true → Refused NotATable 0 ≡ bringUpStages room t b
-stop-header t b room h e n = stop-table t (Refused NotATable 0) false (no-table t h e n) (sym (refused-stops NotATable 0)) b room refl
+pub stop-table : (t b : List ℕ) (room : Bool) (v : Verdict) (p : Bool) → v ≡ tableVerdict t → p ≡ passes v → not p ≡ true
+    → v ≡ bringUpStages room t b
+unfolding bringUpStages
+stop-table t b room v p e f n = e ∙ sym (first-stop (tableVerdict t) _ (Done 0) (answer-stopped v _ p e f n))
 
 module _ (t b : List ℕ) (done : tableVerdict t ≡ Done 0) (v : Verdict) (p : Bool) (e : v ≡ stateButPowerVerdict t b) (f : p ≡ passes v)
     (room : Bool) where
   on-table : passes (tableVerdict t) ≡ true
   on-table = ap passes done ∙ done-passes 0
 
-  pub stop-kept : not p ≡ true → v ≡ bringUpStages room t b
+  pub stop-state : not p ≡ true → v ≡ bringUpStages room t b
   unfolding bringUpStages
-  stop-kept n =
-      rw e (sym (first-pass (tableVerdict t) _ (Done 0) on-table
-      ∙ first-stop (stateButPowerVerdict t b) _ (Done 0) (sym (ap passes e) ∙ sym f ∙ not-true p n)))
+  stop-state n =
+      e ∙ sym (first-pass (tableVerdict t) _ (Done 0) on-table
+      ∙ first-stop (stateButPowerVerdict t b) _ (Done 0) (answer-stopped v _ p e f n))
 
   module _ (n : not p ≡ false) where
-    on-kept : passes (stateButPowerVerdict t b) ≡ true
-    on-kept = sym (ap passes e) ∙ sym f ∙ not-false p n
+    on-state : passes (stateButPowerVerdict t b) ≡ true
+    on-state = answer-passed v _ p e f n
 
     pub stop-room : not room ≡ true → Refused NoRoom 0 ≡ bringUpStages room t b
     unfolding bringUpStages
     stop-room m =
-        sym (first-pass (tableVerdict t) _ (Done 0) on-table ∙ first-pass (stateButPowerVerdict t b) _ (Done 0) on-kept
+        sym (first-pass (tableVerdict t) _ (Done 0) on-table ∙ first-pass (stateButPowerVerdict t b) _ (Done 0) on-state
         ∙ rw (unless-stop room NoRoom 0 (not-true room m)) (first-stop (Refused NoRoom 0) _ (Done 0) (refused-stops NoRoom 0)))
 
-    pub all-kept : not room ≡ false → Done 0 ≡ bringUpStages room t b
+    pub all-passed : not room ≡ false → Done 0 ≡ bringUpStages room t b
     unfolding bringUpStages
-    all-kept m =
-        sym (first-pass (tableVerdict t) _ (Done 0) on-table ∙ first-pass (stateButPowerVerdict t b) _ (Done 0) on-kept
+    all-passed m =
+        sym (first-pass (tableVerdict t) _ (Done 0) on-table ∙ first-pass (stateButPowerVerdict t b) _ (Done 0) on-state
         ∙ rw (unless-of room NoRoom 0 (not-false room m)) (first-pass (Done 0) _ (Done 0) (done-passes 0) ∙ first-none (Done 0)))
 
-pub ruleset in-turn = (stop-table, table-passed, stop-kept, stop-room, all-kept)
+pub ruleset in-turn = (stop-table, table-passed, stop-state, stop-room, all-passed)
 
 -- ---- what they have shown
-pub kept-by : (t b : List ℕ) (room : Bool) (v : Verdict) (p : Bool) → v ≡ bringUpStages room t b → p ≡ passes v → not p ≡ false
-    → KeptState t b
-kept-by t b room v p e f n =
-    let g = kept-of room t b (ap passes (sym e) ∙ sym f ∙ not-false p n) .0 in
+pub passed-by : (t b : List ℕ) (room : Bool) (v : Verdict) (p : Bool) → v ≡ bringUpStages room t b → p ≡ passes v → not p ≡ false
+    → BringUpState t b
+passed-by t b room v p e f n =
+    let g = bring-up-of room t b (answer-passed v _ p e f n) .0 in
     record {
       sized = sized-of t (g .table);
       long = values-of t b (g .values) .long;
-      passed = ap passes (kept-pass true t b g refl) ∙ done-passes 0;
+      passed = ap passes (bring-up-pass true t b g refl) ∙ done-passes 0;
     }
 
-module _ (t b : List ℕ) (g : KeptState t b) where
-  pub kept-stages : KeptStages t b
-  kept-stages = kept-of true t b (g .passed) .0
+module _ (t b : List ℕ) (g : BringUpState t b) where
+  pub bring-up-passed : BringUpPassed t b
+  bring-up-passed = bring-up-of true t b (g .passed) .0
 
-  pub kept-sized : WellSized t
-  kept-sized = g .sized
+  pub state-sized : WellSized t
+  state-sized = g .sized
 
-  pub kept-long : entriesSize (width t) ≤ length b
-  kept-long = omega (arith, g .long)
+  pub state-long : entriesSize (width t) ≤ length b
+  state-long = omega (arith, g .long)
 
--- ---- the switching of a kept state, from the values as the code has them: u is turned on, v off
-module _ (t b : List ℕ) (g : KeptState t b) (on target u v : ℕ) (h : on ≡ status t b .on)
+-- ---- the switching, from the values as the code has them: u is turned on, v off
+module _ (t b : List ℕ) (g : BringUpState t b) (on target u v : ℕ) (h : on ≡ status t b .on)
     (n : target ≡ needed (station t) (entries t b)) where
   pub added-small : u ≡ minus target on → u < 2 ^ countR t
   unfolding stationOf
-  added-small p = rw (p, n) (minus-lt _ _ on (needed-small t (kept-stages t b g .table) (entries t b)))
+  added-small p = rw (p, n) (minus-lt _ _ on (needed-small t (bring-up-passed t b g .table) (entries t b)))
 
   pub removed-small : v ≡ minus on target → v < 2 ^ countR t
   unfolding stationOf
-  removed-small q = rw (q, h) (minus-lt _ _ target (values-of t b (kept-stages t b g .values) .on))
+  removed-small q = rw (q, h) (minus-lt _ _ target (values-of t b (bring-up-passed t b g .values) .on))
 
-pub switches-room : (t b : List ℕ) (m on target u v : ℕ) → KeptState t b → u ≡ minus target on → v ≡ minus on target
+pub switches-room : (t b : List ℕ) (m on target u v : ℕ) → BringUpState t b → u ≡ minus target on → v ≡ minus on target
     → planRoom (width t) ≤ m → 0 + length (phaseWords (station t) u v) ≤ m
 switches-room t b m on target u v g p q h =
     let fits = phase-fits t u v (rw (p, q) (minus-disjoint target on)) in
@@ -139,15 +135,15 @@ module _ (t b : List ℕ) (on target u v : ℕ) (h : on ≡ status t b .on) (n :
         words = put′ ∙ ap (put plan 0) list-is;
       }
 
-pub ruleset upward = (kept-sized, kept-long, added-small, removed-small, test-is)
+pub ruleset switch-laws = (state-sized, state-long, added-small, removed-small, test-is)
 
 -- ---- the outcome; n: the room that a plan must have, in words; m: the words or bytes that it has
 module _ (t b : List ℕ) (n m : ℕ) (i : n ≡ planRoom (width t)) (v : Verdict) (p : Bool) (f : p ≡ passes v) where
   pub room-there : v ≡ bringUpStages (leb n m) t b → not p ≡ false → planRoom (width t) ≤ m
-  room-there e k = rw i at (leb-true n m (kept-of (leb n m) t b (sym (ap passes e) ∙ sym f ∙ not-false p k) .1))
+  room-there e k = rw i at (leb-true n m (bring-up-of (leb n m) t b (answer-passed v _ p e f k) .1))
 
   pub room-bytes : v ≡ bringUpStages (leb (4 * n) m) t b → not p ≡ false → 4 * planRoom (width t) ≤ m
-  room-bytes e k = rw i at (leb-true (4 * n) m (kept-of (leb (4 * n) m) t b (sym (ap passes e) ∙ sym f ∙ not-false p k) .1))
+  room-bytes e k = rw i at (leb-true (4 * n) m (bring-up-of (leb (4 * n) m) t b (answer-passed v _ p e f k) .1))
 
 module _ (t b plan : List ℕ) (n : ℕ) (i : n ≡ planRoom (width t)) (v : Verdict) (p : Bool) (f : p ≡ passes v) where
   -- a plan of words

@@ -9,11 +9,11 @@ ghost use Rattle.rules.specs.Outcomes.{planRoom};
 ghost use Rattle.rules.specs.BringUp.{bringUpList, stateBroughtUp, bringUpWords};
 ghost use Rattle.laws.specs.BringUp.{BringsUpWords};
 ghost use Rattle.switching.specs.Written.{WrittenPlan};
-ghost use Rattle.bringup.specs.Kept.{KeptState};
+ghost use Rattle.bringup.specs.Passed.{BringUpState};
 
-// The calls and the state of a kept state that has passed every check. No device changes its state, so none has a call of its own.
+// The calls for a state that has passed every check, and the state after them. No device changes its state, so none has a call of its own.
 pub fn write_bring_up(table: &[u8], state: &mut [u8], plan: &mut [u32]) -> usize
-    requires { ⌜ KeptState (now table) (now state) × (planRoom (width (now table)) ≤ length (now plan)) ⌝ }
+    requires { ⌜ BringUpState (now table) (now state) × (planRoom (width (now table)) ≤ length (now plan)) ⌝ }
     ensures { λ r. ⌜ WrittenPlan (bringUpList (now (table .entry)) (now (state .entry)))
         (stateBroughtUp (now (table .entry)) (now (state .entry))) (now (plan .entry)) r (now (state .exit)) (now (plan .exit)) ⌝ }
 {

@@ -6,11 +6,11 @@ ghost use Rattle.rules.specs.Station.{station};
 ghost use Rattle.rules.specs.Status.{status};
 ghost use Rattle.rules.specs.BringUp.{conformingToBringUp, checkBringUpWords};
 ghost use Rattle.laws.specs.BringUp.{BringUpChecked};
-ghost use Rattle.bringup.specs.Kept.{KeptState};
+ghost use Rattle.bringup.specs.Passed.{BringUpState};
 
-// Whether the list is that of a kept state which has passed every check.
+// Whether the list conforms to the bring-up of a state that has passed every check.
 pub fn conforming(table: &[u8], state: &[u8], list: &[u32]) -> bool
-    requires { ⌜ KeptState (now table) (now state) ⌝ }
+    requires { ⌜ BringUpState (now table) (now state) ⌝ }
     ensures { λ r. ⌜ r ≡ conformingToBringUp (station (now (table .entry))) (status (now (table .entry)) (now (state .entry)))
         (now (list .entry)) ⌝ }
 {

@@ -1,4 +1,5 @@
-// Bring-up: the switching that makes a kept state consistent where the on-set is what `_STA` reports, and whether a list conforms to it.
+// Bring-up: the switching that makes a state consistent whose entries were kept and whose on-set is what `_STA` reports, and whether a list
+// conforms to it.
 pub mod bring_up;
 pub mod check;
 pub mod stages;

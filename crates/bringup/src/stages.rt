@@ -1,25 +1,8 @@
-// The checks of table, kept state and room, one after the other.
+// The checks of table, state and room, one after the other.
 use rules::Reason;
 use rules::Verdict;
 ghost use mathlib.Core.Path.{_≡_};
-ghost use Rattle.rules.specs.declared.Verdict.the-variants.{Done};
-ghost use Rattle.rules.specs.Table.{tableVerdict};
 ghost use Rattle.rules.specs.BringUp.{bringUpStages};
-
-// The first refusal past the table, or done, of a table that is accepted.
-fn past_table(table: &[u8], state: &[u8], room: bool) -> Verdict
-    requires { ⌜ tableVerdict (now table) ≡ Done 0 ⌝ }
-    ensures { λ r. ⌜ r ≡ bringUpStages room (now (table .entry)) (now (state .entry)) ⌝ }
-{
-    let of_state = status::check_kept(table, state);
-    if !rules::passes(of_state) {
-        return of_state;
-    }
-    if !room {
-        return Verdict::Refused(Reason::NoRoom, 0);
-    }
-    Verdict::Done(0)
-}
 
 // The first refusal, or done.
 pub fn verdict(table: &[u8], state: &[u8], room: bool) -> Verdict
@@ -29,5 +12,12 @@ pub fn verdict(table: &[u8], state: &[u8], room: bool) -> Verdict
     if !rules::passes(of_table) {
         return of_table;
     }
-    past_table(table, state, room)
+    let of_state = status::check_but_power(table, state);
+    if !rules::passes(of_state) {
+        return of_state;
+    }
+    if !room {
+        return Verdict::Refused(Reason::NoRoom, 0);
+    }
+    Verdict::Done(0)
 }

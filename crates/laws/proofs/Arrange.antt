@@ -107,8 +107,8 @@ module _ (s : Station) (own : List Call) (last : Bool) (on target : ℕ) (able :
       record {
         firstOther = first-all Other own (able .other) last;
         lastOther = last-all Other own (able .other) last;
-        onsSmall = once-small (s .resources) _ (c .ons) (minus-lt _ target on (able .end)) (able .few) (c .onsOnce);
-        offsSmall = once-small (s .resources) _ (c .offs) (minus-lt _ on target (able .start)) (able .few) (c .offsOnce);
+        onsSmall = once-small (s .resources) _ (c .ons) (minus-lt _ target on (able .end)) (able .nameable) (c .onsOnce);
+        offsSmall = once-small (s .resources) _ (c .offs) (minus-lt _ on target (able .start)) (able .nameable) (c .offsOnce);
         onsAre = λ r. once-has _ (c .ons) (c .onsOnce) r ∙ member-minus target on r;
         offsAre = λ r. once-has _ (c .offs) (c .offsOnce) r ∙ member-minus on target r;
       }

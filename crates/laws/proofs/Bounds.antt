@@ -85,14 +85,14 @@ module _ (w most : ℕ) (h : 4 ≤ w) where
       (λ i u. refused _ devices i more u))
       (λ _. last-holds (Bounded w most) (Done 0) done))
 
-  module _ (s : Station) (few : s .devices ≤ limit w) (rules : StationRules s) (entries : ℕ → Entry) where
+  module _ (s : Station) (nameable : s .devices ≤ limit w) (rules : StationRules s) (entries : ℕ → Entry) where
     -- 13: a parent that bars the move is there, so it is lower than its child
     parent-bounded : (d x : ℕ) → d < s .devices → parentAllows s entries d x ≡ false
         → Bounded w most (Refused ParentDeeper (s .device d .parent))
     unfolding parentAllows parentGood
     parent-bounded d x u e =
         ⊎-elim
-        (λ (a : ltb (s .device d .parent) d ≡ true). refused _ (s .devices) (s .device d .parent) few
+        (λ (a : ltb (s .device d .parent) d ≡ true). refused _ (s .devices) (s .device d .parent) nameable
         (omega (arith, ltb-true (s .device d .parent) d a)))
         (λ a. absurd (true≢false (sym (or-left _ _ a) ∙ e)))
         (or-cases _ _ (rules .parents d u))
@@ -105,7 +105,7 @@ module _ (w most : ℕ) (h : 4 ≤ w) where
         (λ _. chain-holds (Bounded w most) _ _ _
         (unless-holds (Bounded w most) _ ParentDeeper (s .device d .parent) done (parent-bounded d x u))
         (λ _. chain-holds (Bounded w most) _ _ _ (lowest-holds (Bounded w most) _ (s .devices) (Refused ChildShallower) done
-        (λ i v. refused ChildShallower (s .devices) i few v))
+        (λ i v. refused ChildShallower (s .devices) i nameable v))
         (λ _. next _ _ _ _ (λ _. last-holds (Bounded w most) (Done 0) done)))))
 
     arm-bounded : (d x y : ℕ) → Bounded w most (armVerdict s entries d x y)
@@ -148,16 +148,16 @@ module _ (t : List ℕ) (most : ℕ) where
   -- the lowest device that a test finds
   lowest-bounded : station t .devices ≤ limit (width t) → (bad : ℕ → Bool)
       → Bounded (width t) most (lowest bad (station t .devices) (Refused Inconsistent))
-  lowest-bounded few bad =
+  lowest-bounded nameable bad =
       lowest-holds (Bounded (width t) most) bad (station t .devices) (Refused Inconsistent) (done _ _ low)
-      (λ i u. refused _ _ low Inconsistent (station t .devices) i few u)
+      (λ i u. refused _ _ low Inconsistent (station t .devices) i nameable u)
 
   -- 7 and 8
   state-bounded : (b : List ℕ) → station t .devices ≤ limit (width t) → Bounded (width t) most (stateVerdict t b)
   unfolding stateVerdict valuesVerdict consistencyVerdict
-  state-bounded b few =
+  state-bounded b nameable =
       next _ _ low _ _ _ _
-      (λ _. chain-holds (Bounded (width t) most) _ _ _ (lowest-bounded few _)
+      (λ _. chain-holds (Bounded (width t) most) _ _ _ (lowest-bounded nameable _)
       (λ _. last-holds (Bounded (width t) most) (Done 0) (done _ _ low)))
 
   module _ (b : List ℕ) (q : Request) where
@@ -167,11 +167,11 @@ module _ (t : List ℕ) (most : ℕ) where
         chain-holds (Bounded (width t) most) _ _ _ table-bounded
         (λ e.
         let a = accepted t e in
-        let few : station t .devices ≤ limit (width t) = unfold stationOf in a .devices in
-        chain-holds (Bounded (width t) most) _ _ _ (state-bounded b few)
+        let nameable : station t .devices ≤ limit (width t) = unfold stationOf in a .devices in
+        chain-holds (Bounded (width t) most) _ _ _ (state-bounded b nameable)
         (λ _. next _ _ low _ _ _ _
         (λ _. chain-holds (Bounded (width t) most) _ _ _
-        (request-bounded _ _ low (station t) few (station-rules t a) (status t b .entries) q)
+        (request-bounded _ _ low (station t) nameable (station-rules t a) (status t b .entries) q)
         (λ _. last-holds (Bounded (width t) most) (Done 0) (done _ _ low)))))
 
   -- 1 to 9 of bring-up
@@ -181,9 +181,9 @@ module _ (t : List ℕ) (most : ℕ) where
       let end = last-holds (Bounded (width t) most) (Done 0) (done _ _ low) in
       chain-holds (Bounded (width t) most) _ _ _ table-bounded
       (λ e.
-      let few : station t .devices ≤ limit (width t) = unfold stationOf in accepted t e .devices in
+      let nameable : station t .devices ≤ limit (width t) = unfold stationOf in accepted t e .devices in
       chain-holds (Bounded (width t) most) _ _ _
-      (next _ _ low _ _ _ _ (λ _. chain-holds (Bounded (width t) most) _ _ _ (lowest-bounded few _) (λ _. end)))
+      (next _ _ low _ _ _ _ (λ _. chain-holds (Bounded (width t) most) _ _ _ (lowest-bounded nameable _) (λ _. end)))
       (λ _. next _ _ low _ _ _ _ (λ _. end)))
 
   -- a plan, and a list, of any checks

@@ -10,7 +10,7 @@ use borrow.Author.Tests.{leb-true, le-leb, not-false}
 use lib.Dec.{leb}
 use lib.ListN.{length}
 use Rattle.sets.specs.Sets.{member, minus}
-use Rattle.sets.proofs.Laws.{decide, empty, minus-lt, member-minus, member-none, subset-at}
+use Rattle.sets.proofs.Laws.{decide, empty, minus-lt, member-minus, member-none}
 use Rattle.words.specs.Words.{put, wordBytes}
 use Rattle.words.proofs.Laws.{word-bytes-length}
 use Rattle.rules.specs.declared.Verdict.{Verdict}
@@ -31,11 +31,11 @@ use Rattle.laws.specs.Demand2.{ExactlyNeeded}
 use Rattle.laws.specs.Demand3.{neededBefore}
 use Rattle.laws.specs.BringUp.{BringsUp, BringsUpWords, BringsUpBytes}
 use Rattle.laws.proofs.Accepted.{accepted}
-use Rattle.laws.proofs.Needed.{all-powered, needed-by}
+use Rattle.laws.proofs.Needed.{all-powered}
 use Rattle.laws.proofs.Consistency.{Apart, apart-of, apart-is}
 use Rattle.laws.proofs.States.{station-rules, needed-small, ConsistentStatus, GoodValues, values-of, consistent-of, entries-out}
-use Rattle.laws.proofs.States.{powered-apart, image-reads, image-consistent}
-use Rattle.laws.proofs.Stages.{KeptStages, kept-of, kept-pass}
+use Rattle.laws.proofs.States.{needs-on, powered-apart, image-reads, image-consistent}
+use Rattle.laws.proofs.Stages.{BringUpPassed, bring-up-of, bring-up-pass}
 use Rattle.laws.proofs.Lists.{number-passes, plan-outcome, plan-passes, plan-state, left-plan, one-each}
 use Rattle.laws.proofs.Sort.{times-none}
 use Rattle.laws.proofs.Order.{times-rising}
@@ -60,7 +60,7 @@ module _ (s : Station) (n on target : ℕ) where
   offs-none h sub = rw (minus-none n on target h sub, rising-none s) refl
 
 -- ---- the state afterwards
-module _ (t b : List ℕ) (g : KeptStages t b) where
+module _ (t b : List ℕ) (g : BringUpPassed t b) where
   kept : GoodValues t b
   kept = values-of t b (g .values)
 
@@ -102,23 +102,15 @@ module _ (t b : List ℕ) (g : KeptStages t b) where
   up-entries d = rw up-reads (unfold statusBroughtUp in refl)
 
 -- a consistent state passes what bring-up asks
-kept-consistent : (t b : List ℕ) → passes (tableVerdict t) ≡ true → passes (stateVerdict t b) ≡ true → KeptStages t b
+consistent-passes : (t b : List ℕ) → passes (tableVerdict t) ≡ true → passes (stateVerdict t b) ≡ true → BringUpPassed t b
 unfolding stateVerdict butPowerVerdict
-kept-consistent t b e f =
+consistent-passes t b e f =
     record {
       table = e;
       values = first-both _ _ _ f .0;
       apart = ap passes (lowest-of _ (station t .devices) (Refused Inconsistent)
           (λ d h. rw (apart-is (station t) (status t b .entries) d (consistent-of t b f .1 .apart d h)) refl)) ∙ done-passes 0;
     }
-
--- a consistent state has on what it needs
-needs-on : (t b : List ℕ) → passes (stateVerdict t b) ≡ true → (r : ℕ) → member (neededBefore t b) r ≡ true
-    → member (status t b .on) r ≡ true
-unfolding needed
-needs-on t b f r e =
-    let n = needed-by (station t) (status t b .entries) (station t .devices) r e in
-    subset-at _ _ r (consistent-of t b f .1 .power (n .0) (n .1)) (n .2)
 
 -- with what it needs on, a state can be inconsistent only for another reason
 eight-is : (t b : List ℕ) → passes (tableVerdict t) ≡ true
@@ -139,7 +131,7 @@ module _ (t b : List ℕ) (e : passes (tableVerdict t) ≡ true) where
       (simp map-map)
 
 -- of a state after bring-up
-none-again : (t b : List ℕ) (g : KeptStages t b) → bringUpList t (stateBroughtUp t b) ≡ []
+none-again : (t b : List ℕ) (g : BringUpPassed t b) → bringUpList t (stateBroughtUp t b) ≡ []
 unfolding bringUpList bringUpCalls switchCalls arrange statusBroughtUp
 none-again t b g =
     let s = station t in
@@ -169,37 +161,37 @@ module _ (size : ℕ) (written : List ℕ → List ℕ) (long : (ws : List ℕ) 
     abbrev o : Outcome
     o = planOutcome written checks b plan (stateBroughtUp t b) (bringUpList t b)
 
-    accepted-of : KeptStages t b → room ≡ true → o ≡ record {
+    accepted-of : BringUpPassed t b → room ≡ true → o ≡ record {
       verdict = Done (length (bringUpList t b));
       state = stateBroughtUp t b;
       plan = put plan 0 (written (bringUpList t b));
     }
     accepted-of g r =
-        plan-outcome written checks b plan (stateBroughtUp t b) (bringUpList t b) (ap passes (kept-pass room t b g r) ∙ done-passes 0)
+        plan-outcome written checks b plan (stateBroughtUp t b) (bringUpList t b) (ap passes (bring-up-pass room t b g r) ∙ done-passes 0)
 
     module _ (e : numberOf (o .verdict) ≡ 0) where
-      stages : KeptStages t b × (room ≡ true)
-      stages = kept-of room t b (plan-passes written checks b plan (stateBroughtUp t b) (bringUpList t b) e)
+      stages : BringUpPassed t b × (room ≡ true)
+      stages = bring-up-of room t b (plan-passes written checks b plan (stateBroughtUp t b) (bringUpList t b) e)
 
       left-state : o .state ≡ stateBroughtUp t b
       left-state = plan-state written checks b plan (stateBroughtUp t b) (bringUpList t b) e
 
   -- a second time
-  again : (t b p : List ℕ) (g : KeptStages t b) → leb (size * planRoom (width t)) (length p) ≡ true
+  again : (t b p : List ℕ) (g : BringUpPassed t b) → leb (size * planRoom (width t)) (length p) ≡ true
       → bringUp t (stateBroughtUp t b) p ≡ record { verdict = Done 0; state = stateBroughtUp t b; plan = p }
   again t b p g r =
       let b′ = stateBroughtUp t b in
       let same : stateBroughtUp t b′ ≡ b′ = unfold stateBroughtUp statusBroughtUp in rw (up-reads t b g) refl in
-      let good = kept-consistent t b′ (g .table) (ap passes (up-consistent t b g) ∙ done-passes 0) in
+      let good = consistent-passes t b′ (g .table) (ap passes (up-consistent t b g) ∙ done-passes 0) in
       is t b′ p ∙ accepted-of t b′ p good r ∙ rw (none-again t b g, same, written-none) (unfold put in refl)
 
   holds : (t b plan : List ℕ) → let o = bringUp t b plan in
       BringsUp size written bringUp t b plan (numberOf (o .verdict)) (countOf (o .verdict)) (o .state) (o .plan)
   holds t b plan = rw (is t b plan) (record {
     accepts = (
-      λ e. let k = stages t b plan e in (ap numberOf (kept-pass true t b (k .0) refl), leb-true _ _ (k .1)),
+      λ e. let k = stages t b plan e in (ap numberOf (bring-up-pass true t b (k .0) refl), leb-true _ _ (k .1)),
       λ x. ap (λ (r : Outcome). numberOf (r .verdict))
-          (accepted-of t b plan (kept-of true t b (number-passes _ (x .0)) .0) (le-leb _ _ (x .1))),
+          (accepted-of t b plan (bring-up-of true t b (number-passes _ (x .0)) .0) (le-leb _ _ (x .1))),
     );
     state = λ e. rw (left-state t b plan e) (up-exactly t b (stages t b plan e .0));
     entries = λ e d. rw (left-state t b plan e) (up-entries t b (stages t b plan e .0) d);

@@ -1,6 +1,6 @@
 -- Demand 3 of byte lists: their words get the same answer, a length that is no multiple of four never passes, and the planner's own bytes
 -- pass, since each of its words fits four bytes.
-use mathlib.Core.Path.{_≡_, ap}
+use mathlib.Core.Path.{_≡_, refl, ap, _∙_}
 use mathlib.Core.Bool.{Bool, true, false}
 use mathlib.Core.List.{List, map}
 use Prim.Native.Nat.{ℕ, _*_, _/_, _^_, _≤_, _<_}
@@ -9,12 +9,11 @@ use lib.Dec.{eqb, leb}
 use lib.ListN.{length, getD, take}
 use Rattle.sets.proofs.Laws.{decide}
 use Rattle.words.specs.Words.{wordBytes, byteWords}
-use Rattle.words.proofs.Laws.{word-bytes-length}
 use Rattle.rules.specs.declared.Request.{Request}
 use Rattle.rules.specs.declared.Wake.the-variants.{Enable, Disable}
 use Rattle.rules.specs.declared.Call.{Call}
 use Rattle.rules.specs.declared.Call.the-variants.{SetState, SetWake}
-use Rattle.rules.specs.Answers.{numberOf, countOf}
+use Rattle.rules.specs.Answers.{numberOf, countOf, passes}
 use Rattle.rules.specs.Station.{Station, width, limit, stationOf, station}
 use Rattle.rules.specs.declared.Entry.{Entry}
 use Rattle.rules.specs.Status.{status}
@@ -22,15 +21,16 @@ use Rattle.rules.specs.Request.{isMove, isArm, formGood}
 use Rattle.rules.specs.Calls.{wordOf, listOf, only, methodFor, moveCall, wakeCall, ownCall, ownCalls, ownLast}
 use Rattle.rules.specs.Check.{conformingTo}
 use Rattle.rules.specs.Outcomes.{planRoom, stagesVerdict, permittedVerdict, planned, stateAfter, planBytes, checkWords, checkBytes}
+use Rattle.rules.proofs.Answers.{done-passes}
 use Rattle.rules.proofs.Width.{width-wide}
 use Rattle.laws.specs.Carried.{All}
 use Rattle.laws.specs.Demand3.{neededAfter, Demand3Bytes}
 use Rattle.laws.proofs.Accepted.{accepted}
 use Rattle.laws.proofs.States.{small, form-passed, form-device}
-use Rattle.laws.proofs.Stages.{Stages, stages-of}
-use Rattle.laws.proofs.Lists.{number-passes, plan-passes, left-plan, bytes-words, bytes-multiple, word-list}
+use Rattle.laws.proofs.Stages.{Stages, stages-of, stages-pass}
+use Rattle.laws.proofs.Lists.{number-passes, plan-passes, own-bytes, bytes-words, bytes-multiple}
 use Rattle.laws.proofs.Arrange.{Fits, all-fit, conforms-fits}
-use Rattle.laws.proofs.Demand3.{able, planner-conforms, planner-passes, demand3}
+use Rattle.laws.proofs.Demand3.{able, test-iff, planner-conforms, demand3}
 
 -- ---- a word of the planner's list fits four bytes
 only-fits : (b : Bool) (c : Call) → Fits (wordOf c) → All Fits (map wordOf (listOf (only b c)))
@@ -71,15 +71,12 @@ module _ (t b : List ℕ) (q : Request) (g : Stages t b q) where
 -- ---- demand 3
 planner-bytes : (t b : List ℕ) (q : Request) (plan : List ℕ) → numberOf (planBytes t b q plan .verdict) ≡ 0
     → numberOf (checkBytes t b q (take (4 * countOf (planBytes t b q plan .verdict)) (planBytes t b q plan .plan))) ≡ 0
-unfolding planBytes checkBytes checkWords
+unfolding planBytes checkBytes
 planner-bytes t b q plan e =
-    let words = planned t b q in
-    let v = stagesVerdict (leb (4 * planRoom (width t)) (length plan)) t b q in
-    let g = stages-of _ t b q (plan-passes wordBytes v b plan (stateAfter t b q) words e) in
-    rw (
-      left-plan wordBytes v b plan (stateAfter t b q) words e 4 word-bytes-length .front,
-      word-list (permittedVerdict t b q) (conformingTo (station t) (status t b) q) words (words-fit t b q g),
-    ) (ap numberOf (planner-passes t b q g))
+    let stages = stagesVerdict (leb (4 * planRoom (width t)) (length plan)) t b q in
+    let g = stages-of _ t b q (plan-passes wordBytes stages b plan (stateAfter t b q) (planned t b q) e) in
+    own-bytes stages (permittedVerdict t b q) (conformingTo (station t) (status t b) q) b plan (stateAfter t b q) (planned t b q)
+    (ap passes (stages-pass true t b q g refl) ∙ done-passes 0) (test-iff t b q g _ .1 (planner-conforms t b q g)) (words-fit t b q g) e
 
 pub demand3-bytes : (t b : List ℕ) (q : Request) (list : List ℕ) → Demand3Bytes t b q list
 unfolding checkBytes checkWords

@@ -66,7 +66,7 @@ index kind h r l = omega arith
 
 -- what the theorems ask of a switching: sets of the station's resources, each of which a byte can name, and own calls that switch none
 pub record Switchable (s : Station) (own : List Call) (on target : ℕ) : Type 0 where
-  pub few : s .resources ≤ 256
+  pub nameable : s .resources ≤ 256
   pub start : on < 2 ^ s .resources
   pub end : target < 2 ^ s .resources
   pub other : All Other (map wordOf own)
@@ -99,9 +99,9 @@ module _ (s : Station) (own : List Call) (last : Bool) (on target : ℕ) where
         let n = s .resources in
         let rise = chain-iff _ _ (rises-chained (orderIn s)) (c .ons) .0 (c .onsRise) in
         let fall = chain-iff _ _ (falls-chained (orderIn s)) (c .offs) .0 (c .offsFall) in
-        let up = take-of onWord (notLower s) n (able .few) (index 1 (lit< tt)) (c .ons) (minus target on) true 0 _
+        let up = take-of onWord (notLower s) n (able .nameable) (index 1 (lit< tt)) (c .ons) (minus target on) true 0 _
         (minus-lt n target on (able .end)) (c .onsOnce) rise in
-        let down = take-of offWord (notHigher s) n (able .few) (index 2 (lit< tt)) (c .offs) (minus on target) true 0 _
+        let down = take-of offWord (notHigher s) n (able .nameable) (index 2 (lit< tt)) (c .offs) (minus on target) true 0 _
         (minus-lt n on target (able .start)) (c .offsOnce) fall in
         rw (c .whole ∙ by-phase last own (c .ons) (c .offs))
         (end-of _ (then-of _ _ _ _ (take-words-of (map wordOf (firstCalls last own)) _)

@@ -8,14 +8,14 @@ use Prim.Native.Nat.{ℕ, _≤_, _<_}
 use native.Mathlib.Omega.{arith}
 use borrow.Author.Tests.{eqb-true}
 use lib.Dec.{eqb, leb}
-use lib.ListN.{length, getD}
+use lib.ListN.{length, getD, take}
 use Rattle.sets.specs.Sets.{member}
 use Rattle.sets.proofs.Laws.{decide, subset-at}
 use Rattle.rules.specs.declared.Request.{Request}
 use Rattle.rules.specs.declared.Call.{Call}
 use Rattle.rules.specs.declared.OptionalCall.the-variants.{Is}
 use Rattle.rules.specs.declared.Verdict.the-variants.{Done}
-use Rattle.rules.specs.Answers.{numberOf, passes}
+use Rattle.rules.specs.Answers.{numberOf, countOf, passes}
 use Rattle.rules.specs.Station.{Station, width, station}
 use Rattle.rules.specs.declared.Entry.{Entry}
 use Rattle.rules.specs.Power.{needs, needed}
@@ -25,15 +25,15 @@ use Rattle.rules.specs.Calls.{wordOf, listOf, ownCall, ownCalls, ownLast, endSe
 use Rattle.rules.specs.Conforms.{ConformsTo}
 use Rattle.rules.specs.Check.{conformingTo, firstCalls, lastCalls, onWord, offWord}
 use Rattle.rules.specs.Execution.{execution}
-use Rattle.rules.specs.Outcomes.{planRoom, stagesVerdict, planned, stateAfter, planWords, checkWords}
+use Rattle.rules.specs.Outcomes.{planRoom, stagesVerdict, permittedVerdict, planned, stateAfter, planWords, checkWords}
 use Rattle.rules.proofs.Answers.{done-passes}
 use Rattle.laws.specs.Carried.{All, Other, listed, Carried}
 use Rattle.laws.specs.Demand3.{Passed, neededBefore, neededAfter, ownEntry, ownNeeds, onAfter, Demand3}
 use Rattle.laws.proofs.Tests.{or-cases, or-left, or-right}
-use Rattle.laws.proofs.Needed.{needed-of, needed-by}
-use Rattle.laws.proofs.States.{few, needed-small, consistent-of, form-passed, form-device}
+use Rattle.laws.proofs.Needed.{needed-of}
+use Rattle.laws.proofs.States.{nameable, needed-small, consistent-of, needs-on, form-passed, form-device}
 use Rattle.laws.proofs.Stages.{Stages, stages-of, stages-pass}
-use Rattle.laws.proofs.Lists.{number-passes, plan-passes, front-words, list-of, list-at}
+use Rattle.laws.proofs.Lists.{number-passes, plan-passes, own-words, list-of, list-at}
 use Rattle.laws.proofs.Conform.{Switchable, conforming-iff, calls-conform}
 use Rattle.laws.proofs.Place.{other-place}
 use Rattle.laws.proofs.Arrange.{own-other, conforms-listed, conforms-carried, conforms-keeps, conforms-ends}
@@ -78,7 +78,7 @@ module _ (t b : List ℕ) (q : Request) (g : Stages t b q) where
   unfolding endSet
   able =
       record {
-        few = few t (g .table);
+        nameable = nameable t (g .table);
         start = consistent-of t b (g .state) .1 .on;
         end = needed-small t (g .table) (entriesAfter (status t b .entries) q);
         other = own-other (station t) (status t b .entries (q .device)) q;
@@ -90,16 +90,6 @@ module _ (t b : List ℕ) (q : Request) (g : Stages t b q) where
   pub planner-conforms : ConformsTo (station t) (status t b) q (planned t b q)
   unfolding planned calls
   planner-conforms = calls-conform (station t) own (ownLast q) (status t b .on) (neededAfter t b q) able
-
-  pub planner-passes : checkWords t b q (planned t b q) ≡ Done 0
-  planner-passes = passed-of t b q _ g (test-iff _ .1 planner-conforms)
-
-  -- what is needed before is on at the start
-  pub before-on : (r : ℕ) → member (neededBefore t b) r ≡ true → member (status t b .on) r ≡ true
-  unfolding needed
-  before-on r e =
-      let n = needed-by (station t) (status t b .entries) (station t .devices) r e in
-      subset-at _ _ r (consistent-of t b (g .state) .1 .power (n .0) (n .1)) (n .2)
 
   -- the own method finds the start where it comes first and the end where it comes last
   first-none-last : (last : Bool) (n : ℕ) → last ≡ true → n < length (map wordOf (firstCalls last own)) → ⊥
@@ -151,7 +141,7 @@ module _ (t b : List ℕ) (q : Request) (g : Stages t b q) where
         (other-place first (c .ons) (c .offs) final n (rw same at o)))
 
     pub list-keeps : (n r : ℕ) → member (neededBefore t b) r ≡ true → member (neededAfter t b q) r ≡ true → onAfter t b ws n r ≡ true
-    list-keeps n r x y = conforms-keeps (station t) own (ownLast q) (status t b .on) (neededAfter t b q) able ws c n r (before-on r x) y
+    list-keeps n r x y = conforms-keeps (station t) own (ownLast q) (status t b .on) (neededAfter t b q) able ws c n r (needs-on t b (g .state) r x) y
 
     pub list-ends : (r : ℕ) → execution (member (status t b .on)) ws r ≡ member (neededAfter t b q) r
     list-ends = conforms-ends (station t) own (ownLast q) (status t b .on) (neededAfter t b q) able ws c
@@ -162,6 +152,15 @@ unfolding listOf All
 other-word s e q c one = (rw one at (own-other s e q)) .0
 
 -- ---- demand 3
+planner-words : (t b : List ℕ) (q : Request) (plan : List ℕ) → numberOf (planWords t b q plan .verdict) ≡ 0
+    → Passed t b q (take (countOf (planWords t b q plan .verdict)) (planWords t b q plan .plan))
+unfolding planWords checkWords
+planner-words t b q plan e =
+    let stages = stagesVerdict (leb (planRoom (width t)) (length plan)) t b q in
+    let g = stages-of _ t b q (plan-passes (λ ws. ws) stages b plan (stateAfter t b q) (planned t b q) e) in
+    own-words stages (permittedVerdict t b q) (conformingTo (station t) (status t b) q) b plan (stateAfter t b q) (planned t b q)
+    (ap passes (stages-pass true t b q g refl) ∙ done-passes 0) (test-iff t b q g _ .1 (planner-conforms t b q g)) e
+
 pub demand3 : (t b : List ℕ) (q : Request) (ws : List ℕ) → Demand3 t b q ws
 demand3 t b q ws =
     let passed : Passed t b q ws → Stages t b q × (conformingTo (station t) (status t b) q ws ≡ true) =
@@ -178,9 +177,5 @@ demand3 t b q ws =
       own = λ e c one n h is r m.
           own-finds t b q (passed e .0) ws (conforms e) n h (rw is (other-word (station t) (status t b .entries (q .device)) q c one)) r m;
       ends = λ e. list-ends t b q (passed e .0) ws (conforms e);
-      planner = λ plan e. unfold planWords in
-          let words = planned t b q in
-          let v = stagesVerdict (leb (planRoom (width t)) (length plan)) t b q in
-          let g = stages-of _ t b q (plan-passes (λ ws. ws) v b plan (stateAfter t b q) words e) in
-          rw (front-words v b plan (stateAfter t b q) words e) (ap numberOf (planner-passes t b q g));
+      planner = planner-words t b q;
     }

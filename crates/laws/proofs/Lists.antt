@@ -112,3 +112,16 @@ module _ (checks : Verdict) where
         let l = word-bytes-length ws in
         let four : length (wordBytes ws) / 4 ≡ length ws = omega arith in
         bytes-words (wordBytes ws) (omega arith) ∙ rw (four, words-of-bytes ws h) refl
+
+-- ---- the words that a plan is made of, read from its front, pass a checker whose checks pass and whose test holds of them
+module _ (stages checks : Verdict) (test : List ℕ → Bool) (b plan after words : List ℕ) (e : passes checks ≡ true) (h : test words ≡ true) where
+  pub own-words : let o = planOutcome (λ ws. ws) stages b plan after words in
+      numberOf (o .verdict) ≡ 0 → numberOf (listVerdict checks (test (take (countOf (o .verdict)) (o .plan)))) ≡ 0
+  own-words d = rw (front-words stages b plan after words d) (ap numberOf (list-of checks (test words) e h))
+
+  -- as bytes, where each fits four
+  pub own-bytes : ((i : ℕ) → getD words i 0 < 2 ^ 32) → let o = planOutcome wordBytes stages b plan after words in
+      numberOf (o .verdict) ≡ 0 → numberOf (listVerdict checks (ofBytes test (take (4 * countOf (o .verdict)) (o .plan)))) ≡ 0
+  own-bytes fit d =
+      rw (left-plan wordBytes stages b plan after words d 4 word-bytes-length .front, word-list checks test words fit)
+      (ap numberOf (list-of checks (test words) e h))

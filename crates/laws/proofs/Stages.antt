@@ -42,15 +42,15 @@ module _ (room : Bool) (t b : List ℕ) (q : Request) where
   room-passed e = unless-at room NoRoom 0 (first-both _ _ _ (first-both _ _ _ (first-both _ _ _ e .1) .1) .0)
 
 -- the stages that bring-up asks for
-pub record KeptStages (t b : List ℕ) : Type 0 where
+pub record BringUpPassed (t b : List ℕ) : Type 0 where
   pub table : passes (tableVerdict t) ≡ true
   pub values : passes (valuesVerdict t b) ≡ true
   pub apart : passes (butPowerVerdict (station t) (status t b .entries)) ≡ true
 
 module _ (room : Bool) (t b : List ℕ) where
-  pub kept-of : passes (bringUpStages room t b) ≡ true → KeptStages t b × (room ≡ true)
+  pub bring-up-of : passes (bringUpStages room t b) ≡ true → BringUpPassed t b × (room ≡ true)
   unfolding bringUpStages stateButPowerVerdict
-  kept-of e =
+  bring-up-of e =
       let x = first-both _ _ _ e in
       let y = first-both _ _ _ (x .1) in
       let z = first-both _ _ _ (y .0) in (
@@ -58,9 +58,9 @@ module _ (room : Bool) (t b : List ℕ) where
         unless-at room NoRoom 0 (first-both _ _ _ (y .1) .0),
       )
 
-  pub kept-pass : KeptStages t b → room ≡ true → bringUpStages room t b ≡ Done 0
+  pub bring-up-pass : BringUpPassed t b → room ≡ true → bringUpStages room t b ≡ Done 0
   unfolding bringUpStages stateButPowerVerdict
-  kept-pass g e =
+  bring-up-pass g e =
       let kept = first-pass _ _ (Done 0) (g .values) ∙ first-pass _ _ (Done 0) (g .apart) ∙ first-none (Done 0) in
       first-pass _ _ _ (g .table) ∙ first-pass _ _ _ (ap passes kept ∙ done-passes 0)
       ∙ first-pass _ _ _ (rw (unless-of room NoRoom 0 e) (done-passes 0)) ∙ first-none (Done 0)

@@ -11,8 +11,8 @@ use borrow.Author.Tests.{eqb-true, eqb-false, eq-eqb, leb-true, le-leb, ltb-true
 use lib.Dec.{eqb, ltb, leb}
 use lib.ListN.{length}
 use lib.Pow.{pow-mono}
-use Rattle.sets.specs.Sets.{subset, firstN}
-use Rattle.sets.proofs.Laws.{decide, firstN-lt, member-firstN, subset-of}
+use Rattle.sets.specs.Sets.{member, subset, firstN}
+use Rattle.sets.proofs.Laws.{decide, firstN-lt, member-firstN, subset-at, subset-of}
 use Rattle.rules.specs.declared.Request.{Request}
 use Rattle.rules.specs.declared.Verdict.the-variants.{Done, Refused}
 use Rattle.rules.specs.declared.Reason.the-variants.{BadState, Inconsistent}
@@ -34,7 +34,7 @@ use Rattle.rules.proofs.Width.{width-wide}
 use Rattle.laws.proofs.Tests.{both-true, or-cases, or-right}
 use Rattle.laws.proofs.Every.{lowest-ext}
 use Rattle.laws.proofs.Accepted.{Accepted, accepted}
-use Rattle.laws.proofs.Needed.{needs-lt, needed-lt, all-powered}
+use Rattle.laws.proofs.Needed.{needed-by, needs-lt, needed-lt, all-powered}
 use Rattle.laws.proofs.Image.{image-length, status-image}
 use Rattle.laws.proofs.Consistency.{Apart, apart-of, apart-is, after-same, after-other}
 use Rattle.laws.proofs.Kept.{StationRules, apart-after}
@@ -46,9 +46,9 @@ station-rules t a =
     record { parents = λ d h. a .device d h .parent; sets = λ d h k l. ltb-true _ _ (both-true _ _ (a .device d h .sets k l) .0) }
 
 -- a byte can name each of its resources, and what its devices need are resources of it
-pub few : (t : List ℕ) → passes (tableVerdict t) ≡ true → station t .resources ≤ 256
+pub nameable : (t : List ℕ) → passes (tableVerdict t) ≡ true → station t .resources ≤ 256
 unfolding stationOf
-few t e = omega (arith, accepted t e .resources, width-wide t .high)
+nameable t e = omega (arith, accepted t e .resources, width-wide t .high)
 
 pub needed-small : (t : List ℕ) → passes (tableVerdict t) ≡ true → (entries : ℕ → Entry)
     → needed (station t) entries < 2 ^ station t .resources
@@ -95,6 +95,14 @@ consistent-of t b e =
         power = λ d h. k d h .1;
       },
     )
+
+-- it has on what its entries need
+pub needs-on : (t b : List ℕ) → passes (stateVerdict t b) ≡ true → (r : ℕ) → member (needed (station t) (status t b .entries)) r ≡ true
+    → member (status t b .on) r ≡ true
+unfolding needed
+needs-on t b f r e =
+    let n = needed-by (station t) (status t b .entries) (station t .devices) r e in
+    subset-at _ _ r (consistent-of t b f .1 .power (n .0) (n .1)) (n .2)
 
 all-consistent : (n : ℕ) (s : Station) (st : Status) → ConsistentStatus n s st → consistencyVerdict s st ≡ Done 0
 unfolding consistencyVerdict consistent powered

@@ -35,7 +35,7 @@ pub record BringsUp (size : ℕ) (written : List ℕ → List ℕ) (bringUp : Li
   pub state : number ≡ 0 → ExactlyNeeded t b′
   pub entries : number ≡ 0 → (d : ℕ) → status t b′ .entries d ≡ status t b .entries d
   pub calls : number ≡ 0 → LeftPlan size written (bringUpList t b) plan count plan′
-  -- 8 is for what would be inconsistent even with exactly the needed set on
+  -- of the definitions, whatever is answered: 8 is for what would be inconsistent even with exactly the needed set on
   pub eight : numberOf (tableVerdict t) ≡ 0
       → butPowerVerdict (station t) (status t b .entries) ≡ consistencyVerdict (station t) (statusBroughtUp (station t) (status t b))
   -- a state that was consistent gets no ONs

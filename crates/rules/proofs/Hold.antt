@@ -40,7 +40,7 @@ use Rattle.rules.specs.Rows.{bytes, rows, benchTable, benchDevices}
 use Rattle.rules.specs.OwnStation.{ownTable, ownState, wideTable}
 use Rattle.rules.specs.OwnRows.{ownRows, callWords, otherWords}
 use Rattle.rules.specs.Holds.{same, answers, freshAnswers, startOf, stateOf, endState, leaves, wordRead, wordsRead, agree}
-use Rattle.rules.specs.Holds.{changes, carried, checks, checksAll, holdsFrom, holdsIn, holds, wrong, holdsBringUp, bringsUp}
+use Rattle.rules.specs.Holds.{changes, carried, checks, checksAll, holdsFrom, holdsIn, holds, wrong, holdsBringUpIn, holdsBringUp}
 
 pub all-hold : (wrong holds 1 rows ≡ []) × (wrong holds 1 ownRows ≡ [])
 unfolding member union minus single firstN subset readLE bytesLE put wordBytes byteWords leastFrom every below eachFrom passes firstOf
@@ -61,7 +61,7 @@ unfolding member union minus single firstN subset readLE bytesLE put wordBytes b
 all-hold = (refl, refl)
 
 -- and so do the rows of bring-up
-pub bring-up-holds : (wrong bringsUp 1 doneRows ≡ []) × (wrong bringsUp 1 refusedRows ≡ [])
+pub bring-up-holds : (wrong holdsBringUp 1 doneRows ≡ []) × (wrong holdsBringUp 1 refusedRows ≡ [])
 unfolding member union minus single readLE bytesLE put wordBytes byteWords leastFrom every below eachFrom passes firstOf
     unless lowest versionGood versionWidth width deviceStart resourceAt deviceAt stationOf headerGood countsGood lengthGood firstBad
     resourceGood parentGood present setGood sxdGood sxwGood deepestGood headFields setFields sxdFields sxwFields deepestFields valueFields
@@ -73,7 +73,7 @@ unfolding member union minus single readLE bytesLE put wordBytes byteWords least
     lastCalls isEnd conforming outcome planVerdict planOutcome listVerdict ofBytes carryOut execution wakeOf callOfBytes callOf
     butPowerVerdict stateButPowerVerdict bringUpStages bringUpCalls statusBroughtUp bringUpList stateBroughtUp bringUpWords bringUpBytes
     checkBringUpWords
-    checkBringUpBytes same answers endState leaves wordRead wordsRead agree carried checks checksAll holdsBringUp wrong ownTable wideTable
+    checkBringUpBytes same answers endState leaves wordRead wordsRead agree carried checks checksAll holdsBringUpIn wrong ownTable wideTable
 bring-up-holds = (refl, refl)
 
 -- a word is read as the call with this word, or as none; words that are none leave any set

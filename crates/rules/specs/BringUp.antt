@@ -36,7 +36,7 @@ bringUpStages room t b = firstOf (tableVerdict t ∷ stateButPowerVerdict t b �
 unfoldable pub bringUpCalls : Station → Status → List Call
 bringUpCalls s st = switchCalls s [] false (st .on) (needed s (st .entries))
 
--- the entries kept, and exactly the needed set on
+-- the entries as they are, and the needed set on
 unfoldable pub statusBroughtUp : Station → Status → Status
 statusBroughtUp s st = record { entries = st .entries; on = needed s (st .entries) }
 

@@ -95,7 +95,7 @@ ownCalls s st q = listOf (ownCall s (st .entries (q .device)) q)
 unfoldable pub endSet : Station → (ℕ → Entry) → Request → ℕ
 endSet s entries q = needed s (entriesAfter entries q)
 
--- RULES.md 6.1: from an on-set to a target, what is to be turned on and what off
+-- RULES.md 6.1: from an on-set to a target set, what is to be turned on and what off
 unfoldable pub toTurnOn : ℕ → ℕ → ℕ
 toTurnOn on target = minus target on
 
@@ -138,7 +138,7 @@ unfoldable pub arrange : Bool → List Call → List ℕ → List ℕ → List C
 arrange last own ons offs =
     cond last (map ResourceOn ons ++ map ResourceOff offs ++ own) (own ++ map ResourceOn ons ++ map ResourceOff offs)
 
--- the calls from an on-set to a target, with own calls first or last
+-- the calls from an on-set to a target set, with own calls first or last
 unfoldable pub switchCalls : Station → List Call → Bool → ℕ → ℕ → List Call
 switchCalls s own last on target = arrange last own (turnOn s on target) (turnOff s on target)
 
@@ -150,7 +150,7 @@ calls s st q = switchCalls s (ownCalls s st q) (ownLast q) (st .on) (endSet s (s
 unfoldable pub statusAfter : Station → Status → Request → Status
 statusAfter s st q = record { entries = entriesAfter (st .entries) q; on = endSet s (st .entries) q }
 
--- the calls from an on-set to a target as one value: what is turned on, what is turned off, the own call or none and whether it comes last
+-- the calls from an on-set to a target set as one value: what is turned on, what is turned off, the own call or none and whether it comes last
 abbrev pub switchingOf : OptionalCall → Bool → ℕ → ℕ → Switching
 switchingOf own last on target = record { added = toTurnOn on target; removed = toTurnOff on target; own = own; last = last }
 

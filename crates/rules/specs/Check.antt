@@ -73,7 +73,7 @@ isEnd (left []) = true
 isEnd (left (w ∷ ws)) = false
 isEnd refused = false
 
--- the own calls first or last, the ONs and then the OFFs that turn an on-set into a target, and nothing else
+-- the own calls first or last, the ONs and then the OFFs from an on-set to a target set, and nothing else
 unfoldable pub conforming : Station → List Call → Bool → ℕ → ℕ → List ℕ → Bool
 conforming s own last on target ws =
     isEnd

@@ -31,7 +31,7 @@ Falls order [] = Unit {0}
 Falls order (x ∷ []) = Unit {0}
 Falls order (x ∷ y ∷ l) = (order y ≤ order x) × Falls order (y ∷ l)
 
--- the own calls and exactly the calls from an on-set to a target, each once, in their order, equal orders in any sequence
+-- the own calls and exactly the calls from an on-set to a target set, each once, in their order, equal orders in any sequence
 pub record Conforms (s : Station) (own : List Call) (last : Bool) (on target : ℕ) (words : List ℕ) : Type 0 where
   pub ons : List ℕ
   pub offs : List ℕ

@@ -1,9 +1,9 @@
 -- What a row of requests must meet: the planner, the checker, a fresh state and a device's record, on bytes and on words, and the list
--- carried out; and what a row of bring-up must.
-use Prim.Native.Nat.{ℕ, suc, _-_, _*_, _/_, _%_}
+-- carried out; and what a row of bring-up must meet.
+use Prim.Native.Nat.{ℕ, suc, _*_, _/_, _%_}
 use mathlib.Core.Bool.{Bool, true, false, _&&_, not, cond}
-use mathlib.Core.List.{List, [], _∷_, _++_, reverse}
-use lib.ListN.{length, replicate, take, drop}
+use mathlib.Core.List.{List, [], _∷_, _++_}
+use lib.ListN.{length, take, drop}
 use lib.Dec.{eqb, leb}
 use Rattle.sets.specs.Sets.{member}
 use Rattle.words.specs.Words.{byteWords}
@@ -20,7 +20,7 @@ use Rattle.rules.specs.Calls.{wordOf, callOf, switchingWords, changeOf}
 use Rattle.rules.specs.Execution.{execution}
 use Rattle.rules.specs.Outcomes.{Outcome, fresh, planWords, planBytes, checkWords, checkBytes, recordPart}
 use Rattle.rules.specs.BringUp.{bringUpWords, bringUpBytes, checkBringUpWords, checkBringUpBytes}
-use Rattle.rules.specs.Rows.{bytes, blank, Start, freshIn, given, Answer, Listed, Row}
+use Rattle.rules.specs.Rows.{imageFrom, blank, Start, freshIn, given, Answer, Listed, Row}
 use Rattle.rules.specs.BringUpRows.{BringUpRow}
 
 -- two lists are equal
@@ -56,7 +56,7 @@ stateOf t b (q ∷ qs) = let o = planBytes t b q (blank 132) in stateOf t (cond 
 
 -- the state afterwards: zeros between the entries and the on-set; as it was lent if the request is refused
 unfoldable pub endState : List ℕ → Answer → List ℕ
-endState b a = cond (eqb (a .number) 0) (a .entries ++ replicate (128 - length (a .entries)) 0 ++ reverse (bytes 4 (a .on))) b
+endState b a = cond (eqb (a .number) 0) (imageFrom (a .entries) (a .on)) b
 
 -- an outcome is what the row says: number, place, count, every byte of the state and, of the lent plan, the calls at its front and the rest
 -- as it was
@@ -121,16 +121,16 @@ holds r = holdsIn (r .lent .table) r
 
 -- bring-up from a row's state and with its room: of bytes and of words, its checker of the row's calls and of the other lists; where it is
 -- done, the list carried out
-unfoldable pub holdsBringUp : List ℕ → List ℕ → ℕ → Answer → List Listed → Bool
-holdsBringUp t b n a ls =
+unfoldable pub holdsBringUpIn : List ℕ → List ℕ → ℕ → Answer → List Listed → Bool
+holdsBringUpIn t b n a ls =
     leaves (bringUpBytes t b (blank n)) a (a .calls) (endState b a) (blank n)
     && leaves (bringUpWords t b (blank (n / 4))) a (wordsIn (a .calls)) (endState b a) (blank (n / 4))
     && checks (checkBringUpBytes t b) (checkBringUpWords t b) (a .calls) (a .checked) (a .place)
     && checksAll (checkBringUpBytes t b) (checkBringUpWords t b) ls
     && cond (eqb (a .number) 0) (carried t b a) true
 
-abbrev pub bringsUp : BringUpRow → Bool
-bringsUp r = holdsBringUp (r .table) (r .state) (r .room) (r .answer) (r .lists)
+abbrev pub holdsBringUp : BringUpRow → Bool
+holdsBringUp r = holdsBringUpIn (r .table) (r .state) (r .room) (r .answer) (r .lists)
 
 -- the places, counted from i, of the rows that fail a test
 unfoldable pub wrong : {A : Type 0} → (A → Bool) → ℕ → List A → List ℕ

@@ -43,7 +43,7 @@ pub struct Entry {
     pub wake: u8,
 }
 
-// The calls that turn an on-set into a target: what is added to the on-set and what is removed from it, a device's own call or none, and
+// The calls from an on-set to a target set: what is added to the on-set and what is removed from it, a device's own call or none, and
 // whether that comes last.
 pub struct Switching {
     pub added: u32,

@@ -25,7 +25,7 @@ use Rattle.laws.specs.Demand2.{Demand2Bytes}
 use Rattle.laws.proofs.Demand2.{demand2-bytes}
 use Rattle.laws.specs.BringUp.{BringsUpBytes}
 use Rattle.laws.proofs.BringUp.{brings-up-bytes}
-use Rattle.laws.proofs.Stages.{stages-of, kept-of}
+use Rattle.laws.proofs.Stages.{stages-of, bring-up-of}
 use Rattle.laws.proofs.Bounds.{Bounded, fresh-bounded, stages-bounded, bring-up-bounded, plan-bounded, list-bounded, mostWritten}
 use Rattle.laws.proofs.Bounds.{mostDescribed, write-bounded, describe-bounded}
 use Rattle.laws.proofs.Inverse.{write-inverse, describe-inverse, write-answers}
@@ -108,15 +108,15 @@ module _ (t : List ℕ) where
   unfolding checkBytes
   check-fits b q list = small (width t) 0 _ (width-wide t) (omega arith) (list-bounded t 0 _ (stages-bounded t 0 b q true) _)
 
-  pub bring-up-small : (b plan : List ℕ) → Small (bringUpBytes t b plan .verdict)
+  pub bring-up-fits : (b plan : List ℕ) → Small (bringUpBytes t b plan .verdict)
   unfolding bringUpBytes planOutcome outcome
-  bring-up-small b plan =
+  bring-up-fits b plan =
       let room = leb (4 * planRoom (width t)) (length plan) in
-      plan-small _ (bringUpList t b) (bring-up-bounded t (planRoom (width t)) b room) (λ e. up-short t b (kept-of room t b e .0))
+      plan-small _ (bringUpList t b) (bring-up-bounded t (planRoom (width t)) b room) (λ e. up-short t b (bring-up-of room t b e .0))
 
-  pub check-bring-up-small : (b list : List ℕ) → Small (checkBringUpBytes t b list)
+  pub check-bring-up-fits : (b list : List ℕ) → Small (checkBringUpBytes t b list)
   unfolding checkBringUpBytes
-  check-bring-up-small b list = small (width t) 0 _ (width-wide t) (omega arith) (list-bounded t 0 _ (bring-up-bounded t 0 b true) _)
+  check-bring-up-fits b list = small (width t) 0 _ (width-wide t) (omega arith) (list-bounded t 0 _ (bring-up-bounded t 0 b true) _)
 
   pub describe-fits : (rs ds : List ℕ) → Small (describe t rs ds .verdict)
   unfolding describe

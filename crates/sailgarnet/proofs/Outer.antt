@@ -23,16 +23,16 @@ use Rattle.rules.specs.BringUp.{bringUpList, conformingToBringUp}
 use Rattle.laws.specs.Demand3.{neededBefore, neededAfter}
 use Rattle.laws.proofs.Tests.{both-true}
 use Rattle.laws.proofs.Accepted.{accepted}
-use Rattle.laws.proofs.Stages.{Stages, stages-of, KeptStages, kept-of}
+use Rattle.laws.proofs.Stages.{Stages, stages-of, BringUpPassed, bring-up-of}
 use Rattle.laws.proofs.Conform.{conforming-at}
 use Rattle.laws.proofs.Demand3.{able, planner-conforms}
 use Rattle.laws.proofs.BringUpLists.{up-able, own-conforms}
 use Rattle.switching.specs.Written.{WrittenPlan}
 use Rattle.switching.proofs.Run.{own-long}
 use Rattle.request.specs.Permitted.{PermittedRequest}
-use Rattle.bringup.specs.Kept.{KeptState}
-use Rattle.sailgarnet.specs.declared.buffers.Count.{Count}
-use Rattle.sailgarnet.specs.declared.buffers.Count.the-variants.{Words, NotAList}
+use Rattle.bringup.specs.Passed.{BringUpState}
+use Rattle.sailgarnet.specs.declared.buffers.ListWords.{ListWords}
+use Rattle.sailgarnet.specs.declared.buffers.ListWords.the-variants.{Words, NotAList}
 use Rattle.sailgarnet.specs.Lists.{wordsInBytes}
 use Rattle.sailgarnet.proofs.Long.{conforms-long}
 
@@ -64,7 +64,7 @@ module _ (t b : List ℕ) (q : Request) (g : Stages t b q) where
       (planned t b q) (planner-conforms t b q g) in
       omega (arith, few t (g .table), own-one)
 
-module _ (t b : List ℕ) (g : KeptStages t b) where
+module _ (t b : List ℕ) (g : BringUpPassed t b) where
   pub up-list-short : (ws : List ℕ) → conformingToBringUp (station t) (status t b) ws ≡ true → length ws ≤ planRoom (width t)
   up-list-short ws e =
       let l = conforms-long (station t) [] false (status t b .on) (neededBefore t b) (up-able t b g) ws
@@ -80,7 +80,7 @@ module _ (t b : List ℕ) (g : KeptStages t b) where
 -- ---- lists
 
 -- what the count of a list says of its length
-isList : Count → Bool
+isList : ListWords → Bool
 isList (Words k) = true
 isList NotAList = false
 
@@ -123,11 +123,11 @@ Short test = (ws : List ℕ) → test ws ≡ true → length ws ≤ 33
 pub request-short : (t b : List ℕ) (q : Request) → PermittedRequest t b q → Short (conformingTo (station t) (status t b) q)
 request-short t b q g ws e = omega (arith, room-33 t, list-short t b q (stages-of true t b q (g .passed)) ws e)
 
-pub bring-up-short : (t b : List ℕ) → KeptState t b → Short (conformingToBringUp (station t) (status t b))
-bring-up-short t b g ws e = omega (arith, room-33 t, up-list-short t b (kept-of true t b (g .passed) .0) ws e)
+pub bring-up-short : (t b : List ℕ) → BringUpState t b → Short (conformingToBringUp (station t) (status t b))
+bring-up-short t b g ws e = omega (arith, room-33 t, up-list-short t b (bring-up-of true t b (g .passed) .0) ws e)
 
 -- c is the count of a list
-module _ (test : List ℕ → Bool) (list : List ℕ) (c : Count) (is : c ≡ wordsInBytes (length list)) where
+module _ (test : List ℕ → Bool) (list : List ℕ) (c : ListWords) (is : c ≡ wordsInBytes (length list)) where
   pub no-list : Short test → c ≡ NotAList → false ≡ ofBytes test list
   unfolding ofBytes
   no-list short e =
@@ -148,11 +148,11 @@ module _ (test : List ℕ → Bool) (list : List ℕ) (c : Count) (is : c ≡ wo
       let words : take n ws ≡ byteWords n list = ap (take n) w ∙ take-put d (byteWords n list) n (byte-words-length n list) in
       rw (eq-eqb (length list % 4) 0 (k .0), ← k .1) (f ∙ ap test words)
 
-pub list-inside : (list : List ℕ) (c : Count) (n : ℕ) → c ≡ wordsInBytes (length list) → c ≡ Words n → 4 * n ≤ length list
+pub list-inside : (list : List ℕ) (c : ListWords) (n : ℕ) → c ≡ wordsInBytes (length list) → c ≡ Words n → 4 * n ≤ length list
 list-inside list c n is e = let k = count-some (length list) n (sym is ∙ e) in omega (arith, k .1)
 
 -- it fits a buffer of 33 words
-pub list-33 : (k : ℕ) (c : Count) (n m : ℕ) → c ≡ wordsInBytes k → c ≡ Words n → m ≡ 33 → n ≤ m
+pub list-33 : (k : ℕ) (c : ListWords) (n m : ℕ) → c ≡ wordsInBytes k → c ≡ Words n → m ≡ 33 → n ≤ m
 list-33 k c n m is e f = omega (arith, count-some k n (sym is ∙ e) .2)
 
 -- the words that were read are as many as were asked for
@@ -177,8 +177,8 @@ module _ (t list after : List ℕ) (short : length list ≤ planRoom (width t)) 
   pub bytes-132 : (m : ℕ) → 4 * planRoom (width t) ≤ m → 4 * n ≤ m
   bytes-132 m h = omega (arith, w .count)
 
-pub request-fits : (t b : List ℕ) (q : Request) → PermittedRequest t b q → length (planned t b q) ≤ planRoom (width t)
-request-fits t b q g = planned-short t b q (stages-of true t b q (g .passed))
+pub request-room : (t b : List ℕ) (q : Request) → PermittedRequest t b q → length (planned t b q) ≤ planRoom (width t)
+request-room t b q g = planned-short t b q (stages-of true t b q (g .passed))
 
-pub bring-up-fits : (t b : List ℕ) → KeptState t b → length (bringUpList t b) ≤ planRoom (width t)
-bring-up-fits t b g = up-short t b (kept-of true t b (g .passed) .0)
+pub bring-up-room : (t b : List ℕ) → BringUpState t b → length (bringUpList t b) ≤ planRoom (width t)
+bring-up-room t b g = up-short t b (bring-up-of true t b (g .passed) .0)

@@ -1,5 +1,5 @@
 // Plans and lists as bytes, four a word, lowest first. For requests the stages are asked one after the other, so that what is no table is
-// refused before anything else is called.
+// refused before anything else is called; bring-up, called once at power-on, asks them together.
 use rules::Reason;
 use rules::Request;
 use rules::Verdict;
@@ -12,7 +12,7 @@ ghost use Rattle.rules.specs.Outcomes.{ofBytes, planBytes, checkBytes};
 ghost use Rattle.rules.specs.BringUp.{bringUpBytes, conformingToBringUp, checkBringUpBytes};
 ghost use Rattle.laws.specs.Demand3.{Demand3Bytes};
 ghost use Rattle.laws.specs.BringUp.{BringUpCheckedBytes};
-ghost use Rattle.bringup.specs.Kept.{KeptState};
+ghost use Rattle.bringup.specs.Passed.{BringUpState};
 ghost use Rattle.sailgarnet.specs.Lists.{wordsInBytes};
 
 // Plans one request on a plan of bytes.
@@ -39,23 +39,23 @@ pub fn plan_bytes(table: &[u8], state: &mut [u8], q: Request, plan: &mut [u8]) -
     Verdict::Done(n)
 }
 
-// The words of a list of bytes, or that it can be no list that conforms.
-pub enum Count {
+// How many words a list of bytes has, or that it cannot conform.
+pub enum ListWords {
     Words(usize),
     NotAList,
 }
 
 // The words of so many bytes: a list that conforms has whole words, and no more than a plan.
-fn words_in(bytes: usize) -> Count
+fn words_in(bytes: usize) -> ListWords
     ensures { λ r. ⌜ r ≡ wordsInBytes bytes ⌝ }
 {
     if bytes % 4 != 0 {
-        return Count::NotAList;
+        return ListWords::NotAList;
     }
     if bytes / 4 > 33 {
-        return Count::NotAList;
+        return ListWords::NotAList;
     }
-    Count::Words(bytes / 4)
+    ListWords::Words(bytes / 4)
 }
 
 // Whether a list of bytes is that of a request which has passed every check.
@@ -64,7 +64,7 @@ fn conforming(table: &[u8], state: &[u8], q: Request, list: &[u8]) -> bool
     ensures { λ r. ⌜ r ≡ ofBytes (conformingTo (station (now (table .entry))) (status (now (table .entry)) (now (state .entry))) q)
         (now (list .entry)) ⌝ }
 {
-    let Count::Words(n) = words_in(list.len()) else {
+    let ListWords::Words(n) = words_in(list.len()) else {
         return false;
     };
     let mut calls = [0u32; 33];
@@ -111,13 +111,13 @@ pub fn bring_up_bytes(table: &[u8], state: &mut [u8], plan: &mut [u8]) -> Verdic
     Verdict::Done(n)
 }
 
-// Whether a list of bytes is that of a kept state which has passed every check.
+// Whether a list of bytes conforms to the bring-up of a state that has passed every check.
 fn conforming_to_bring_up(table: &[u8], state: &[u8], list: &[u8]) -> bool
-    requires { ⌜ KeptState (now table) (now state) ⌝ }
+    requires { ⌜ BringUpState (now table) (now state) ⌝ }
     ensures { λ r. ⌜ r ≡ ofBytes (conformingToBringUp (station (now (table .entry))) (status (now (table .entry)) (now (state .entry))))
         (now (list .entry)) ⌝ }
 {
-    let Count::Words(n) = words_in(list.len()) else {
+    let ListWords::Words(n) = words_in(list.len()) else {
         return false;
     };
     let mut calls = [0u32; 33];

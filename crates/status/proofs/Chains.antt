@@ -31,23 +31,23 @@ use Rattle.status.proofs.Held.{fresh-image}
 
 -- ---- the image; n is the size that it has, good and fits are what the tests of the entries and of the on-set returned
 module _ (t b : List ℕ) (n : ℕ) (z : n ≡ imageSize (width t)) where
-  pub image-length : (length b ≡ n → ⊥) → false ≡ imageGood t b
+  pub length-bad : (length b ≡ n → ⊥) → false ≡ imageGood t b
   unfolding imageGood
-  image-length m = rw (ne-eqb (length b) (imageSize (width t)) (rw z at m)) refl
+  length-bad m = rw (ne-eqb (length b) (imageSize (width t)) (rw z at m)) refl
 
   module _ (good : Bool) (l : length b ≡ n) (q : good ≡ entriesGood (limit (width t)) (station t) (entries t b)) where
     long : eqb (length b) (imageSize (width t)) ≡ true
     long = eq-eqb (length b) (imageSize (width t)) (l ∙ z)
 
-    pub image-entries : not good ≡ true → false ≡ imageGood t b
+    pub entries-bad : not good ≡ true → false ≡ imageGood t b
     unfolding imageGood valuesGood statusOf
-    image-entries m = rw (long, ← q, not-true good m) refl
+    entries-bad m = rw (long, ← q, not-true good m) refl
 
-    pub image-on : not good ≡ false → (on : ℕ) (fits : Bool) → on ≡ status t b .on → fits ≡ onGood (station t) on → fits ≡ imageGood t b
+    pub on-last : not good ≡ false → (on : ℕ) (fits : Bool) → on ≡ status t b .on → fits ≡ onGood (station t) on → fits ≡ imageGood t b
     unfolding imageGood valuesGood statusOf
-    image-on m on fits r o = rw (long, ← q, not-false good m, ← r, ← o) refl
+    on-last m on fits r o = rw (long, ← q, not-false good m, ← r, ← o) refl
 
-pub ruleset image-laws = (sized-done, image-length, image-entries, image-on)
+pub ruleset image-laws = (sized-done, length-bad, entries-bad, on-last)
 
 -- ---- a check of numbered things ends a chain as it is
 lowest-last : (bad : ℕ → Bool) (n : ℕ) (refusal : ℕ → Verdict) → ((i : ℕ) → passes (refusal i) ≡ false)
@@ -63,9 +63,9 @@ module _ (t b : List ℕ) (g : Bool) (i : g ≡ imageGood t b) where
   unfolding stateVerdict valuesVerdict unless firstOf passes
   state-values n = rw (← i, not-true g n) refl
 
-  pub kept-values : not g ≡ true → Refused BadState 0 ≡ stateButPowerVerdict t b
+  pub but-power-values : not g ≡ true → Refused BadState 0 ≡ stateButPowerVerdict t b
   unfolding stateButPowerVerdict valuesVerdict unless firstOf passes
-  kept-values n = rw (← i, not-true g n) refl
+  but-power-values n = rw (← i, not-true g n) refl
 
   module _ (n : not g ≡ false) where
     values : GoodValues t b
@@ -94,10 +94,10 @@ module _ (t b : List ℕ) (g : Bool) (i : g ≡ imageGood t b) where
         (c ∙ sym (lowest-last _ (station t .devices) (Refused Inconsistent) (refused-stops Inconsistent)))
 
     -- with all resources on
-    pub kept-is : tableVerdict t ≡ Done 0 → (r all : ℕ) (v : Verdict) → r ≡ countR t → all ≡ firstN r
+    pub but-power-is : tableVerdict t ≡ Done 0 → (r all : ℕ) (v : Verdict) → r ≡ countR t → all ≡ firstN r
         → v ≡ consistencyVerdict (station t) (statusWith t b all) → v ≡ stateButPowerVerdict t b
     unfolding stateButPowerVerdict valuesVerdict statusOf butPowerVerdict
-    kept-is e r all v k l c =
+    but-power-is e r all v k l c =
         let same : all ≡ firstN (station t .resources) = l ∙ ap firstN (unfold stationOf in k) in
         rw (← i, not-false g n, unless-of true BadState 0 refl, first-pass (Done 0) _ (Done 0) (done-passes 0))
         (c ∙ ap (λ (on : ℕ). consistencyVerdict (station t) (statusWith t b on)) same
@@ -111,7 +111,7 @@ few-resources t r e k = omega (arith, sized-done t 0 e .resources)
 
 pub ruleset state-laws = (sized-done, image-long, ready-by, state-values, state-is)
 
-pub ruleset kept-laws = (sized-done, few-resources, ready-by, kept-values, kept-is)
+pub ruleset but-power-laws = (sized-done, few-resources, ready-by, but-power-values, but-power-is)
 
 -- ---- 1 to 8; v is what the check of the table answered, p whether that passes
 state-alone : (t b : List ℕ) → firstOf (stateVerdict t b ∷ []) (Done 0) ≡ stateVerdict t b

@@ -1,4 +1,4 @@
-// The state image as a state by value and back, and a device's entry in it.
+// The state image as a state by value and back, and its on-set and a device's entry in place.
 ghost use mathlib.Core.Path.{_≡_};
 ghost use Prim.Native.Nat.{_+_, _*_, _<_, _≤_};
 ghost use lib.ListN.{length};

@@ -27,7 +27,7 @@ pub fn image_good(table: &[u8], image: &[u8]) -> bool
     crate::values::on_good(table, crate::image::on_set(table, image))
 }
 
-// Whether a state image is good for an accepted table.
+// 7 and 8 of an image, for an accepted table.
 pub fn check_state(table: &[u8], image: &[u8]) -> Verdict
     requires { ⌜ tableVerdict (now table) ≡ Done 0 ⌝ }
     ensures { λ r. ⌜ r ≡ stateVerdict (now (table .entry)) (now (image .entry)) ⌝ }
@@ -40,7 +40,7 @@ pub fn check_state(table: &[u8], image: &[u8]) -> Verdict
 }
 
 // The same without rule 4 of RULES.md 4.3: with all resources on, nothing that a device needs is missing.
-pub fn check_kept(table: &[u8], image: &[u8]) -> Verdict
+pub fn check_but_power(table: &[u8], image: &[u8]) -> Verdict
     requires { ⌜ tableVerdict (now table) ≡ Done 0 ⌝ }
     ensures { λ r. ⌜ r ≡ stateButPowerVerdict (now (table .entry)) (now (image .entry)) ⌝ }
 {

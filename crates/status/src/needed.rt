@@ -34,8 +34,8 @@ pub fn needed(table: &[u8], devices: &[u8]) -> u32
     needed_from(table, devices, 0, 0, table::fields::devices(table))
 }
 
-// The same with e for device d's entry: so no caller writes an entry to learn what it would need. The
-// devices before d and after it go by turns of their own, so that no turn asks which device it is at.
+// The same with e for device d's entry: so no caller writes an entry to learn what it would need. The devices before d and after it go by
+// turns of their own, so that no turn asks which device it is at.
 pub fn needed_with(table: &[u8], devices: &[u8], d: usize, e: Entry) -> u32
     requires { ⌜ WellSized (now table) × (entriesSize (width (now table)) ≤ length (now devices)) × (d < countD (now table)) ⌝ }
     ensures { λ r. ⌜ r ≡ needed (station (now (table .entry))) (replaceEntry (entries (now (table .entry)) (now (devices .entry))) d e) ⌝ }

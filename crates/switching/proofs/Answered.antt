@@ -14,6 +14,7 @@ use Rattle.rules.specs.declared.Reason.the-variants.{NotConforming}
 use Rattle.rules.specs.Answers.{passes}
 use Rattle.rules.specs.Outcomes.{Outcome, outcome, planVerdict, planOutcome, listVerdict}
 use Rattle.rules.proofs.Answers.{first-pass, first-stop, first-none, unless-of, unless-stop, done-passes, refused-stops}
+use Rattle.rules.proofs.Answers.{answer-passed, answer-stopped}
 use Rattle.laws.proofs.Lists.{plan-outcome}
 use Rattle.switching.specs.Written.{WrittenPlan}
 
@@ -33,25 +34,19 @@ front-bytes list after d d′ n b′ w = ap wordBytes (ap (take n) (w .words) �
 
 -- v is the answer of the checks, p whether it passes
 module _ (checks v : Verdict) (p : Bool) (e : v ≡ checks) (f : p ≡ passes v) where
-  passed : not p ≡ false → passes checks ≡ true
-  passed n = sym (ap passes e) ∙ sym f ∙ not-false p n
-
-  stopped : not p ≡ true → passes checks ≡ false
-  stopped n = sym (ap passes e) ∙ sym f ∙ not-true p n
-
   -- ---- plans
   module _ (written : List ℕ → List ℕ) (b plan after list : List ℕ) where
     pub outcome-refused : not p ≡ true → Answered v b plan (planOutcome written checks b plan after list)
     unfolding planOutcome planVerdict outcome
     outcome-refused n =
-        let same : planVerdict checks list ≡ v = first-stop checks [] _ (stopped n) ∙ sym e in
+        let same : planVerdict checks list ≡ v = first-stop checks [] _ (answer-stopped v checks p e f n) ∙ sym e in
         let no : passes (planVerdict checks list) ≡ false = ap passes same ∙ sym f ∙ not-true p n in
         record { verdict = sym same; state = rw no refl; plan = rw no refl }
 
     pub outcome-written : not p ≡ false → (n : ℕ) (b′ plan′ : List ℕ) → n ≡ length list → b′ ≡ after → plan′ ≡ put plan 0 (written list)
         → Answered (Done n) b′ plan′ (planOutcome written checks b plan after list)
     outcome-written k n b′ plan′ c s w =
-        let is = plan-outcome written checks b plan after list (passed k) in
+        let is = plan-outcome written checks b plan after list (answer-passed v checks p e f k) in
         record {
           verdict = rw c (sym (ap (λ (o : Outcome). o .verdict) is));
           state = s ∙ sym (ap (λ (o : Outcome). o .state) is);
@@ -61,19 +56,17 @@ module _ (checks v : Verdict) (p : Bool) (e : v ≡ checks) (f : p ≡ passes v)
   -- ---- lists. c is what the test said
   pub list-refused : (test : Bool) → not p ≡ true → v ≡ listVerdict checks test
   unfolding listVerdict
-  list-refused test n = e ∙ sym (first-stop _ _ _ (stopped n))
+  list-refused test n = e ∙ sym (first-stop _ _ _ (answer-stopped v checks p e f n))
 
   module _ (c test : Bool) (n : not p ≡ false) (g : c ≡ test) where
     pub list-19 : not c ≡ true → Refused NotConforming 0 ≡ listVerdict checks test
     unfolding listVerdict
     list-19 z =
-        sym (first-pass _ _ _ (passed n)
+        sym (first-pass _ _ _ (answer-passed v checks p e f n)
         ∙ rw (← g, unless-stop c NotConforming 0 (not-true c z)) (first-stop _ _ _ (refused-stops NotConforming 0)))
 
     pub list-done : not c ≡ false → Done 0 ≡ listVerdict checks test
     unfolding listVerdict
     list-done z =
-        sym (first-pass _ _ _ (passed n)
+        sym (first-pass _ _ _ (answer-passed v checks p e f n)
         ∙ rw (← g, unless-of c NotConforming 0 (not-false c z)) (first-pass _ _ _ (done-passes 0) ∙ first-none _))
-
-pub ruleset listing = (list-refused, list-19, list-done)

@@ -36,10 +36,10 @@ pub own-word : (o : OptionalCall) (c : Call) (w at : ℕ) (d : List ℕ) → at 
 unfolding listOf
 own-word o c w at d h e f = rw (e, f) (refl, sets-put d at (wordOf c ∷ []) (rw e at h))
 
-pub own-none : (o : OptionalCall) (at : ℕ) (d : List ℕ) → o ≡ NoCall → (at ≡ at + length (map wordOf (listOf o)))
+pub no-own-word : (o : OptionalCall) (at : ℕ) (d : List ℕ) → o ≡ NoCall → (at ≡ at + length (map wordOf (listOf o)))
     × (d ≡ put d at (map wordOf (listOf o)))
 unfolding listOf
-own-none o at d e = rw e (omega arith, sym (put-none d at))
+no-own-word o at d e = rw e (omega arith, sym (put-none d at))
 
 -- ---- one run after another, as two calls' `ensures` give them: the place after both, and what both have put
 

@@ -44,16 +44,16 @@ module _ (l : List ℕ) (at : ℕ) (own : OptionalCall) (here : Bool) where
   unfolding takeWords ownWords
   own-elsewhere n = rw (not-true here n) refl
 
-  pub own-none : not here ≡ false → own ≡ NoCall → left (drop at l) ≡ takeWords (ownWords here own) (drop at l)
+  pub no-own-call : not here ≡ false → own ≡ NoCall → left (drop at l) ≡ takeWords (ownWords here own) (drop at l)
   unfolding takeWords ownWords listOf
-  own-none n e = rw (not-false here n, e) refl
+  no-own-call n e = rw (not-false here n, e) refl
 
   pub own-is : (c : Call) (r : Taken) → not here ≡ false → own ≡ Is c → Leaves l r (takeWords (wordOf c ∷ []) (drop at l))
       → Leaves l r (takeWords (ownWords here own) (drop at l))
   unfolding ownWords listOf
   own-is c r n e h = rw (not-false here n, e) h
 
-pub ruleset own-call = (word-short, word-other, word-here, own-elsewhere, own-none, own-is)
+pub ruleset own-call = (word-short, word-other, word-here, own-elsewhere, no-own-call, own-is)
 
 -- ---- phase after phase
 left-is : (ws : List ℕ) (r : Taken) (v : Rest) (i : ℕ) → Leaves ws r v → r ≡ UpTo i → v ≡ left (drop i ws)

@@ -41,7 +41,7 @@ unfoldable pub takePhases : Station → ℕ → ℕ → List ℕ → Rest
 takePhases s on off ws =
     andThen (takePhase s false on true 0 ws) λ a. takePhase s true off true 0 a
 
--- the own call first or last, what is to be switched between, and nothing after
+-- the own call first or last, what is to be switched after or before it, and nothing else
 unfoldable pub walked : Station → Switching → List ℕ → Bool
 walked s c ws =
     isEnd

@@ -1,5 +1,5 @@
-// Switching: the calls that turn an on-set into a target, around a device's own call or none. They are written into a plan, and looked for
-// in a list.
+// Switching: the calls from an on-set to a target set, before or after a device's own call, or without one. They are written into a plan,
+// and looked for in a list.
 pub mod decode;
 pub mod take;
 pub mod walk;
@@ -16,7 +16,7 @@ pub enum Taken {
     Refused,
 }
 
-// What is added to the on-set and what is removed from it, by value.
+// The calls from an on-set to a target set by value; the own call and its place are taken as they are.
 pub fn switching(own: OptionalCall, last: bool, on: u32, target: u32) -> Switching
     ensures { λ r. ⌜ r ≡ switchingOf own last on target ⌝ }
 {

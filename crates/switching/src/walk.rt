@@ -1,4 +1,4 @@
-// A whole list: the own call first or last, ONs and OFFs between, and nothing after.
+// A whole list: the ONs, then the OFFs, the own call before or after them, and nothing else.
 use crate::Taken;
 use crate::take::take_phase;
 use rules::Call;
@@ -45,22 +45,22 @@ fn take_own(own: OptionalCall, here: bool, list: &[u32], at: usize) -> Taken
 }
 
 // The place after the words that turn one set on, then those that turn another off.
-fn take_phases(table: &[u8], on: u32, off: u32, list: &[u32], at: usize) -> Taken
-    requires { ⌜ WellSized (now table) × (on < 2 ^ countR (now table)) × (off < 2 ^ countR (now table)) × (at ≤ length (now list)) ⌝ }
-    ensures { λ r. ⌜ Leaves (now (list .entry)) r (takePhases (station (now (table .entry))) on off (drop at (now (list .entry)))) ⌝ }
+fn take_phases(table: &[u8], added: u32, removed: u32, list: &[u32], at: usize) -> Taken
+    requires { ⌜ WellSized (now table) × (added < 2 ^ countR (now table)) × (removed < 2 ^ countR (now table)) × (at ≤ length (now list)) ⌝ }
+    ensures { λ r. ⌜ Leaves (now (list .entry)) r (takePhases (station (now (table .entry))) added removed (drop at (now (list .entry)))) ⌝ }
 {
-    let Taken::UpTo(offs) = take_phase(table, false, on, list, at) else {
+    let Taken::UpTo(offs) = take_phase(table, false, added, list, at) else {
         return Taken::Refused;
     };
-    take_phase(table, true, off, list, offs)
+    take_phase(table, true, removed, list, offs)
 }
 
 // Whether the list turns one set on, then another off, and nothing else.
-pub fn walk_phases(table: &[u8], on: u32, off: u32, list: &[u32]) -> bool
-    requires { ⌜ WellSized (now table) × (on < 2 ^ countR (now table)) × (off < 2 ^ countR (now table)) ⌝ }
-    ensures { λ r. ⌜ r ≡ isEnd (takePhases (station (now (table .entry))) on off (now (list .entry))) ⌝ }
+pub fn walk_phases(table: &[u8], added: u32, removed: u32, list: &[u32]) -> bool
+    requires { ⌜ WellSized (now table) × (added < 2 ^ countR (now table)) × (removed < 2 ^ countR (now table)) ⌝ }
+    ensures { λ r. ⌜ r ≡ isEnd (takePhases (station (now (table .entry))) added removed (now (list .entry))) ⌝ }
 {
-    let Taken::UpTo(end) = take_phases(table, on, off, list, 0) else {
+    let Taken::UpTo(end) = take_phases(table, added, removed, list, 0) else {
         return false;
     };
     end == list.len()

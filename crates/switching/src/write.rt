@@ -39,13 +39,13 @@ fn write_own(own: OptionalCall, plan: &mut [u32], at: usize) -> usize
 }
 
 // The words that turn one set on, then those that turn another off. The answer is the place after the last.
-pub fn write_switches(table: &[u8], on: u32, off: u32, plan: &mut [u32], at: usize) -> usize
-    requires { ⌜ WellSized (now table) × (at + length (phaseWords (station (now table)) on off) ≤ length (now plan)) ⌝ }
-    ensures { λ r. ⌜ (r ≡ at + length (phaseWords (station (now (table .entry))) on off))
-        × (now (plan .exit) ≡ put (now (plan .entry)) at (phaseWords (station (now (table .entry))) on off)) ⌝ }
+pub fn write_switches(table: &[u8], added: u32, removed: u32, plan: &mut [u32], at: usize) -> usize
+    requires { ⌜ WellSized (now table) × (at + length (phaseWords (station (now table)) added removed) ≤ length (now plan)) ⌝ }
+    ensures { λ r. ⌜ (r ≡ at + length (phaseWords (station (now (table .entry))) added removed))
+        × (now (plan .exit) ≡ put (now (plan .entry)) at (phaseWords (station (now (table .entry))) added removed)) ⌝ }
 {
-    let p = emit(table, false, on, plan, at);
-    emit(table, true, off, plan, p)
+    let p = emit(table, false, added, plan, at);
+    emit(table, true, removed, plan, p)
 }
 
 // The words of all calls, from the start of the plan. The answer is their count.

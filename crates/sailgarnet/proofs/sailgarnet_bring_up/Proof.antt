@@ -1,11 +1,11 @@
 -- The packed answer of bring-up on bytes.
-use Rattle.sailgarnet.proofs.Numbers.{bring-up-small, fits, packs, bytes-brings}
+use Rattle.sailgarnet.proofs.Numbers.{bring-up-fits, fits, packs, bytes-brings}
 use borrow.Author.Needs.{needs}
 use Rattle.sailgarnet.proofs.sailgarnet_bring_up.Statement.{statement}
 use Rattle.sailgarnet.proofs.sailgarnet_bring_up.Tie as tie
 
 pack-requires : tie.Need-pack-requires
-pack-requires c κs = fits _ _ (c .before .before .before .before .bring-up-bytes .ensures .0) (bring-up-small _ _ _)
+pack-requires c κs = fits _ _ (c .before .before .before .before .bring-up-bytes .ensures .0) (bring-up-fits _ _ _)
 
 returns : tie.Need-returns
 returns c =

@@ -1,6 +1,6 @@
 -- A refusal leaves state and plan; otherwise the calls and the state of bring-up are written.
 use Rattle.switching.proofs.Answered.{parts}
-use Rattle.bringup.proofs.Whole.{kept-by, room-there, words-refused, words-brought, words-brings}
+use Rattle.bringup.proofs.Whole.{passed-by, room-there, words-refused, words-brought, words-brings}
 use borrow.Author.Needs.{needs}
 use Rattle.bringup.proofs.bring_up.bring_up_words.Statement.{statement}
 use Rattle.bringup.proofs.bring_up.bring_up_words.Tie as tie
@@ -32,7 +32,7 @@ bring-up-words-spec =
     (λ c κs. search needs)
     (λ c. search needs)
     returns
-    (λ c κs. (search (needs, kept-by), search (needs, room-there)))
+    (λ c κs. (search (needs, passed-by), search (needs, room-there)))
     (λ c. search needs)
     (λ c. search needs)
     returns-2)

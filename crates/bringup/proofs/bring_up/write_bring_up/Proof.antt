@@ -1,5 +1,5 @@
 -- What is to be switched, its calls and the new on-set, each from the one before.
-use Rattle.bringup.proofs.Whole.{upward, switches-room, up-written}
+use Rattle.bringup.proofs.Whole.{switch-laws, switches-room, up-written}
 use borrow.Author.Needs.{needs}
 use Rattle.bringup.proofs.bring_up.write_bring_up.Statement.{statement}
 use Rattle.bringup.proofs.bring_up.write_bring_up.Tie as tie
@@ -28,7 +28,7 @@ write-bring-up-spec =
     tie.close
     (tie.spec
     (λ c κs. search needs)
-    (λ c κs. search (needs, upward))
+    (λ c κs. search (needs, switch-laws))
     (λ c κs. search needs)
     (λ c κs. search needs)
     write-switches-requires

@@ -1,6 +1,6 @@
 -- A law for each way out, and what is promised of every list.
 use Rattle.laws.proofs.BringUpLists.{bring-up-checked}
-use Rattle.bringup.proofs.Whole.{kept-by, of-words}
+use Rattle.bringup.proofs.Whole.{passed-by, of-words}
 use borrow.Author.Needs.{needs}
 use Rattle.bringup.proofs.check.check_words.Statement.{statement}
 use Rattle.bringup.proofs.check.check_words.Tie as tie
@@ -12,6 +12,6 @@ check-words-spec =
     (λ c κs. search needs)
     (λ c κs. search needs)
     (λ c. search (needs, of-words, bring-up-checked))
-    (λ c κs. search (needs, kept-by))
+    (λ c κs. search (needs, passed-by))
     (λ c. search (needs, of-words, bring-up-checked))
     (λ c. search (needs, of-words, bring-up-checked)))

@@ -1,5 +1,5 @@
 -- The walk over what is to be switched.
-use Rattle.bringup.proofs.Whole.{upward}
+use Rattle.bringup.proofs.Whole.{switch-laws}
 use borrow.Author.Needs.{needs}
 use Rattle.bringup.proofs.check.conforming.Statement.{statement}
 use Rattle.bringup.proofs.check.conforming.Tie as tie
@@ -9,8 +9,8 @@ conforming-spec =
     tie.close
     (tie.spec
     (λ c κs. search needs)
-    (λ c κs. search (needs, upward))
+    (λ c κs. search (needs, switch-laws))
     (λ c κs. search needs)
     (λ c κs. search needs)
-    (λ c κs. search (needs, upward))
-    (λ c. search (needs, upward)))
+    (λ c κs. search (needs, switch-laws))
+    (λ c. search (needs, switch-laws)))

@@ -2,8 +2,8 @@
 -- search: each is named by the call that gave it, from the last one back.
 use borrow.Author.Needs.{needs}
 use Rattle.switching.proofs.Answered.{parts}
-use Rattle.bringup.proofs.Whole.{kept-by, room-bytes, bytes-refused, bytes-brought}
-use Rattle.sailgarnet.proofs.Outer.{room-words, bring-up-fits, words-33, bytes-132}
+use Rattle.bringup.proofs.Whole.{passed-by, room-bytes, bytes-refused, bytes-brought}
+use Rattle.sailgarnet.proofs.Outer.{room-words, bring-up-room, words-33, bytes-132}
 use Rattle.sailgarnet.proofs.buffers.bring_up_bytes.Statement.{statement}
 use Rattle.sailgarnet.proofs.buffers.bring_up_bytes.Tie as tie
 
@@ -18,7 +18,7 @@ write-bring-up-requires : tie.Need-write-bring-up-requires
 write-bring-up-requires c κs =
     let left = c .before .before in
     let passed = left .before in (
-      kept-by _ _ _ _ _ (passed .before .verdict .ensures) (passed .passes .ensures) (left .if1 .left),
+      passed-by _ _ _ _ _ (passed .before .verdict .ensures) (passed .passes .ensures) (left .if1 .left),
       search (needs, room-words),
     )
 
@@ -31,7 +31,7 @@ write-words-requires c κs =
     let e = asked .verdict .ensures in
     let f = passed .passes .ensures in
     let w = written .write-bring-up .ensures in
-    let short = bring-up-fits _ _ (kept-by _ _ _ _ _ e f (left .if1 .left)) in
+    let short = bring-up-room _ _ (passed-by _ _ _ _ _ e f (left .if1 .left)) in
     let fits = room-bytes _ _ _ _ (asked .before .before .room .ensures .0) _ _ f e (left .if1 .left) in
     (words-33 _ _ _ short _ _ _ _ w (search needs), bytes-132 _ _ _ short _ _ _ _ w _ fits)
 

@@ -1,7 +1,7 @@
 -- A law for each way out, and what is promised of every list of bytes.
 use borrow.Author.Needs.{needs}
 use Rattle.laws.proofs.BringUpLists.{bring-up-checked-bytes}
-use Rattle.bringup.proofs.Whole.{kept-by, of-bytes}
+use Rattle.bringup.proofs.Whole.{passed-by, of-bytes}
 use Rattle.sailgarnet.proofs.buffers.check_bring_up_bytes.Statement.{statement}
 use Rattle.sailgarnet.proofs.buffers.check_bring_up_bytes.Tie as tie
 
@@ -12,6 +12,6 @@ check-bring-up-bytes-spec =
     (λ c κs. search needs)
     (λ c κs. search needs)
     (λ c. search (needs, of-bytes, bring-up-checked-bytes))
-    (λ c κs. search (needs, kept-by))
+    (λ c κs. search (needs, passed-by))
     (λ c. search (needs, of-bytes, bring-up-checked-bytes))
     (λ c. search (needs, of-bytes, bring-up-checked-bytes)))

@@ -11,7 +11,7 @@ use Rattle.request.proofs.Chain.{stop-header, stop-table}
 use Rattle.request.proofs.Changes.{permitted-by}
 use Rattle.switching.proofs.Answered.{parts}
 use Rattle.planner.proofs.Whole.{room-bytes, bytes-refused, bytes-planned}
-use Rattle.sailgarnet.proofs.Outer.{room-words, request-fits, words-33, bytes-132}
+use Rattle.sailgarnet.proofs.Outer.{room-words, request-room, words-33, bytes-132}
 use Rattle.sailgarnet.proofs.buffers.plan_bytes.Statement.{statement}
 use Rattle.sailgarnet.proofs.buffers.plan_bytes.Tie as tie
 
@@ -63,7 +63,7 @@ write-words-requires c κs =
     let w = written .write-plan .ensures in
     let g = permitted-by _ _ _ _ _ _ e f (left .if3 .left) in
     let fits = room-bytes _ _ _ _ _ (room .room .ensures .0) _ _ f e (left .if3 .left) in
-    let short = request-fits _ _ _ g in
+    let short = request-room _ _ _ g in
     (words-33 _ _ _ short _ _ _ _ w (search needs), bytes-132 _ _ _ short _ _ _ _ w _ fits)
 
 returns-4 : tie.Need-returns-4

@@ -1,6 +1,6 @@
 -- One store, or none.
 use Rattle.calls.proofs.OwnCall.{call-in-range}
-use Rattle.switching.proofs.Run.{own-room, own-word, own-none}
+use Rattle.switching.proofs.Run.{own-room, own-word, no-own-word}
 use borrow.Author.Needs.{needs}
 use Rattle.switching.proofs.write.write_own.Statement.{statement}
 use Rattle.switching.proofs.write.write_own.Tie as tie
@@ -42,7 +42,7 @@ returns c = own-word _ _ _ _ _ (c .before .before .before .before .before .pre .
 
 -- src/write.rt:21:1
 returns-2 : tie.Need-returns-2
-returns-2 c = own-none _ _ _ (c .enum-told .given .1)
+returns-2 c = no-own-word _ _ _ (c .enum-told .given .1)
 
 pub write-own-spec : {M : Type 1} → statement M
 write-own-spec =
