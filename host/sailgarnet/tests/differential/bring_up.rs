@@ -49,8 +49,7 @@ fn each_list_of_a_small_station_agrees() {
 #[test]
 fn each_changed_list_agrees() {
     let mut comparison = Comparison::new();
-    let orders: Vec<u16> = (0..32).map(|r| 7 * r % 16).collect();
-    let table = bring_up::one_device_each(&orders).table();
+    let table = one_device_each_of_32();
     let needed = 0x3333_5555;
     let state = sweep::image(&bring_up::needing(needed, 32), !needed);
     let measured = workloads().into_iter().filter(|w| w.bring_up == Some(0));
@@ -100,12 +99,15 @@ fn random_states_of_large_stations_agree() {
     let mut comparison = Comparison::new();
     let mut rng = Rng::new(2);
     let full = workloads().into_iter().find(|w| w.name == "full, 32 ONs");
+    // The drawn states of the first two need few different sets, those of the
+    // third any.
     let tables = [
         full.expect("measured").case.table,
         bring_up::chain().table(),
+        one_device_each_of_32(),
     ];
     for _ in 0..20_000 {
-        let table = &tables[rng.below(2)];
+        let table = &tables[rng.below(3)];
         let Some(mut state) = draw_state(&mut rng, table) else {
             continue;
         };
@@ -117,6 +119,12 @@ fn random_states_of_large_stations_agree() {
     }
     comparison.must_give(&[0], &[0, 19]);
     comparison.report("bring-up of random states, large stations");
+}
+
+/// The table of 32 devices, each with a resource of its own.
+fn one_device_each_of_32() -> Vec<u8> {
+    let orders: Vec<u16> = (0..32).map(|r| 7 * r % 16).collect();
+    bring_up::one_device_each(&orders).table()
 }
 
 impl Comparison {
