@@ -1,5 +1,5 @@
-//! What must hold of bring-up and its checker on every case, checked without
-//! the code of either.
+//! What must hold of bring-up and its checker on every case, checked with the
+//! reference's readers of tables and states, and without its bring-up.
 
 use reference::{Answer, Call, Execution, Request, State, Table};
 

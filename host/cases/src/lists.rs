@@ -42,7 +42,7 @@ pub fn vary_bring_up_list(
 ) {
     match rng.below(12) {
         0 | 1 => turn_on_all_needed(table, state, list),
-        // Stable, so each kind stays in its order.
+        // `_OFF`s before `_ON`s, each kind in its order, as the sort is stable.
         2 => list.as_chunks_mut::<4>().0.sort_by_key(|word| !word[0]),
         3 => insert(rng, list, any_method),
         _ => vary_list(rng, table, earlier, list),

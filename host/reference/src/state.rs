@@ -55,7 +55,8 @@ impl<'a> State<'a> {
     /// Reads a consistent state, or refuses it with 7 or 8.
     pub fn read(table: &Table, bytes: &'a [u8]) -> Result<Self, Answer> {
         Self::read_where(table, bytes, |state, device, entry| {
-            state.agrees(table, device, entry) && device.needs(entry) & !state.on == 0
+            state.is_consistent_but_for_power(table, device, entry)
+                && device.needs(entry) & !state.on == 0
         })
     }
 
@@ -63,7 +64,7 @@ impl<'a> State<'a> {
     /// it with 7 or 8.
     pub fn read_for_bring_up(table: &Table, bytes: &'a [u8]) -> Result<Self, Answer> {
         Self::read_where(table, bytes, |state, device, entry| {
-            state.agrees(table, device, entry)
+            state.is_consistent_but_for_power(table, device, entry)
         })
     }
 
@@ -94,8 +95,7 @@ impl<'a> State<'a> {
         good.then_some(Self { entries, on })
     }
 
-    /// Whether a device with this entry is consistent, whatever is on.
-    fn agrees(&self, table: &Table, device: Device, entry: Entry) -> bool {
+    fn is_consistent_but_for_power(&self, table: &Table, device: Device, entry: Entry) -> bool {
         device.supports(entry.state)
             && device
                 .parent()

@@ -149,7 +149,7 @@ fn orders_are_16_bit_numbers() {
     brings_up(&bytes, &[at(3)], 0b1111, &turn_off, 0);
 }
 
-/// Each reason with all on and with none: a resource that is off neither makes a
+/// Each reason with each set of resources on: a resource that is off neither makes a
 /// refusal nor hides one.
 #[test]
 fn answer_8_is_a_device_that_is_not_consistent_whatever_is_on() {
@@ -243,11 +243,11 @@ fn answer_9_is_the_room_for_33_words_and_comes_last() {
     }
 }
 
-/// The camera in D3hot and the lamp in D0, as reported with r2 alone on.
 fn check_list(calls: &[[u8; 4]]) -> u8 {
     check_bytes(calls.as_flattened())
 }
 
+/// The camera in D3hot and the lamp in D0, as reported with r2 alone on.
 fn check_bytes(list: &[u8]) -> u8 {
     let reported = state(&[at(0), at(3), at(0)], 0b100);
     let answer = check_bring_up(&bench(), &reported, list);
