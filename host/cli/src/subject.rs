@@ -91,13 +91,13 @@ impl<'a> Subject<'a> {
             state: files::read(state_path)?,
         };
         if let Some(on) = args.value(ON) {
-            subject.report_on(on).map_err(wrong)?;
+            subject.set_on(on).map_err(wrong)?;
         }
         Ok((subject, rest))
     }
 
     /// Replaces the on-set of the state by the resources that are named.
-    fn report_on(&mut self, names: &OsStr) -> Result<(), String> {
+    fn set_on(&mut self, names: &OsStr) -> Result<(), String> {
         let on = resources::parse(&names.to_string_lossy())?;
         // A table or a state that cannot be read is left to the planner's answer.
         let (Ok(table), Some(bytes)) = (Table::read(&self.table), self.state.last_chunk_mut())
@@ -208,7 +208,7 @@ impl<'a> Subject<'a> {
     fn remedy(&self) -> &'static str {
         let (answer, ..) = self.plan_task(Task::BringUp);
         match answer.is_done() {
-            true => "sailgarnet bring-up makes such a state consistent.\n",
+            true => "sailgarnet bring-up would make this state consistent.\n",
             false => "",
         }
     }

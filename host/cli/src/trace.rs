@@ -5,7 +5,8 @@ use sailgarnet::{calls, Call};
 
 use crate::words::{self, numbered_beyond};
 
-/// What a list is for: what is on at its start, what is needed, and the own call.
+/// What a trace is measured by: what is on at the start, what is needed, and the
+/// own call.
 pub struct Purpose {
     on_before: u32,
     needed_before: u32,

@@ -64,7 +64,7 @@ fn answers_7_and_8_are_for_states() {
         assert_eq!(
             desk.run(line).refused(8),
             "Answer 8, device 0: the state is not consistent: this device needs what is off: r0.\n\
-             sailgarnet bring-up makes such a state consistent.\n"
+             sailgarnet bring-up would make this state consistent.\n"
         );
     }
 }

@@ -232,7 +232,7 @@ fn where_only_resources_are_off_bring_up_is_named() {
     assert_eq!(
         refusal_of_requests(&desk),
         "Answer 8, device 1: the state is not consistent: this device needs what is off: r2.\n\
-         sailgarnet bring-up makes such a state consistent.\n"
+         sailgarnet bring-up would make this state consistent.\n"
     );
     desk.run("bring-up table state -o state").done();
     desk.run("plan table state disarm 1").done();
