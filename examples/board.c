@@ -145,7 +145,10 @@ int main(void)
         fprintf(stderr, "the table is refused\n");
         return 1;
     }
-    /* A board that kept nothing, or whose entries bring-up refuses, leaves those of the fresh state. */
+    /*
+     * A board that kept no entries starts with those of the fresh state. So could one whose kept entries are refused with 8; this
+     * program stops there.
+     */
     memcpy(state, kept, sizeof kept);
     sailgarnet_on_write(state, reported_on());
     if (bring_up(state))

@@ -23,7 +23,7 @@ extern "C" {
 
 /* Sizes. A state image has 132 bytes, a plan at most 33 calls of four bytes, at most 32 resources and 32 devices. */
 #define SAILGARNET_STATE_SIZE 132u
-#define SAILGARNET_ENTRIES_SIZE 128u /* the device entries of a state; its on-set is behind them */
+#define SAILGARNET_ENTRIES_SIZE 128u /* the device entries of a state; its on-set is after them */
 #define SAILGARNET_PLAN_SIZE 132u
 #define SAILGARNET_MAX_RESOURCES 32u
 #define SAILGARNET_MAX_DEVICES 32u
@@ -92,7 +92,7 @@ uint64_t sailgarnet_plan(const uint8_t *table, size_t table_len, uint8_t *state,
 
 /*
  * Whether a list of calls, four bytes each, conforms to a request from a state. Writes nothing. Answers 1 to 8, 10 to 18
- * as the planner does, then 19 for a list that does not conform, else 0.
+ * as the planner does, then 19 for a list that does not conform, such as one that ends within a call, else 0.
  */
 uint64_t sailgarnet_check(const uint8_t *table, size_t table_len, const uint8_t *state, size_t state_len,
                           uint32_t kind, uint32_t device, uint32_t a, uint32_t b,
@@ -100,8 +100,9 @@ uint64_t sailgarnet_check(const uint8_t *table, size_t table_len, const uint8_t 
 
 /*
  * What to switch at power-on. The lent `state` has the device entries that the board kept and, as its on-set, the resources
- * that are on by _STA (sailgarnet_on_write); a needed one may be off. Answers 1 to 7, then 8 if a device is not consistent
- * for another reason than a needed resource being off, then 9 if `plan` has fewer than 132 bytes, else 0. Done: the first
+ * that are on by _STA (sailgarnet_on_write); a needed one may be off. Answers 1 to 7, then 8 for the lowest device that is
+ * in a state which it does not have, shallower than its parent, armed for a wake pair that is not legal, or deeper than its
+ * wake state; resources that are off are no reason. Then 9 if `plan` has fewer than 132 bytes, else 0. Done: the first
  * 4 * count bytes of `plan` are the calls in their order, _ON of each resource that is needed and off, then _OFF of each
  * that is on and not needed, and the rest of `plan` is as it was. No method of a device is called, not even where its
  * supply was off. `state` keeps its device entries and has exactly the needed resources on, so it is consistent. Refused:
@@ -111,8 +112,9 @@ uint64_t sailgarnet_bring_up(const uint8_t *table, size_t table_len, uint8_t *st
                              uint8_t *plan, size_t plan_len);
 
 /*
- * Whether a list of calls, four bytes each, conforms to a bring-up from a state. Writes nothing. Answers 1 to 8 as
- * sailgarnet_bring_up does, then 19 for a list that does not conform, else 0.
+ * Whether a list of calls, four bytes each, conforms to a bring-up. `state` is the one that was lent to
+ * sailgarnet_bring_up, as it was before. Writes nothing. Answers 1 to 8 as sailgarnet_bring_up does, then 19 for a list
+ * that does not conform, such as one that ends within a call, else 0.
  */
 uint64_t sailgarnet_check_bring_up(const uint8_t *table, size_t table_len, const uint8_t *state, size_t state_len,
                                    const uint8_t *list, size_t list_len);
@@ -160,7 +162,7 @@ static inline int sailgarnet_call_wake_on(const uint8_t *plan, size_t i) { retur
 static inline unsigned sailgarnet_call_wake_sleep(const uint8_t *plan, size_t i) { return plan[4 * i + 2]; }
 static inline unsigned sailgarnet_call_wake_state(const uint8_t *plan, size_t i) { return plan[4 * i + 3] & 0x7fu; }
 
-/* A set of resources in `size` bytes, lowest first. Bit r stands for resource r. */
+/* A set of resources in `size` bytes, at most 8, lowest first. Bit r stands for resource r. */
 static inline uint64_t sailgarnet_sized_set_read(const uint8_t *bytes, unsigned size)
 {
     uint64_t set = 0;

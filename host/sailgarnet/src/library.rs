@@ -182,8 +182,9 @@ pub fn check(table: &[u8], state: &[u8], request: Request, list: &[u8]) -> Answe
 /// need is on in it afterwards.
 ///
 /// Gives 0 and the number of calls, or a refusal, which writes nothing: 1 to 7 as
-/// for a request, 8 if a device is not consistent for another reason than a
-/// resource being off, 9 if `plan` has less than 132 bytes.
+/// for a request; 8 for the lowest device that is in a state which it does not
+/// have, shallower than its parent, armed for a wake pair that is not legal, or
+/// deeper than its wake state, whatever is on; 9 if `plan` has less than 132 bytes.
 ///
 /// ```
 /// use sailgarnet::{bring_up, check_bring_up, Verdict, PLAN_BYTES, STATE_BYTES};
