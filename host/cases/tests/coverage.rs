@@ -257,10 +257,10 @@ fn fault_alone(table: &Table, reported: &[u8]) -> Option<(usize, bool)> {
     let on = u32::from_le_bytes(entries[32]);
     let mut found = Vec::new();
     let mut needed = 0;
-    for d in 0..table.device_count() {
-        let faults = faults(table, reported, d, entries[d]);
+    for (d, &entry) in entries[..table.device_count()].iter().enumerate() {
+        let faults = faults(table, reported, d, entry);
         found.extend((0..FAULTS.len()).filter(|&fault| faults[fault]));
-        let [state, armed, wake_s, wake_d] = entries[d];
+        let [state, armed, wake_s, wake_d] = entry;
         needed |= table.device(d).needs(Entry {
             state,
             armed: armed == 1,
