@@ -62,7 +62,7 @@ pub record BringUpChecked (t b ws : List ℕ) : Type 0 where
   pub exactly : CanBringUp t b → PassedBringUp t b ws ↔ ConformsToBringUp (station t) (status t b) ws
   -- the list ends with exactly the needed set
   pub ends : PassedBringUp t b ws → (r : ℕ) → execution (member (status t b .on)) ws r ≡ member (neededBefore t b) r
-  -- the list that bring-up itself gives, the first words of its plan, as many as its count, passes
+  -- the list that bring-up itself gives, the front of its plan, count words long, passes
   pub own : (plan : List ℕ) → numberOf (bringUpWords t b plan .verdict) ≡ 0
       → PassedBringUp t b (take (countOf (bringUpWords t b plan .verdict)) (bringUpWords t b plan .plan))
 

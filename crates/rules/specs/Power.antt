@@ -1,6 +1,6 @@
 -- RULES.md 3: what a device can do and what it needs, over a station and a device's number.
 use Prim.Native.Nat.{ℕ, zero, suc}
-use mathlib.Core.Bool.{Bool, false, _&&_, _||_, not, cond}
+use mathlib.Core.Bool.{Bool, true, false, _&&_, _||_, not, cond}
 use lib.Dec.{eqb, leb, ltb}
 use Rattle.sets.specs.Sets.{member, union}
 use Rattle.rules.specs.declared.Entry.{Entry}
