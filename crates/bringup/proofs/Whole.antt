@@ -12,10 +12,10 @@ use Rattle.sets.proofs.Laws.{minus-lt}
 use Rattle.words.specs.Words.{put, wordBytes}
 use Rattle.rules.specs.declared.Verdict.{Verdict}
 use Rattle.rules.specs.declared.Verdict.the-variants.{Done, Refused}
-use Rattle.rules.specs.declared.Reason.the-variants.{NoRoom, NotConforming}
+use Rattle.rules.specs.declared.Reason.the-variants.{NotATable, NoRoom, NotConforming}
 use Rattle.rules.specs.Answers.{numberOf, countOf, passes}
 use Rattle.rules.specs.Station.{width, countR, stationOf, station}
-use Rattle.rules.specs.Table.{tableVerdict}
+use Rattle.rules.specs.Table.{headerGood, tableVerdict}
 use Rattle.rules.specs.Power.{needed}
 use Rattle.rules.specs.Status.{entriesSize, entries, statusOf, status, imageOf}
 use Rattle.rules.specs.Calls.{toTurnOn, toTurnOff}
@@ -24,13 +24,14 @@ use Rattle.rules.specs.Outcomes.{planRoom, ofBytes}
 use Rattle.rules.specs.BringUp.{stateButPowerVerdict, bringUpStages, bringUpCalls, statusBroughtUp, bringUpList, stateBroughtUp}
 use Rattle.rules.specs.BringUp.{bringUpWords, bringUpBytes}
 use Rattle.rules.specs.BringUp.{conformingToBringUp, checkBringUpWords, checkBringUpBytes}
-use Rattle.rules.proofs.Answers.{done-passes, refused-stops, first-pass, first-stop, first-none, unless-of, unless-stop, answer-passed, answer-stopped}
+use Rattle.rules.proofs.Answers.{done-passes, refused-stops, first-pass, first-stop, first-none, unless-of, unless-stop, answer-passed}
+use Rattle.rules.proofs.Answers.{answer-stopped}
 use Rattle.laws.specs.BringUp.{BringsUpWords}
 use Rattle.laws.proofs.States.{needed-small, values-of}
 use Rattle.laws.proofs.Stages.{BringUpPassed, bring-up-of, bring-up-pass}
 use Rattle.laws.proofs.BringUp.{brings-up-words}
 use Rattle.table.specs.Layout.{WellSized}
-use Rattle.table.proofs.Verdicts.{sized-of, table-passed}
+use Rattle.table.proofs.Verdicts.{sized-of, no-table, table-passed}
 use Rattle.calls.specs.Phases.{phaseWords}
 use Rattle.status.specs.Ready.{statusWith}
 use Rattle.switching.specs.Written.{WrittenPlan}
@@ -46,6 +47,11 @@ pub stop-table : (t b : List ℕ) (room : Bool) (v : Verdict) (p : Bool) → v �
     → v ≡ bringUpStages room t b
 unfolding bringUpStages
 stop-table t b room v p e f n = e ∙ sym (first-stop (tableVerdict t) _ (Done 0) (answer-stopped v _ p e f n))
+
+-- h: whether the header is good
+pub stop-header : (t b : List ℕ) (room h : Bool) → h ≡ headerGood t → not h ≡ true → Refused NotATable 0 ≡ bringUpStages room t b
+stop-header t b room h e n =
+    stop-table t b room (Refused NotATable 0) false (no-table t h e n) (sym (refused-stops NotATable 0)) refl
 
 module _ (t b : List ℕ) (done : tableVerdict t ≡ Done 0) (v : Verdict) (p : Bool) (e : v ≡ stateButPowerVerdict t b) (f : p ≡ passes v)
     (room : Bool) where

@@ -141,7 +141,8 @@ module _ (t b : List ℕ) (q : Request) (g : Stages t b q) where
         (other-place first (c .ons) (c .offs) final n (rw same at o)))
 
     pub list-keeps : (n r : ℕ) → member (neededBefore t b) r ≡ true → member (neededAfter t b q) r ≡ true → onAfter t b ws n r ≡ true
-    list-keeps n r x y = conforms-keeps (station t) own (ownLast q) (status t b .on) (neededAfter t b q) able ws c n r (needs-on t b (g .state) r x) y
+    list-keeps n r x y =
+        conforms-keeps (station t) own (ownLast q) (status t b .on) (neededAfter t b q) able ws c n r (needs-on t b (g .state) r x) y
 
     pub list-ends : (r : ℕ) → execution (member (status t b .on)) ws r ≡ member (neededAfter t b q) r
     list-ends = conforms-ends (station t) own (ownLast q) (status t b .on) (neededAfter t b q) able ws c

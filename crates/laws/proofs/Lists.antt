@@ -114,7 +114,8 @@ module _ (checks : Verdict) where
         bytes-words (wordBytes ws) (omega arith) ∙ rw (four, words-of-bytes ws h) refl
 
 -- ---- the words that a plan is made of, read from its front, pass a checker whose checks pass and whose test holds of them
-module _ (stages checks : Verdict) (test : List ℕ → Bool) (b plan after words : List ℕ) (e : passes checks ≡ true) (h : test words ≡ true) where
+module _ (stages checks : Verdict) (test : List ℕ → Bool) (b plan after words : List ℕ) (e : passes checks ≡ true)
+    (h : test words ≡ true) where
   pub own-words : let o = planOutcome (λ ws. ws) stages b plan after words in
       numberOf (o .verdict) ≡ 0 → numberOf (listVerdict checks (test (take (countOf (o .verdict)) (o .plan)))) ≡ 0
   own-words d = rw (front-words stages b plan after words d) (ap numberOf (list-of checks (test words) e h))

@@ -16,7 +16,8 @@ use Rattle.rules.specs.Table.{headerGood, tableVerdict}
 use Rattle.rules.specs.Status.{statusOf, entries, stateVerdict}
 use Rattle.rules.specs.Request.{requestVerdict}
 use Rattle.rules.specs.Outcomes.{requestStage, stagesVerdict}
-use Rattle.rules.proofs.Answers.{done-passes, refused-stops, first-pass, first-stop, first-alone, unless-of, unless-stop, answer-passed, answer-stopped}
+use Rattle.rules.proofs.Answers.{done-passes, refused-stops, first-pass, first-stop, first-alone, unless-of, unless-stop, answer-passed}
+use Rattle.rules.proofs.Answers.{answer-stopped}
 use Rattle.laws.proofs.Accepted.{accepted}
 use Rattle.laws.proofs.States.{consistent-of}
 use Rattle.table.proofs.Verdicts.{sized-of, no-table, table-passed}

@@ -86,7 +86,8 @@ doneRows =
     -- r0 is needed by the bus alone
     benchBringUp 0x00000000_04000000_04000000 0 (done (bytes 4 0x01000000) (bytes 12 0x00000000_04000000_04000000) 1) (differs 0 0 ∷ []) ∷
     -- all in D3hot: r0 by `_PR3` of bus and camera; the lamp's `_PR3` is there and empty
-    benchBringUp 0x03000000_03000000_03000000 6 (done (bytes 12 0x01000000_02010000_02020000) (bytes 12 0x03000000_03000000_03000000) 1) [] ∷
+    benchBringUp 0x03000000_03000000_03000000 6 (done (bytes 12 0x01000000_02010000_02020000)
+    (bytes 12 0x03000000_03000000_03000000) 1) [] ∷
     -- whole words are compared: another fourth byte, another third, r32 for r0, a word cut short
     benchBringUp 0x00000000_00000000_00000000 6 (done (bytes 4 0x01000000) (bytes 12 0x00000000_00000000_00000000) 7)
     (differs 4 0x01000080 ∷ differs 4 0x01000100 ∷ differs 4 0x01200000 ∷ differs 3 0x010000 ∷ [])

@@ -150,7 +150,8 @@ calls s st q = switchCalls s (ownCalls s st q) (ownLast q) (st .on) (endSet s (s
 unfoldable pub statusAfter : Station → Status → Request → Status
 statusAfter s st q = record { entries = entriesAfter (st .entries) q; on = endSet s (st .entries) q }
 
--- the calls from an on-set to a target set as one value: what is turned on, what is turned off, the own call or none and whether it comes last
+-- the calls from an on-set to a target set as one value: what is turned on, what is turned off, the own call or none and whether it comes
+-- last
 abbrev pub switchingOf : OptionalCall → Bool → ℕ → ℕ → Switching
 switchingOf own last on target = record { added = toTurnOn on target; removed = toTurnOff on target; own = own; last = last }
 

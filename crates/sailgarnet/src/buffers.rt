@@ -1,5 +1,5 @@
-// Plans and lists as bytes, four a word, lowest first. For requests the stages are asked one after the other, so that what is no table is
-// refused before anything else is called; bring-up, called once at power-on, asks them together.
+// Plans and lists as bytes, four a word, lowest first. The stages are asked one after the other, so that what is no table is refused before
+// anything else is called.
 use rules::Reason;
 use rules::Request;
 use rules::Verdict;
@@ -101,7 +101,14 @@ pub fn bring_up_bytes(table: &[u8], state: &mut [u8], plan: &mut [u8]) -> Verdic
         × (now (plan .exit) ≡ bringUpBytes (now (table .entry)) (now (state .entry)) (now (plan .entry)) .plan) ⌝ }
 {
     let room = plan.len() >= 4 * switching::write::room(table);
-    let v = bringup::stages::verdict(table, state, room);
+    if !table::header::header_good(table) {
+        return Verdict::Refused(Reason::NotATable, 0);
+    }
+    let of_table = table::check_past_header(table);
+    if !rules::passes(of_table) {
+        return of_table;
+    }
+    let v = bringup::stages::past_table(table, state, room);
     if !rules::passes(v) {
         return v;
     }
@@ -130,7 +137,14 @@ pub fn check_bring_up_bytes(table: &[u8], state: &[u8], list: &[u8]) -> Verdict
     ensures answer { λ r. ⌜ r ≡ checkBringUpBytes (now (table .entry)) (now (state .entry)) (now (list .entry)) ⌝ }
     ensures checked { λ _. ⌜ BringUpCheckedBytes (now (table .entry)) (now (state .entry)) (now (list .entry)) ⌝ }
 {
-    let v = bringup::stages::verdict(table, state, true);
+    if !table::header::header_good(table) {
+        return Verdict::Refused(Reason::NotATable, 0);
+    }
+    let of_table = table::check_past_header(table);
+    if !rules::passes(of_table) {
+        return of_table;
+    }
+    let v = bringup::stages::past_table(table, state, true);
     if !rules::passes(v) {
         return v;
     }

@@ -46,8 +46,10 @@ fn take_own(own: OptionalCall, here: bool, list: &[u32], at: usize) -> Taken
 
 // The place after the words that turn one set on, then those that turn another off.
 fn take_phases(table: &[u8], added: u32, removed: u32, list: &[u32], at: usize) -> Taken
-    requires { ⌜ WellSized (now table) × (added < 2 ^ countR (now table)) × (removed < 2 ^ countR (now table)) × (at ≤ length (now list)) ⌝ }
-    ensures { λ r. ⌜ Leaves (now (list .entry)) r (takePhases (station (now (table .entry))) added removed (drop at (now (list .entry)))) ⌝ }
+    requires { ⌜ WellSized (now table) × (added < 2 ^ countR (now table)) × (removed < 2 ^ countR (now table))
+        × (at ≤ length (now list)) ⌝ }
+    ensures { λ r. ⌜ Leaves (now (list .entry)) r (takePhases (station (now (table .entry))) added removed
+        (drop at (now (list .entry)))) ⌝ }
 {
     let Taken::UpTo(offs) = take_phase(table, false, added, list, at) else {
         return Taken::Refused;

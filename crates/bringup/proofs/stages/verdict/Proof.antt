@@ -1,4 +1,4 @@
--- Each return is the first answer that refuses, or done.
+-- What is no table is told so; the rest answers for the others.
 use Rattle.bringup.proofs.Whole.{in-turn}
 use borrow.Author.Needs.{needs}
 use Rattle.bringup.proofs.stages.verdict.Statement.{statement}
@@ -12,7 +12,4 @@ verdict-spec =
     (λ c κs. search needs)
     (λ c. search (needs, in-turn))
     (λ c κs. search (needs, in-turn))
-    (λ c κs. search needs)
-    (λ c. search (needs, in-turn))
-    (λ c. search (needs, in-turn))
-    (λ c. search (needs, in-turn)))
+    (λ c. search needs))
