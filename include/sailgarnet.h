@@ -1,9 +1,10 @@
 /*
  * Sailgarnet: a proved planner for ACPI power resources (ACPI 6.4, chapter 7).
  *
- * Five functions on numbers and byte buffers: fresh, plan and check for a board, write and describe for an editor of
- * tables. Nothing has to be checked before a call: any bytes for table, state, request, call list and description get an
- * answer, and a refusal writes nothing. Two things are left to the caller, because no function can see them:
+ * Seven functions on numbers and byte buffers: for a board fresh, plan and check, and at power-on bring_up and
+ * check_bring_up; for an editor of tables write and describe. Nothing has to be checked before a call: any bytes for table,
+ * state, request, call list and description get an answer, and a refusal writes nothing. Two things are left to the caller,
+ * because no function can see them:
  *   - each pointer is valid for the length that is passed with it; with a length of 0 nothing is read or written, and any
  *     pointer is good, a null pointer too;
  *   - buffers that are lent in one call do not overlap.
@@ -22,6 +23,7 @@ extern "C" {
 
 /* Sizes. A state image has 132 bytes, a plan at most 33 calls of four bytes, at most 32 resources and 32 devices. */
 #define SAILGARNET_STATE_SIZE 132u
+#define SAILGARNET_ENTRIES_SIZE 128u /* the device entries of a state; its on-set is after them */
 #define SAILGARNET_PLAN_SIZE 132u
 #define SAILGARNET_MAX_RESOURCES 32u
 #define SAILGARNET_MAX_DEVICES 32u
@@ -52,7 +54,7 @@ extern "C" {
 
 /* Answer numbers, named as in crates/rules. In brackets what the place names; it is 0 where nothing is named. */
 enum sailgarnet_number {
-    SAILGARNET_DONE = 0,              /* done; the count is calls for plan, bytes written for write and describe, else 0 */
+    SAILGARNET_DONE = 0,              /* done; count is calls for plan and bring_up, bytes for write and describe, else 0 */
     SAILGARNET_NOT_A_TABLE = 1,       /* table under 8 bytes, or wrong mark, version or byte 7; write: version is not 1 */
     SAILGARNET_TOO_MANY = 2,          /* more than 32 resources or devices */
     SAILGARNET_WRONG_LENGTH = 3,      /* the table's length is not 8 + 4 R + 40 D */
@@ -60,7 +62,7 @@ enum sailgarnet_number {
     SAILGARNET_BAD_DEVICE = 5,        /* a device record has a bad field or, in a description, is cut short [device] */
     SAILGARNET_BAD_OBJECTS = 6,       /* a device breaks an object rule, see struct sailgarnet_device [device] */
     SAILGARNET_BAD_STATE = 7,         /* the state is not 132 bytes, or a value is out of its rules */
-    SAILGARNET_INCONSISTENT = 8,      /* the state is not consistent [lowest device that is not] */
+    SAILGARNET_INCONSISTENT = 8,      /* the state is not consistent, for bring-up even with all on [lowest such device] */
     SAILGARNET_NO_ROOM = 9,           /* a plan under 132 bytes, or a buffer too short for the table or the description */
     SAILGARNET_BAD_REQUEST = 10,      /* kind, device or number out of range, or an unused number not zero */
     SAILGARNET_UNSUPPORTED = 11,      /* the device does not support the state */
@@ -71,7 +73,7 @@ enum sailgarnet_number {
     SAILGARNET_NO_WAKE = 16,          /* no _PRW, or the sleep state is above its deepest */
     SAILGARNET_WAKE_UNPOWERED = 17,   /* a _PRW resource has a systemlevel below the sleep state */
     SAILGARNET_BAD_WAKE_STATE = 18,   /* wake state not supported, outside its range, or shallower than the present state */
-    SAILGARNET_NOT_CONFORMING = 19    /* checker only: the list does not conform to the request */
+    SAILGARNET_NOT_CONFORMING = 19    /* checkers only: the list does not conform to the request, or to the bring-up */
 };
 
 /*
@@ -90,11 +92,32 @@ uint64_t sailgarnet_plan(const uint8_t *table, size_t table_len, uint8_t *state,
 
 /*
  * Whether a list of calls, four bytes each, conforms to a request from a state. Writes nothing. Answers 1 to 8, 10 to 18
- * as the planner does, then 19 for a list that does not conform, else 0.
+ * as the planner does, then 19 for a list that does not conform, such as one that ends within a call, else 0.
  */
 uint64_t sailgarnet_check(const uint8_t *table, size_t table_len, const uint8_t *state, size_t state_len,
                           uint32_t kind, uint32_t device, uint32_t a, uint32_t b,
                           const uint8_t *list, size_t list_len);
+
+/*
+ * What to switch at power-on. The lent `state` has the device entries that the board kept and, as its on-set, the resources
+ * that are on by _STA (sailgarnet_on_write); a needed one may be off. Answers 1 to 7, then 8 for the lowest device that is
+ * in a state which it does not have, shallower than its parent, armed for a wake pair that is not legal, or deeper than its
+ * wake state; resources that are off are no reason. Then 9 if `plan` has fewer than 132 bytes, else 0. Done: the first
+ * 4 * count bytes of `plan` are the calls in their order, _ON of each resource that is needed and off, then _OFF of each
+ * that is on and not needed, and the rest of `plan` is as it was. No method of a device is called, not even where its
+ * supply was off. `state` keeps its device entries and has exactly the needed resources on, so it is consistent. Refused:
+ * nothing is written.
+ */
+uint64_t sailgarnet_bring_up(const uint8_t *table, size_t table_len, uint8_t *state, size_t state_len,
+                             uint8_t *plan, size_t plan_len);
+
+/*
+ * Whether a list of calls, four bytes each, conforms to a bring-up. `state` is the one that was lent to
+ * sailgarnet_bring_up, as it was before. Writes nothing. Answers 1 to 8 as sailgarnet_bring_up does, then 19 for a list
+ * that does not conform, such as one that ends within a call, else 0.
+ */
+uint64_t sailgarnet_check_bring_up(const uint8_t *table, size_t table_len, const uint8_t *state, size_t state_len,
+                                   const uint8_t *list, size_t list_len);
 
 /*
  * Writes the table that a description makes: `resources` has R records of 4 bytes, `devices` D records of 54, and a record
@@ -138,6 +161,33 @@ static inline unsigned sailgarnet_call_state(const uint8_t *plan, size_t i) { re
 static inline int sailgarnet_call_wake_on(const uint8_t *plan, size_t i) { return plan[4 * i + 3] >= 128; }
 static inline unsigned sailgarnet_call_wake_sleep(const uint8_t *plan, size_t i) { return plan[4 * i + 2]; }
 static inline unsigned sailgarnet_call_wake_state(const uint8_t *plan, size_t i) { return plan[4 * i + 3] & 0x7fu; }
+
+/* A set of resources in `size` bytes, at most 8, lowest first. Bit r stands for resource r. */
+static inline uint64_t sailgarnet_sized_set_read(const uint8_t *bytes, unsigned size)
+{
+    uint64_t set = 0;
+
+    for (unsigned i = 0; i < size; i++)
+        set |= (uint64_t)bytes[i] << 8 * i;
+    return set;
+}
+
+static inline void sailgarnet_sized_set_write(uint8_t *bytes, unsigned size, uint64_t set)
+{
+    for (unsigned i = 0; i < size; i++)
+        bytes[i] = (uint8_t)(set >> 8 * i & 0xffu);
+}
+
+/* The on-set of a state, the resources that are on. The two touch its 4 bytes alone. */
+static inline uint32_t sailgarnet_on_read(const uint8_t *state)
+{
+    return (uint32_t)sailgarnet_sized_set_read(state + SAILGARNET_ENTRIES_SIZE, 4);
+}
+
+static inline void sailgarnet_on_write(uint8_t *state, uint32_t on)
+{
+    sailgarnet_sized_set_write(state + SAILGARNET_ENTRIES_SIZE, 4, on);
+}
 
 /* R and D of a good table, the numbers of its resources and devices. */
 static inline unsigned sailgarnet_resource_count(const uint8_t *table) { return table[3]; }
@@ -196,20 +246,8 @@ static inline struct sailgarnet_device sailgarnet_device_none(void)
 }
 
 /* A set in a description: 8 bytes, lowest first. */
-static inline uint64_t sailgarnet_set_read(const uint8_t *bytes)
-{
-    uint64_t set = 0;
-
-    for (unsigned i = 0; i < 8; i++)
-        set |= (uint64_t)bytes[i] << 8 * i;
-    return set;
-}
-
-static inline void sailgarnet_set_write(uint8_t *bytes, uint64_t set)
-{
-    for (unsigned i = 0; i < 8; i++)
-        bytes[i] = (uint8_t)(set >> 8 * i & 0xffu);
-}
+static inline uint64_t sailgarnet_set_read(const uint8_t *bytes) { return sailgarnet_sized_set_read(bytes, 8); }
+static inline void sailgarnet_set_write(uint8_t *bytes, uint64_t set) { sailgarnet_sized_set_write(bytes, 8, set); }
 
 /*
  * Records of a description as structs and back. What is read from any bytes is written as the same bytes. The two for a

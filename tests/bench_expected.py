@@ -1,10 +1,12 @@
 #!/usr/bin/env python3
 """What the program `bench` must print for the cases of its file `stdin`, worked out by docs/RULES.md alone: it shares the cases with the
 program and nothing else. `bench_expected.py bench > crates/bench/stdout` writes the page anew."""
+import itertools
 import pathlib
 import sys
 
 ABSENT = 255
+BRING_UP = None  # in the place of a request
 
 
 def le(b):
@@ -128,8 +130,8 @@ def check_table(t):
     return check_records(*split(t))
 
 
-# ---- RULES.md 4.2 and 4.3, answers 7 and 8 of a table that is accepted
-def check_state(t, image):
+# ---- RULES.md 4.2 and 4.3, answers 7 and 8 of a table that is accepted; powered: whether what a device needs must be on
+def check_state(t, image, powered):
     resources, devices = split(t)
     if len(image) != 132:
         return 7, 0
@@ -151,15 +153,15 @@ def check_state(t, image):
         good = device.supported(state)
         good = good and (device.parent == ABSENT or state >= image[4 * device.parent])
         good = good and (not armed or (device.pair_legal(s, d, levels) and state <= d))
-        if not (good and not needs & ~on):
+        if not good or (powered and needs & ~on):
             return 8, k
     return 0, 0
 
 
-# whether any bytes are a table and a consistent state of it
-def check_both(t, image):
+# whether any bytes are a table and a consistent state of it, or one that bring-up makes consistent (RULES.md 12)
+def check_both(t, image, powered=True):
     number, place = check_table(t)
-    return (number, place) if number else check_state(t, image)
+    return (number, place) if number else check_state(t, image, powered)
 
 
 def record(t, d):
@@ -257,9 +259,10 @@ def needed(devices, image):
     return union
 
 
+# ---- a request, or bring-up
 def permitted(t, image, q):
-    number, place = check_both(t, image)
-    if number == 0:
+    number, place = check_both(t, image, powered=q is not BRING_UP)
+    if number == 0 and q is not BRING_UP:
         resources, devices = split(t)
         number, place = check_request(devices, [b[0] for b in resources], image, q)
     return number, place
@@ -276,9 +279,7 @@ def own_call(device, before, q):
     return [bytes([4, d, 0, 0])] if device.dsw and before[1] else []
 
 
-# the parts of a permitted request's list, in their order, each with the order that its calls must keep; and the image afterwards
-def parts_and_image(t, image, q):
-    resources, devices = split(t)
+def with_new_entry(image, q):
     kind, d, a, b = q
     after = bytearray(image)
     if kind == 1:
@@ -287,21 +288,37 @@ def parts_and_image(t, image, q):
         after[4 * d + 1:4 * d + 4] = bytes([1, a, b])
     else:
         after[4 * d + 1:4 * d + 4] = bytes(3)
-    want, have = needed(devices, after), le(image[128:])
-    after[128:] = want.to_bytes(4, "little")
+    return after
+
+
+# the ONs and the OFFs, each with the order that it must keep
+def switching(resources, have, want):
     order = [le(r[2:4]) for r in resources]
     turn_on = [(order[r], r) for r in range(len(resources)) if want >> r & 1 and not have >> r & 1]
     turn_off = [(-order[r], -r) for r in range(len(resources)) if have >> r & 1 and not want >> r & 1]
     turn_on = [(key, bytes([1, r, 0, 0])) for key, r in sorted(turn_on)]
     turn_off = [(key, bytes([2, -r, 0, 0])) for key, r in sorted(turn_off)]
-    own = [(0, call) for call in own_call(devices[d], image[4 * d:4 * d + 4], q)]
-    own_first = kind == 3 or (kind == 1 and a > image[4 * d])
-    return [own, turn_on, turn_off] if own_first else [turn_on, turn_off, own], bytes(after)
+    return [turn_on, turn_off]
+
+
+# the parts of the list of what is permitted, in their order; and the image afterwards
+def parts_and_image(t, image, q):
+    resources, devices = split(t)
+    after = bytearray(image) if q is BRING_UP else with_new_entry(image, q)
+    want = needed(devices, after)
+    after[128:] = want.to_bytes(4, "little")
+    parts = switching(resources, le(image[128:]), want)
+    if q is not BRING_UP:
+        kind, d, a, _ = q
+        own = [(0, call) for call in own_call(devices[d], image[4 * d:4 * d + 4], q)]
+        own_first = kind == 3 or (kind == 1 and a > image[4 * d])
+        parts = [own, *parts] if own_first else [*parts, own]
+    return parts, bytes(after)
 
 
 # number, place, the calls, the image afterwards; room: whether 33 words fit
 def plan(t, image, q, room):
-    number, place = check_both(t, image)
+    number, place = check_both(t, image, powered=q is not BRING_UP)
     if number == 0 and not room:
         number, place = 9, 0
     if number == 0:
@@ -351,7 +368,7 @@ class Script:
     def __init__(self):
         self.table = self.state = b""
 
-    def request(self, q, room):
+    def planned(self, q, room):
         before = self.state
         number, place, calls, self.state = plan(self.table, before, q, room >= 132)
         listed = b"".join(calls)
@@ -377,10 +394,16 @@ class Script:
         elif letter == "F":
             number, place, self.state = fresh(self.table, blank(132))
             return f" {number} {place} 0"
+        elif letter == "K":
+            self.state = (args[4:] + bytes(128))[:128] + (args + bytes(4))[:4]
         elif letter == "Q":
-            return self.request(asked(args), 132)
+            return self.planned(asked(args), 132)
         elif letter == "P":
-            return self.request(asked(args), args[8])
+            return self.planned(asked(args), args[8])
+        elif letter == "B":
+            return self.planned(BRING_UP, args[0])
+        elif letter == "C":
+            return " check %d %d 0" % check_list(self.table, self.state, BRING_UP, args)
         elif letter == "L":
             return " check %d %d 0" % check_list(self.table, self.state, asked(args[:4]), args[4:])
         elif letter == "W":
@@ -400,7 +423,7 @@ class Script:
         return None
 
 
-# ---- a check of this script itself, on the bench station: what it describes is written as itself, and each refusal comes in its turn
+# ---- checks of this script itself, on the bench station: what it describes is written as itself, and each refusal comes in its turn
 def check_descriptions(t):
     R, D = t[3], t[6]
     number, place, count, resources, devices = describe(t, blank(4 * R + 1), blank(54 * D + 2))
@@ -423,9 +446,25 @@ def check_descriptions(t):
     assert describe(t[:-1], blank(0), blank(0)) == (3, 0, 0, blank(0), blank(0))
 
 
+# bring-up from any states, the camera armed for S3 and D2 or not, and any on-set: it is refused as though all were on; else only the on-set
+# changes, and then nothing is left to do
+def check_bring_up(t):
+    for bus, camera, lamp, pair, on in itertools.product(range(5), range(5), range(5), (bytes(3), bytes([1, 3, 2])), range(8)):
+        entries = bytes([bus, 0, 0, 0, camera]) + pair + bytes([lamp]) + bytes(119)
+        image = entries + bytes([on, 0, 0, 0])
+        number, place, calls, after = plan(t, image, BRING_UP, True)
+        assert (number, place) == check_both(t, entries + bytes([7, 0, 0, 0]))
+        assert check_list(t, image, BRING_UP, b"".join(calls)) == (number, place)
+        if number == 0:
+            assert after[:128] == entries and check_both(t, after) == (0, 0)
+            assert plan(t, after, BRING_UP, True) == (0, 0, [], after)
+
+
 if __name__ == "__main__":
     root = pathlib.Path(__file__).parent.parent
-    check_descriptions((root / "examples" / "station.pwt").read_bytes())
+    station = (root / "examples" / "station.pwt").read_bytes()
+    check_descriptions(station)
+    check_bring_up(station)
     script = Script()
     for line in (root / "crates" / sys.argv[1] / "stdin").read_text().splitlines():
         answer = script.line(line[:1], bytes.fromhex("" if line[:1] == "#" else line[1:]))

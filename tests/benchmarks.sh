@@ -11,8 +11,8 @@ make --no-print-directory bench > target/bench.md
 cat > docs/BENCHMARKS.md <<PAGE
 # Benchmarks
 
-Planner, checker, writer and describer of the library, beside the independent reference in \`host/reference\` on the same
-inputs. This page is written by \`make benchmarks\`; each table is what the command
+Planner, checker, bring-up and its checker, writer and describer of the library, beside the independent reference in
+\`host/reference\` on the same inputs. This page is written by \`make benchmarks\`; each table is what the command
 above it prints.
 
 | | |
@@ -32,6 +32,11 @@ not empty; seven devices are armed; the last device moves between D0 and D3cold,
 switch; *arming again* gives an armed device another wake pair. The other rows are refusals of the full table, each at
 the last place that can be bad
 where there is one: the answer number says at which stage.
+
+Bring-up and its checker have the bench station with the camera in D3hot and r2 alone on, and the full table with every
+device armed in D0 and nothing on, or in D3cold and all on, so that every resource is to be switched. Their refusals are of
+the full table with all to be turned on: the wake pair of the last device, a plan that is one byte too short, and the last
+word of the list.
 
 Writer and describer have the bench station, and a station of 32 resources and 32 devices with every object and
 every bit of every set. Their refusals are of that station: the last field of the last device for the writer, a buffer for

@@ -2,7 +2,8 @@
  * No exported function touches a byte beside what it is lent. Every lent buffer ends exactly at a page that may not be touched, and in a
  * second run starts exactly after one. Each call must answer and write what the same call does in ordinary memory, leave what it only
  * reads and what is past its output, and on a refusal leave every byte. What write wrote must be described as what it was lent, and what
- * describe described must be written as the table that it was lent.
+ * describe described must be written as the table that it was lent. What bring_up planned must pass its checker, and the state after it
+ * have its entries as before and exactly what they need on.
  */
 #define _DEFAULT_SOURCE
 #include <setjmp.h>
@@ -18,33 +19,38 @@
 
 enum { PAGE = 4096, LONGEST = 200, RESOURCE = SAILGARNET_DESCRIBED_RESOURCE_SIZE, DEVICE = SAILGARNET_DESCRIBED_DEVICE_SIZE };
 /* The functions, and two that touch the byte before and the byte past a buffer, to see that both are caught. */
-enum function { FRESH, PLAN, CHECK, WRITE, DESCRIBE, FUNCTIONS, BEFORE = FUNCTIONS, PAST, TOUCHES };
-/* What is lent; ROOM is the plan of the planner. */
-enum { TABLE, STATE, ROOM, LIST, RESOURCES, DEVICES, LENT };
+enum function { FRESH, PLAN, CHECK, BRING_UP, CHECK_BRING_UP, WRITE, DESCRIBE, FUNCTIONS, BEFORE = FUNCTIONS, PAST, TOUCHES };
+/* What is lent; ROOM is for a plan. Bring-up has a state of its own, REPORTED, and its checker a list of its own, SWITCHING. */
+enum { TABLE, STATE, REPORTED, ROOM, LIST, SWITCHING, RESOURCES, DEVICES, LENT };
 enum { AT_END, AT_START, PLACES };
 /* What a function does with a buffer; it fills one without reading it. */
 enum use { NONE, READS, CHANGES, FILLS };
 
-static const char *const functions[TOUCHES] = {"sailgarnet_fresh", "sailgarnet_plan", "sailgarnet_check", "sailgarnet_write",
-                                               "sailgarnet_describe", "a touch before", "a touch past"};
-static const char *const names[LENT] = {"table", "state", "plan", "list", "resources", "devices"};
+static const char *const functions[TOUCHES] = {"sailgarnet_fresh", "sailgarnet_plan", "sailgarnet_check", "sailgarnet_bring_up",
+                                               "sailgarnet_check_bring_up", "sailgarnet_write", "sailgarnet_describe",
+                                               "a touch before", "a touch past"};
+static const char *const names[LENT] = {"table", "state", "reported state", "plan", "list", "list of bring-up", "resources", "devices"};
 static const char *const places[PLACES] = {"each ending at a forbidden page", "each starting after a forbidden page"};
 static const enum use uses[TOUCHES][LENT] = {
     [FRESH] = {[TABLE] = READS, [STATE] = FILLS},
     [PLAN] = {[TABLE] = READS, [STATE] = CHANGES, [ROOM] = FILLS},
     [CHECK] = {[TABLE] = READS, [STATE] = READS, [LIST] = READS},
+    [BRING_UP] = {[TABLE] = READS, [REPORTED] = CHANGES, [ROOM] = FILLS},
+    [CHECK_BRING_UP] = {[TABLE] = READS, [REPORTED] = READS, [SWITCHING] = READS},
     [WRITE] = {[RESOURCES] = READS, [DEVICES] = READS, [TABLE] = FILLS},
     [DESCRIBE] = {[TABLE] = READS, [RESOURCES] = FILLS, [DEVICES] = FILLS},
-    [BEFORE] = {READS, READS, READS, READS, READS, READS},
-    [PAST] = {READS, READS, READS, READS, READS, READS},
+    [BEFORE] = {READS, READS, READS, READS, READS, READS, READS, READS},
+    [PAST] = {READS, READS, READS, READS, READS, READS, READS, READS},
 };
 /* The answers that a function can give, bit n for answer n. */
 static const uint32_t possible[FUNCTIONS] = {
-    [FRESH] = 0xff,     /* 0 to 7 */
-    [PLAN] = 0x7ffff,   /* 0 to 18 */
-    [CHECK] = 0xffdff,  /* 0 to 8, 10 to 19 */
-    [WRITE] = 0x277,    /* 0 to 2, 4 to 6, 9 */
-    [DESCRIBE] = 0x27f, /* 0 to 6, 9 */
+    [FRESH] = 0xff,             /* 0 to 7 */
+    [PLAN] = 0x7ffff,           /* 0 to 18 */
+    [CHECK] = 0xffdff,          /* 0 to 8, 10 to 19 */
+    [BRING_UP] = 0x3ff,         /* 0 to 9 */
+    [CHECK_BRING_UP] = 0x801ff, /* 0 to 8, 19 */
+    [WRITE] = 0x277,            /* 0 to 2, 4 to 6, 9 */
+    [DESCRIBE] = 0x27f,         /* 0 to 6, 9 */
 };
 
 /* A call. Its bytes are the first of content; what is to be filled holds those of content[ROOM] before. */
@@ -67,6 +73,8 @@ static uint8_t *volatile touched;
 
 static enum use use(int i) { return uses[in.function][i]; }
 static int lends(int i) { return use(i) != NONE; }
+static int is_state(int i) { return i == STATE || i == REPORTED; }
+static int is_list(int i) { return i == LIST || i == SWITCHING; }
 
 static void fail(const char *what)
 {
@@ -126,6 +134,10 @@ static uint64_t call(uint8_t *const at[LENT])
         return sailgarnet_plan(at[TABLE], length[TABLE], at[STATE], length[STATE], in.kind, in.device, in.a, in.b, at[ROOM], length[ROOM]);
     case CHECK:
         return sailgarnet_check(at[TABLE], length[TABLE], at[STATE], length[STATE], in.kind, in.device, in.a, in.b, at[LIST], length[LIST]);
+    case BRING_UP:
+        return sailgarnet_bring_up(at[TABLE], length[TABLE], at[REPORTED], length[REPORTED], at[ROOM], length[ROOM]);
+    case CHECK_BRING_UP:
+        return sailgarnet_check_bring_up(at[TABLE], length[TABLE], at[REPORTED], length[REPORTED], at[SWITCHING], length[SWITCHING]);
     case WRITE:
         return sailgarnet_write(in.version, at[RESOURCES], length[RESOURCES], at[DEVICES], length[DEVICES], at[TABLE], length[TABLE]);
     case DESCRIBE:
@@ -161,9 +173,9 @@ static size_t output(int i, uint64_t answer)
 
     if (use(i) == NONE || use(i) == READS)
         return 0;
-    if (i == STATE)
+    if (is_state(i))
         return SAILGARNET_STATE_SIZE;
-    if (in.function == PLAN)
+    if (i == ROOM)
         return 4 * count;
     if (in.function == WRITE)
         return count;
@@ -191,25 +203,59 @@ static void write_described(size_t count, size_t resources_len, size_t devices_l
         fail("what it described is not written as what it was lent");
 }
 
+/* A move to the present state has no calls exactly if what is on is what is needed. */
+static void check_brought_up(size_t count)
+{
+    const uint8_t *table = content[TABLE], *before = content[REPORTED], *after = ordinary[REPORTED], *list = ordinary[ROOM];
+    size_t length = in.length[TABLE];
+
+    if (sailgarnet_check_bring_up(table, length, before, SAILGARNET_STATE_SIZE, list, 4 * count) != SAILGARNET_DONE)
+        fail("its checker refuses its list");
+    if (!same(before, after, SAILGARNET_ENTRIES_SIZE))
+        fail("it changed device entries");
+    if (sailgarnet_check_bring_up(table, length, after, SAILGARNET_STATE_SIZE, list, 0) != SAILGARNET_DONE)
+        fail("another bring-up would have calls");
+    if (sailgarnet_device_count(table) > 0 &&
+        sailgarnet_check(table, length, after, SAILGARNET_STATE_SIZE, SAILGARNET_MOVE, 0, after[0], 0, list, 0) != SAILGARNET_DONE)
+        fail("what is on is not what is needed");
+}
+
+/* Whether a call can be done with a buffer of this length: a state image, room for any plan, whole calls. */
+static int good_length(int i)
+{
+    size_t length = in.length[i];
+
+    if (is_state(i))
+        return length == SAILGARNET_STATE_SIZE;
+    if (i == ROOM)
+        return length >= SAILGARNET_PLAN_SIZE;
+    return !is_list(i) || length % 4 == 0;
+}
+
 /* The answer is one that the function can give, and all is as it was but the output of a call that is done. */
 static void judge(uint64_t answer)
 {
     unsigned number = sailgarnet_number_of(answer);
+    int done = number == SAILGARNET_DONE;
 
     if (number >= 32 || !(possible[in.function] >> number & 1))
         fail("it cannot give this answer");
-    if (number == SAILGARNET_DONE ? sailgarnet_place_of(answer) != 0 : sailgarnet_count_of(answer) != 0)
+    if (done ? sailgarnet_place_of(answer) != 0 : sailgarnet_count_of(answer) != 0)
         fail("a call that is done has no place, and a refusal no count");
     for (int i = 0; i < LENT; i++) {
-        size_t front = number == SAILGARNET_DONE ? output(i, answer) : 0;
+        size_t front = done ? output(i, answer) : 0;
+        if (lends(i) && done && !good_length(i))
+            fail("it cannot be done with a buffer of this length");
         if (lends(i) && front > in.length[i])
             fail("its output is longer than what it was lent");
         if (lends(i) && !same(ordinary[i] + front, source(i) + front, in.length[i] - front))
             fail("it changed bytes that it must leave");
     }
-    if (number == SAILGARNET_DONE && in.function == WRITE)
+    if (done && in.function == BRING_UP)
+        check_brought_up(sailgarnet_count_of(answer));
+    if (done && in.function == WRITE)
         describe_written(sailgarnet_count_of(answer));
-    if (number == SAILGARNET_DONE && in.function == DESCRIBE)
+    if (done && in.function == DESCRIBE)
         write_described(sailgarnet_count_of(answer), output(RESOURCES, answer), output(DEVICES, answer));
     given[in.function] |= UINT32_C(1) << number;
 }
@@ -287,14 +333,35 @@ static void request(uint32_t kind, uint32_t device, uint32_t a, uint32_t b)
     in.b = b;
 }
 
-/* The table in content, of this length, its description, and its fresh state. */
+/* Lends a checker the calls of a plan; they again follow the list. Of a refusal the list is empty. */
+static void lend_list(int i, const uint8_t *plan, uint64_t answer)
+{
+    size_t length = 4 * (size_t)sailgarnet_count_of(answer);
+
+    for (size_t k = 0; length > 0 && k < LONGEST; k++)
+        content[i][k] = plan[k % length];
+    in.length[i] = length;
+}
+
+/* Lends bring-up the entries of the state in content with this on-set, and its checker the list that it gives. */
+static void report(uint32_t on)
+{
+    uint8_t state[SAILGARNET_STATE_SIZE], plan[SAILGARNET_PLAN_SIZE];
+
+    memcpy(state, content[STATE], sizeof state);
+    sailgarnet_on_write(state, on);
+    memcpy(content[REPORTED], state, sizeof state);
+    lend_list(SWITCHING, plan, sailgarnet_bring_up(content[TABLE], in.length[TABLE], state, sizeof state, plan, sizeof plan));
+}
+
+/* The table in content, of this length, its description, and its fresh state, for bring-up too. */
 static void begin(size_t length)
 {
     uint64_t answer;
 
     memset(&in, 0, sizeof in);
     in.length[TABLE] = length;
-    in.length[STATE] = SAILGARNET_STATE_SIZE;
+    in.length[STATE] = in.length[REPORTED] = SAILGARNET_STATE_SIZE;
     in.length[ROOM] = SAILGARNET_PLAN_SIZE;
     in.length[RESOURCES] = RESOURCE * (size_t)content[TABLE][3];
     in.length[DEVICES] = DEVICE * (size_t)content[TABLE][6];
@@ -303,6 +370,7 @@ static void begin(size_t length)
     if (sailgarnet_number_of(answer) != SAILGARNET_DONE ||
         sailgarnet_fresh(content[TABLE], length, content[STATE], SAILGARNET_STATE_SIZE) != SAILGARNET_DONE)
         fail("the table of the test is refused");
+    report(sailgarnet_on_read(content[STATE]));
 }
 
 static void begin_station(void)
@@ -328,18 +396,14 @@ static void walk(uint32_t kind, uint32_t device, uint32_t a, uint32_t b)
         fail("the state of the test cannot be reached");
 }
 
-/* Lends the checker the planner's own list for a request; its calls again follow it. Of a refused request the list is empty. */
+/* Lends the checker the planner's own list for a request. */
 static void ask(uint32_t kind, uint32_t device, uint32_t a, uint32_t b)
 {
     uint8_t state[SAILGARNET_STATE_SIZE], plan[SAILGARNET_PLAN_SIZE];
-    size_t length;
 
     request(kind, device, a, b);
     memcpy(state, content[STATE], sizeof state);
-    length = 4 * (size_t)sailgarnet_count_of(plan_for(state, plan));
-    for (size_t i = 0; length > 0 && i < LONGEST; i++)
-        content[LIST][i] = plan[i % length];
-    in.length[LIST] = length;
+    lend_list(LIST, plan, plan_for(state, plan));
 }
 
 /* Every length of a lent buffer beside every length of another one, the third as it is. */
@@ -389,7 +453,9 @@ static void damages(void)
 {
     damage(TABLE);
     damage(STATE);
+    damage(REPORTED);
     damage(LIST);
+    damage(SWITCHING);
 }
 
 static void damage_description(void)
@@ -433,20 +499,35 @@ static void requests(void)
                 }
 }
 
+/* Bring-up with no resource on, with one, with all but one and with all; and with one that there is not. */
+static void on_sets(void)
+{
+    uint32_t all = (uint32_t)((UINT64_C(1) << sailgarnet_resource_count(content[TABLE])) - 1);
+
+    for (unsigned r = 0; r <= SAILGARNET_MAX_RESOURCES; r++) {
+        uint32_t one = (uint32_t)(UINT64_C(1) << r);
+
+        report(one);
+        compare_readers(REPORTED);
+        report(all & ~one);
+        compare_readers(REPORTED);
+    }
+}
+
+static int lends_empty(int i) { return lends(i) && in.length[i] == 0; }
+
 /* What the bench station gets where buffers are empty. Without resources, the sets of its bus have one that there is not. */
 static unsigned answer_to_empty(void)
 {
-    const size_t *length = in.length;
-
-    if (length[TABLE] == 0)
+    if (lends_empty(TABLE))
         return in.function == WRITE ? SAILGARNET_NO_ROOM : SAILGARNET_NOT_A_TABLE;
     if (in.function == WRITE)
-        return length[RESOURCES] == 0 && length[DEVICES] > 0 ? SAILGARNET_BAD_DEVICE : SAILGARNET_DONE;
+        return lends_empty(RESOURCES) && !lends_empty(DEVICES) ? SAILGARNET_BAD_DEVICE : SAILGARNET_DONE;
     if (in.function == DESCRIBE)
-        return length[RESOURCES] == 0 || length[DEVICES] == 0 ? SAILGARNET_NO_ROOM : SAILGARNET_DONE;
-    if (length[STATE] == 0)
+        return lends_empty(RESOURCES) || lends_empty(DEVICES) ? SAILGARNET_NO_ROOM : SAILGARNET_DONE;
+    if (lends_empty(STATE) || lends_empty(REPORTED))
         return SAILGARNET_BAD_STATE;
-    return in.function == PLAN && length[ROOM] == 0 ? SAILGARNET_NO_ROOM : SAILGARNET_DONE;
+    return lends_empty(ROOM) ? SAILGARNET_NO_ROOM : SAILGARNET_DONE;
 }
 
 /* Buffers without bytes, in each choice of them, at this address. */
@@ -466,7 +547,7 @@ static void empty_at(uint8_t *const *address)
     }
 }
 
-/* A request without calls, to which the empty list conforms, so that nothing but the empty buffer decides. */
+/* A request and a bring-up without calls, to which the empty list conforms, so that nothing but the empty buffer decides. */
 static void empties(void)
 {
     uint8_t *addresses[] = {NULL,
@@ -474,7 +555,9 @@ static void empties(void)
                             (uint8_t *)UINTPTR_MAX,
                             fenced[TABLE] - PAGE,
                             fenced[STATE] - 1,
+                            fenced[REPORTED] - 1,
                             fenced[LIST] + PAGE,
+                            fenced[SWITCHING] + PAGE,
                             fenced[ROOM] + PAGE + 100,
                             fenced[RESOURCES] + PAGE,
                             fenced[DEVICES] - 1};
@@ -488,11 +571,11 @@ static void empties(void)
 /* What the bench station gets where a buffer is longer than it need be. */
 static unsigned answer_to_long(int i)
 {
-    if (i == STATE)
+    if (is_state(i))
         return SAILGARNET_BAD_STATE;
     if (use(i) == FILLS)
         return SAILGARNET_DONE;
-    return i == TABLE ? SAILGARNET_WRONG_LENGTH : i == LIST ? SAILGARNET_NOT_CONFORMING : SAILGARNET_TOO_MANY;
+    return i == TABLE ? SAILGARNET_WRONG_LENGTH : is_list(i) ? SAILGARNET_NOT_CONFORMING : SAILGARNET_TOO_MANY;
 }
 
 /*
@@ -502,7 +585,7 @@ static unsigned answer_to_long(int i)
 static void long_buffer(uint8_t *vast, int i)
 {
     static const unsigned bits[] = {8, 16, 32};
-    size_t unit = i == DEVICES ? DEVICE : i == RESOURCES || i == LIST ? RESOURCE : 1, before = in.length[i];
+    size_t unit = i == DEVICES ? DEVICE : i == RESOURCES || is_list(i) ? RESOURCE : 1, before = in.length[i];
     size_t low = answer_to_long(i) == SAILGARNET_DONE ? 0 : before;
     uint8_t *at[LENT];
     uint64_t answer = 0;
@@ -529,6 +612,7 @@ static void long_buffers(void)
     require(vast != MAP_FAILED && mprotect(vast, PAGE, PROT_READ | PROT_WRITE) == 0, "no address space to be had");
     begin_station();
     ask(SAILGARNET_MOVE, 1, SAILGARNET_D3HOT, 0);
+    report(1u << 1);
     for (in.function = FRESH; in.function < FUNCTIONS; in.function++)
         for (int i = 0; i < LENT; i++)
             if (lends(i))
@@ -543,6 +627,7 @@ static void bench_station(void)
     damage_description();
     requests();
     ask(SAILGARNET_ARM, 1, 4, SAILGARNET_D2);
+    report(1u << 1);
     damages();
     walk(SAILGARNET_ARM, 1, 3, SAILGARNET_D2);
     requests();
@@ -557,7 +642,20 @@ static void bench_station(void)
     requests();
 }
 
-/* All but the last device in D0, every fourth one armed; the last one has the most calls. */
+/* The camera in D2 and armed, the lamp in D3cold: r2 is to be turned on, and r1 to be turned off. */
+static void bench_bring_up(void)
+{
+    begin_station();
+    walk(SAILGARNET_ARM, 1, 3, SAILGARNET_D2);
+    walk(SAILGARNET_MOVE, 1, SAILGARNET_D2, 0);
+    walk(SAILGARNET_MOVE, 2, SAILGARNET_D3COLD, 0);
+    on_sets();
+    report(1u << 0 | 1u << 1);
+    lengths();
+    damages();
+}
+
+/* All but the last device in D0, every fourth one armed; the last one has the most calls. Bring-up has to switch each resource. */
 static void full_table(void)
 {
     begin(fill_table(content[TABLE], FULL, FULL));
@@ -565,13 +663,19 @@ static void full_table(void)
         walk(SAILGARNET_ARM, d, 3, SAILGARNET_D3HOT);
     requests();
     ask(SAILGARNET_MOVE, FULL - 1, SAILGARNET_D3COLD, 0);
+    on_sets();
+    report(0);
     single_lengths();
     lengths();
     damages();
     damage_description();
     walk(SAILGARNET_MOVE, FULL - 1, SAILGARNET_D3COLD, 0);
     ask(SAILGARNET_MOVE, FULL - 1, SAILGARNET_D0, 0);
+    on_sets();
+    report(0xffffff00u);
     lengths();
+    damage(REPORTED);
+    damage(SWITCHING);
 }
 
 /* Whole tables of every size. A buffer without bytes is a null pointer. */
@@ -584,6 +688,7 @@ static void sizes(void)
             begin(fill_table(content[TABLE], resources, devices));
             in.empty = &nothing;
             ask(SAILGARNET_MOVE, devices - 1, SAILGARNET_D3COLD, 0);
+            report(sailgarnet_on_read(content[STATE]) & 0xaaaaaaaau);
             compare_lent(TABLE);
         }
 }
@@ -631,6 +736,7 @@ int main(void)
     empties();
     long_buffers();
     bench_station();
+    bench_bring_up();
     full_table();
     sizes();
     for (int i = 0; i < FUNCTIONS; i++) {

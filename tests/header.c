@@ -1,5 +1,5 @@
 /*
- * The header alone, as C and as C++: its sizes, and that its functions on answers, calls and records read and write the bytes that
+ * The header alone, as C and as C++: its sizes, and that its functions on answers, calls, on-sets and records read and write the bytes that
  * docs/RULES.md says and no other.
  */
 #include <stdio.h>
@@ -26,7 +26,8 @@ static void sizes(void)
     require(SAILGARNET_MAX_TABLE_SIZE == 8 + RESOURCE * SAILGARNET_MAX_RESOURCES + SAILGARNET_RECORD_SIZE * SAILGARNET_MAX_DEVICES,
             "the longest table");
     require(SAILGARNET_PLAN_SIZE == 4 * (SAILGARNET_MAX_RESOURCES + 1), "a plan");
-    require(SAILGARNET_STATE_SIZE == 4 * SAILGARNET_MAX_DEVICES + 4, "a state image");
+    require(SAILGARNET_ENTRIES_SIZE == 4 * SAILGARNET_MAX_DEVICES, "the device entries of a state image");
+    require(SAILGARNET_STATE_SIZE == SAILGARNET_ENTRIES_SIZE + 4, "a state image");
 }
 
 /* The answers of RULES.md 9.5, and a count of more than a byte. */
@@ -49,6 +50,21 @@ static void calls(void)
     require(sailgarnet_call_kind_of(plan, 3) == SAILGARNET_CALL_SET_WAKE && sailgarnet_call_wake_on(plan, 3), "_DSW on");
     require(sailgarnet_call_wake_sleep(plan, 3) == 3 && sailgarnet_call_wake_state(plan, 3) == SAILGARNET_D2, "S3 and D2 of _DSW");
     require(!sailgarnet_call_wake_on(plan, 4), "_DSW off");
+}
+
+/* Bytes 128 to 131 of a state image, lowest first (RULES.md 2.7), with a byte past it. */
+static void on_set(void)
+{
+    static const uint8_t on[] = {0x01, 0x20, 0xff, 0x80};
+    uint8_t state[SAILGARNET_STATE_SIZE + 1], expected[SAILGARNET_STATE_SIZE + 1];
+
+    for (size_t k = 0; k < sizeof state; k++)
+        state[k] = expected[k] = (uint8_t)k;
+    require(sailgarnet_on_read(state) == 0x83828180u, "the on-set of a state");
+    memcpy(expected + 128, on, sizeof on);
+    sailgarnet_on_write(state, 0x80ff2001u);
+    require(memcmp(state, expected, sizeof state) == 0, "an on-set is written to its bytes and to no other");
+    require(sailgarnet_on_read(state) == 0x80ff2001u, "an on-set that was written");
 }
 
 /* Lists of three records, of which byte k is k. */
@@ -127,6 +143,7 @@ int main(void)
     sizes();
     answers();
     calls();
+    on_set();
     layout();
     none();
     survives(RESOURCE, rewrite_resource, "a resource's bytes are not the same once read and written");

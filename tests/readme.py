@@ -73,6 +73,18 @@ def plans(page):
         sys.exit(f"not in examples/demo.out:\n{shown}")
 
 
+def power_on(page):
+    """The command brings the bench station up as shown, after the commands that leave it so; in a folder that is removed again."""
+    line, *expected = block(page, "sailgarnet bring-up")
+    cargo = f"cargo run --quiet --offline --manifest-path '{os.getcwd()}/host/Cargo.toml' -p sailgarnet-cli --"
+    with tempfile.TemporaryDirectory() as folder:
+        os.symlink(os.path.abspath("examples"), os.path.join(folder, "examples"))
+        before = [f'sailgarnet() {{ {cargo} "$@"; }}', f"cd '{folder}'", *block(page, "sailgarnet fresh")]
+        printed = run("\n".join([*before, "echo --", line]))
+    if printed[printed.index("--") + 1:] != expected:
+        sys.exit("\n".join([line, "prints", *printed]))
+
+
 def mapped(page):
     """The map has a row for each crate, and each of its places is there."""
     places = re.findall(r"^\| `([^`]+)` \|", page, re.MULTILINE)
@@ -101,9 +113,11 @@ program(host, "rust", "host/sailgarnet/examples/first.rs", "cargo run --quiet --
 installed(readme, program(readme, "c", "examples/first.c", "gcc -Iinclude"))
 proving(readme)
 plans(readme)
+power_on(readme)
 mapped(readme)
 links("README.md")
 links("host/README.md")
 links("docs/STATION-TEXT.md")
 links("docs/changes/README.md")
 links("docs/changes/CR-1.md")
+links("docs/changes/CR-2.md")

@@ -39,6 +39,14 @@ static unsigned char stack[STACK] __attribute__((aligned(64)));
 static ucontext_t outside, inside;
 static int failures;
 
+static void require(int holds, const char *what)
+{
+    if (!holds) {
+        printf("FAILED: %s\n", what);
+        failures++;
+    }
+}
+
 /* Empty functions; the arguments past the sixth are on the stack. */
 static uint64_t __attribute__((noinline)) empty_of_6(const uint8_t *one, size_t one_len, const uint8_t *other, size_t other_len,
                                                      const uint8_t *third, size_t third_len)
@@ -94,6 +102,14 @@ static void run_check(void)
 {
     answer = sailgarnet_check(in.table, in.table_len, in.state, in.state_len, in.kind, in.device, in.a, in.b, in.list, in.list_len);
 }
+static void run_bring_up(void)
+{
+    answer = sailgarnet_bring_up(in.table, in.table_len, in.state, in.state_len, in.plan, in.plan_len);
+}
+static void run_check_bring_up(void)
+{
+    answer = sailgarnet_check_bring_up(in.table, in.table_len, in.state, in.state_len, in.list, in.list_len);
+}
 static void run_write(void)
 {
     answer = sailgarnet_write(in.version, in.resources, in.resources_len, in.devices, in.devices_len, in.written, in.written_len);
@@ -109,11 +125,14 @@ struct function {
     void (*run)(void), (*run_empty)(void);
 };
 
-enum { FRESH, PLAN, CHECK, WRITE, DESCRIBE, LARGE };
+/* A planner is followed by its checker. */
+enum { FRESH, PLAN, CHECK, BRING_UP, CHECK_BRING_UP, WRITE, DESCRIBE, LARGE };
 static const struct function functions[] = {
     [FRESH] = {"fresh", run_fresh, run_empty_of_6},
     [PLAN] = {"plan", run_plan, run_empty_of_10},
     [CHECK] = {"check", run_check, run_empty_of_10},
+    [BRING_UP] = {"bring_up", run_bring_up, run_empty_of_6},
+    [CHECK_BRING_UP] = {"check_bring_up", run_check_bring_up, run_empty_of_6},
     [WRITE] = {"write", run_write, run_empty_of_7},
     [DESCRIBE] = {"describe", run_describe, run_empty_of_6},
     [LARGE] = {"large", run_large, run_empty_of_6},
@@ -165,10 +184,18 @@ static void measure(int function, const char *title, unsigned number)
     }
 }
 
-static void both(const char *title, unsigned number)
+/* Measures a planner and its checker. */
+static void both(int planner, const char *title, unsigned number)
 {
-    measure(PLAN, title, number);
-    measure(CHECK, title, number);
+    measure(planner, title, number);
+    measure(planner + 1, title, number);
+}
+
+/* Measures what is lent a table and a state, for requests and for bring-up. */
+static void all_four(const char *title, unsigned number)
+{
+    both(PLAN, title, number);
+    both(BRING_UP, title, number);
 }
 
 static void request(uint32_t kind, uint32_t device, uint32_t a, uint32_t b)
@@ -177,6 +204,13 @@ static void request(uint32_t kind, uint32_t device, uint32_t a, uint32_t b)
     in.device = device;
     in.a = a;
     in.b = b;
+}
+
+/* Runs what must be done before another call is measured. */
+static void prepare(void (*run)(void))
+{
+    run();
+    require(sailgarnet_number_of(answer) == SAILGARNET_DONE, "a call that prepares another is refused");
 }
 
 /* Lends a table, its fresh state and its description, and no list. */
@@ -191,32 +225,48 @@ static void lend(const uint8_t *table, size_t table_len)
     in.resources_len = SAILGARNET_DESCRIBED_RESOURCE_SIZE * (size_t)sailgarnet_resource_count(table);
     in.devices_len = SAILGARNET_DESCRIBED_DEVICE_SIZE * (size_t)sailgarnet_device_count(table);
     in.written_len = table_len;
-    run_describe();
-    if (sailgarnet_number_of(answer) != SAILGARNET_DONE || sailgarnet_fresh(table, table_len, in.state, in.state_len) != SAILGARNET_DONE)
-        failures++;
+    prepare(run_describe);
+    prepare(run_fresh);
 }
 
 /* Carries out a request, so that the next one starts from there. */
 static void walk(uint32_t kind, uint32_t device, uint32_t a, uint32_t b)
 {
     request(kind, device, a, b);
-    run_plan();
-    if (sailgarnet_number_of(answer) != SAILGARNET_DONE)
-        failures++;
+    prepare(run_plan);
 }
 
-/* Lends the planner's own list for a request. */
-static void own_list(uint32_t kind, uint32_t device, uint32_t a, uint32_t b)
+/* Lends a planner's own list from what is lent. */
+static void own_list(int planner)
 {
     static uint8_t list[SAILGARNET_PLAN_SIZE];
     struct input before = in;
 
-    walk(kind, device, a, b);
+    prepare(functions[planner].run);
     memcpy(list, in.plan, sizeof list);
     in = before;
-    request(kind, device, a, b);
     in.list = list;
     in.list_len = 4 * (size_t)sailgarnet_count_of(answer);
+}
+
+/* A request, with the planner's own list for its checker. */
+static void measure_request(const char *title, uint32_t kind, uint32_t device, uint32_t a, uint32_t b)
+{
+    request(kind, device, a, b);
+    own_list(PLAN);
+    both(PLAN, title, 0);
+}
+
+/* Bring-up with this on-set, which has so many calls. The state is as before afterwards. */
+static void measure_bring_up(const char *title, uint32_t on, unsigned count)
+{
+    uint32_t before = sailgarnet_on_read(in.state);
+
+    sailgarnet_on_write(in.state, on);
+    own_list(BRING_UP);
+    require(sailgarnet_count_of(answer) == count, "this bring-up has another number of calls");
+    both(BRING_UP, title, 0);
+    sailgarnet_on_write(in.state, before);
 }
 
 static void bench_station(void)
@@ -226,11 +276,10 @@ static void bench_station(void)
     measure(DESCRIBE, "bench", 0);
     measure(WRITE, "bench", 0);
     walk(SAILGARNET_MOVE, 2, SAILGARNET_D3COLD, 0);
-    own_list(SAILGARNET_MOVE, 1, SAILGARNET_D3HOT, 0);
-    both("bench W4", 0);
+    measure_request("bench W4", SAILGARNET_MOVE, 1, SAILGARNET_D3HOT, 0);
     walk(SAILGARNET_MOVE, 1, SAILGARNET_D3HOT, 0);
-    own_list(SAILGARNET_MOVE, 1, SAILGARNET_D0, 0);
-    both("bench W5", 0);
+    measure_request("bench W5", SAILGARNET_MOVE, 1, SAILGARNET_D0, 0);
+    measure_bring_up("bench, 3 calls", 1u << 1 | 1u << 2, 3);
 }
 
 /* All but the last device in D0, every fourth one armed. */
@@ -247,36 +296,36 @@ static void full_table(const uint8_t *table)
     measure(FRESH, "full", 0);
     measure(DESCRIBE, "full", 0);
     measure(WRITE, "full", 0);
-    own_list(SAILGARNET_MOVE, FULL - 1, SAILGARNET_D3COLD, 0);
-    both("full, 25 calls to D3cold", 0);
+    measure_request("full, 25 calls to D3cold", SAILGARNET_MOVE, FULL - 1, SAILGARNET_D3COLD, 0);
+    measure_bring_up("full, 32 to turn on", 0, 32);
     walk(SAILGARNET_MOVE, FULL - 1, SAILGARNET_D3COLD, 0);
-    own_list(SAILGARNET_MOVE, FULL - 1, SAILGARNET_D0, 0);
-    both("full, 25 calls to D0", 0);
-    own_list(SAILGARNET_ARM, 3, 4, SAILGARNET_D3COLD);
-    both("full, arming again", 0);
-    own_list(SAILGARNET_DISARM, 3, 0, 0);
-    both("full, disarming", 0);
+    measure_request("full, 25 calls to D0", SAILGARNET_MOVE, FULL - 1, SAILGARNET_D0, 0);
+    measure_request("full, arming again", SAILGARNET_ARM, 3, 4, SAILGARNET_D3COLD);
+    measure_request("full, disarming", SAILGARNET_DISARM, 3, 0, 0);
+    measure_bring_up("full, 8 to turn on and 24 off", 0xffffff00u, 32);
 }
 
 static void refused_tables_and_states(uint8_t *table)
 {
+    static const uint8_t deeper_than_wake[] = {SAILGARNET_D1, 1, 3, SAILGARNET_D0};
+
     lend_full(table);
     in.table_len = 0;
     measure(FRESH, "empty table", 1);
     measure(DESCRIBE, "empty table", 1);
-    both("empty table", 1);
+    all_four("empty table", 1);
     in.table_len = FULL_TABLE;
     table[FULL_TABLE - 1] = 1;
     measure(FRESH, "table, last field", 5);
     measure(DESCRIBE, "table, last field", 5);
-    both("table, last field", 5);
+    all_four("table, last field", 5);
     table[FULL_TABLE - 1] = 0;
     in.state_len--;
     measure(FRESH, "state of 131 bytes", 7);
-    both("state of 131 bytes", 7);
+    all_four("state of 131 bytes", 7);
     in.state_len++;
-    in.state[131] = 0x7f;
-    both("consistency, last device", 8);
+    memcpy(in.state + 4 * (FULL - 1), deeper_than_wake, sizeof deeper_than_wake);
+    all_four("consistency, last device", 8);
 }
 
 static void refused_requests_and_lists(const uint8_t *table)
@@ -285,17 +334,20 @@ static void refused_requests_and_lists(const uint8_t *table)
 
     lend_full(table);
     request(0, 0, 0, 0);
-    both("request, kind", 10);
+    both(PLAN, "request, kind", 10);
     request(SAILGARNET_MOVE, 0, SAILGARNET_D3COLD, 0);
-    both("request, child", 14);
+    both(PLAN, "request, child", 14);
     request(SAILGARNET_ARM, 31, 4, SAILGARNET_D3COLD);
     in.plan_len--;
     measure(PLAN, "room", 9);
+    measure(BRING_UP, "room", 9);
     in.list = list;
     in.list_len = sizeof list;
     measure(CHECK, "list of 10000 words", 19);
+    measure(CHECK_BRING_UP, "list of 10000 words", 19);
     in.list_len--;
     measure(CHECK, "list of 39999 bytes", 19);
+    measure(CHECK_BRING_UP, "list of 39999 bytes", 19);
 }
 
 /* What is refused stays, since what is refused after it is looked at before it. */

@@ -7,8 +7,9 @@ use lib.ListN.{length, getD}
 use Rattle.rules.specs.declared.Request.{Request}
 use Rattle.rules.specs.declared.Verdict.{Verdict}
 use Rattle.rules.specs.Answers.{numberOf}
+use Rattle.bench.specs.declared.tasks.Task.the-variants.{Plan, BringUp}
 use Rattle.bench.specs.Script.{byteAt, requestAt}
-use Rattle.bench.specs.Cases.{more, added, sizeBy, sizeAfter, tableBy, tableAfter, started, moved, stateBy, stateThen}
+use Rattle.bench.specs.Cases.{more, added, sizeBy, sizeAfter, tableBy, tableAfter, started, kept, moved, stateBy, stateThen}
 use Rattle.bench.specs.Cases.{tableAnswer, stateAnswer, statusGiven, listAnswer, wordsGiven, recordLength}
 use Rattle.bench.specs.Cases.{writeAnswer, describeAnswer, seenBy, seen}
 
@@ -46,17 +47,25 @@ module _ (l : List ℕ) (x : ℕ) (e : x ≡ getD l 0 0) (t b r : List ℕ) wher
   unfolding stateBy
   state-f k h = of (λ z. stateBy z t b l) x _ e 0x46 r k h
 
-  pub state-q : x ≡ 0x51 → (q : Request) → q ≡ requestAt l 4 → r ≡ moved t b q 132 → r ≡ stateThen t b l
+  pub state-k : x ≡ 0x4b → r ≡ kept l → r ≡ stateThen t b l
+  unfolding stateBy
+  state-k k h = of (λ z. stateBy z t b l) x _ e 0x4b r k h
+
+  pub state-q : x ≡ 0x51 → (q : Request) → q ≡ requestAt l 4 → r ≡ moved t b (Plan q) 132 → r ≡ stateThen t b l
   unfolding stateBy
   state-q k q f h = of (λ z. stateBy z t b l) x _ e 0x51 r k (h ∙ rw f refl)
 
-  pub state-p : x ≡ 0x50 → (q : Request) (n : ℕ) → q ≡ requestAt l 4 → n ≡ byteAt l 8 → r ≡ moved t b q n → r ≡ stateThen t b l
+  pub state-p : x ≡ 0x50 → (q : Request) (n : ℕ) → q ≡ requestAt l 4 → n ≡ byteAt l 8 → r ≡ moved t b (Plan q) n → r ≡ stateThen t b l
   unfolding stateBy
   state-p k q n f g h = of (λ z. stateBy z t b l) x _ e 0x50 r k (h ∙ rw (f, g) refl)
 
-  pub state-same : (x ≡ 0x46 → ⊥) → (x ≡ 0x51 → ⊥) → (x ≡ 0x50 → ⊥) → r ≡ b → r ≡ stateThen t b l
+  pub state-b : x ≡ 0x42 → (n : ℕ) → n ≡ byteAt l 0 → r ≡ moved t b BringUp n → r ≡ stateThen t b l
   unfolding stateBy
-  state-same f q p h = h ∙ rw (← e) (rw (ne-eqb _ _ f, ne-eqb _ _ q, ne-eqb _ _ p) refl)
+  state-b k n g h = of (λ z. stateBy z t b l) x _ e 0x42 r k (h ∙ rw g refl)
+
+  pub state-same : (x ≡ 0x46 → ⊥) → (x ≡ 0x4b → ⊥) → (x ≡ 0x51 → ⊥) → (x ≡ 0x50 → ⊥) → (x ≡ 0x42 → ⊥) → r ≡ b → r ≡ stateThen t b l
+  unfolding stateBy
+  state-same f k q p u h = h ∙ rw (← e) (rw (ne-eqb _ _ f, ne-eqb _ _ k, ne-eqb _ _ q, ne-eqb _ _ p, ne-eqb _ _ u) refl)
 
 module _ (l : List ℕ) (x : ℕ) (e : x ≡ getD l 0 0) (t whole b : List ℕ) (r : ℕ) where
   pub seen-d : x ≡ 0x44 → r ≡ tableAnswer whole l → r ≡ seen t whole b l
@@ -71,9 +80,13 @@ module _ (l : List ℕ) (x : ℕ) (e : x ≡ getD l 0 0) (t whole b : List ℕ) 
   unfolding seenBy
   seen-v k v f h = of (λ z. seenBy z t whole b l) x _ e 0x56 r k (h ∙ ap numberOf f)
 
-  pub seen-l : x ≡ 0x4c → r ≡ listAnswer t b l → r ≡ seen t whole b l
+  pub seen-l : x ≡ 0x4c → (q : Request) → q ≡ requestAt l 4096 → r ≡ listAnswer t b (Plan q) l 4 → r ≡ seen t whole b l
   unfolding seenBy
-  seen-l k h = of (λ z. seenBy z t whole b l) x _ e 0x4c r k h
+  seen-l k q f h = of (λ z. seenBy z t whole b l) x _ e 0x4c r k (h ∙ rw f refl)
+
+  pub seen-c : x ≡ 0x43 → r ≡ listAnswer t b BringUp l 0 → r ≡ seen t whole b l
+  unfolding seenBy
+  seen-c k h = of (λ z. seenBy z t whole b l) x _ e 0x43 r k h
 
   pub seen-w : x ≡ 0x57 → (v : Verdict) → v ≡ wordsGiven t b l → r ≡ numberOf v → r ≡ seen t whole b l
   unfolding seenBy
@@ -91,11 +104,11 @@ module _ (l : List ℕ) (x : ℕ) (e : x ≡ getD l 0 0) (t whole b : List ℕ) 
   unfolding seenBy
   seen-e k h = of (λ z. seenBy z t whole b l) x _ e 0x45 r k h
 
-  pub not-seen : (x ≡ 0x44 → ⊥) → (x ≡ 0x53 → ⊥) → (x ≡ 0x56 → ⊥) → (x ≡ 0x4c → ⊥) → (x ≡ 0x57 → ⊥) → (x ≡ 0x52 → ⊥)
+  pub not-seen : (x ≡ 0x44 → ⊥) → (x ≡ 0x53 → ⊥) → (x ≡ 0x56 → ⊥) → (x ≡ 0x4c → ⊥) → (x ≡ 0x43 → ⊥) → (x ≡ 0x57 → ⊥) → (x ≡ 0x52 → ⊥)
       → (x ≡ 0x4d → ⊥) → (x ≡ 0x45 → ⊥) → r ≡ 0 → r ≡ seen t whole b l
   unfolding seenBy
-  not-seen d s v i w o m n h =
-      h ∙ rw (← e) (rw (ne-eqb _ _ d, ne-eqb _ _ s, ne-eqb _ _ v, ne-eqb _ _ i) (
+  not-seen d s v i c w o m n h =
+      h ∙ rw (← e) (rw (ne-eqb _ _ d, ne-eqb _ _ s, ne-eqb _ _ v, ne-eqb _ _ i, ne-eqb _ _ c) (
       rw (ne-eqb _ _ w, ne-eqb _ _ o, ne-eqb _ _ m, ne-eqb _ _ n) refl))
 
 pub ruleset letters = (
@@ -106,13 +119,16 @@ pub ruleset letters = (
   table-plus,
   table-same,
   state-f,
+  state-k,
   state-q,
   state-p,
+  state-b,
   state-same,
   seen-d,
   seen-s,
   seen-v,
   seen-l,
+  seen-c,
   seen-w,
   seen-r,
   seen-m,

@@ -125,8 +125,8 @@ words-fit n m l e h = omega (arith, part-long n m l e h)
 
 pub words-are :
     (t b l list d ws : List ℕ) (n : ℕ) (q : Request) (v : Verdict) →
-    n ≡ listLength l →
-    list ≡ listBytes (replicate 1782 0) l →
+    n ≡ listLength l 4 →
+    list ≡ listBytes (replicate 1782 0) l 4 →
     ws ≡ put d 0 (byteWords (n / 4) (take n list)) →
     q ≡ requestAt l 4096 →
     v ≡ checkWords t b q (take (n / 4) ws) →

@@ -5,13 +5,15 @@ use mathlib.Core.List.{List, []}
 use lib.Dec.{eqb}
 use lib.ListN.{length, take, drop, replicate, getD, set}
 use Rattle.words.specs.Words.{byteWords}
-use Rattle.rules.specs.declared.Request.{Request}
 use Rattle.rules.specs.declared.Verdict.{Verdict}
 use Rattle.rules.specs.Answers.{numberOf}
 use Rattle.rules.specs.Rows.{blank}
-use Rattle.rules.specs.Outcomes.{fresh, planBytes, checkWords, checkBytes, tableAndStateVerdict, recordPart}
+use Rattle.rules.specs.Outcomes.{Outcome, fresh, planBytes, checkWords, checkBytes, tableAndStateVerdict, recordPart}
+use Rattle.rules.specs.BringUp.{bringUpBytes, checkBringUpBytes}
 use Rattle.rules.specs.Write.{write, describe}
 use Rattle.sailgarnet.specs.Packed.{packed}
+use Rattle.bench.specs.declared.tasks.Task.{Task}
+use Rattle.bench.specs.declared.tasks.Task.the-variants.{Plan, BringUp}
 use Rattle.bench.specs.Script.{byteAt, numberAt, requestAt, filled}
 
 -- ---- T and +: a table, or the two lists of records that one is written from, the first bytes of 1782
@@ -38,25 +40,41 @@ sizeAfter size l = sizeBy (getD l 0 0) size l
 abbrev pub tableAfter : ℕ → List ℕ → List ℕ → List ℕ
 tableAfter size l b = tableBy (getD l 0 0) size l b
 
--- ---- F, Q and P: a state, of the table t
+-- ---- F, K, Q, P and B: a state, of the table t
 
 -- the fresh state, or A5 in every byte
 abbrev pub started : List ℕ → List ℕ
 started t = fresh t (blank 132) .state
 
--- the state after a request with a plan of n bytes
-abbrev pub moved : List ℕ → List ℕ → Request → ℕ → List ℕ
-moved t b q n = planBytes t b q (take n (blank 255)) .state
+-- the line has the on-set, then the entries
+abbrev pub kept : List ℕ → List ℕ
+kept l = filled (filled (replicate 132 0) 0 l 4 0 128) 128 l 0 0 4
+
+-- a task on a plan of bytes, and its checker on a list of bytes
+unfoldable pub taskOutcome : List ℕ → List ℕ → Task → List ℕ → Outcome
+taskOutcome t b (Plan q) plan = planBytes t b q plan
+taskOutcome t b BringUp plan = bringUpBytes t b plan
+
+unfoldable pub taskChecked : List ℕ → List ℕ → Task → List ℕ → Verdict
+taskChecked t b (Plan q) list = checkBytes t b q list
+taskChecked t b BringUp list = checkBringUpBytes t b list
+
+-- the state after a task with a plan of n bytes
+abbrev pub moved : List ℕ → List ℕ → Task → ℕ → List ℕ
+moved t b task n = taskOutcome t b task (take n (blank 255)) .state
 
 unfoldable pub stateBy : ℕ → List ℕ → List ℕ → List ℕ → List ℕ
 stateBy letter t b l =
     cond (eqb letter 0x46) (started t)
-    (cond (eqb letter 0x51) (moved t b (requestAt l 4) 132) (cond (eqb letter 0x50) (moved t b (requestAt l 4) (byteAt l 8)) b))
+    (cond (eqb letter 0x4b) (kept l)
+    (cond (eqb letter 0x51) (moved t b (Plan (requestAt l 4)) 132)
+    (cond (eqb letter 0x50) (moved t b (Plan (requestAt l 4)) (byteAt l 8))
+    (cond (eqb letter 0x42) (moved t b BringUp (byteAt l 0)) b))))
 
 abbrev pub stateThen : List ℕ → List ℕ → List ℕ → List ℕ
 stateThen t b l = stateBy (getD l 0 0) t b l
 
--- ---- D, S, V, L, W, R, M and E: answers
+-- ---- D, S, V, L, C, W, R, M and E: answers
 
 -- the table with one byte changed: the line has a place, and what is then there
 abbrev pub damagedTable : List ℕ → List ℕ → List ℕ
@@ -73,27 +91,27 @@ abbrev pub stateGiven : List ℕ → List ℕ → ℕ → List ℕ
 stateGiven b l from = take (min (byteAt l from) 132) (damagedState b l from)
 
 abbrev pub stateAnswer : List ℕ → List ℕ → List ℕ → ℕ
-stateAnswer t b l = packed (checkBytes t (stateGiven b l 4) (requestAt l 4096) [])
+stateAnswer t b l = packed (taskChecked t (stateGiven b l 4) (Plan (requestAt l 4096)) [])
 
 abbrev pub statusGiven : List ℕ → List ℕ → List ℕ → Verdict
 statusGiven t b l = tableAndStateVerdict t (stateGiven b l 0)
 
--- the bytes of a line past the request, 1782 at most
-abbrev pub listLength : List ℕ → ℕ
-listLength l = min (length l / 3 - 4) 1782
+-- the bytes of a line from byte `from` on, 1782 at most
+abbrev pub listLength : List ℕ → ℕ → ℕ
+listLength l from = min (length l / 3 - from) 1782
 
-abbrev pub listBytes : List ℕ → List ℕ → List ℕ
-listBytes b l = filled b 0 l 4 0 (listLength l)
+abbrev pub listBytes : List ℕ → List ℕ → ℕ → List ℕ
+listBytes b l from = filled b 0 l from 0 (listLength l from)
 
-abbrev pub listGiven : List ℕ → List ℕ
-listGiven l = take (listLength l) (listBytes (replicate 1782 0) l)
+abbrev pub listGiven : List ℕ → ℕ → List ℕ
+listGiven l from = take (listLength l from) (listBytes (replicate 1782 0) l from)
 
-abbrev pub listAnswer : List ℕ → List ℕ → List ℕ → ℕ
-listAnswer t b l = packed (checkBytes t b (requestAt l 4096) (listGiven l))
+abbrev pub listAnswer : List ℕ → List ℕ → Task → List ℕ → ℕ → ℕ
+listAnswer t b task l from = packed (taskChecked t b task (listGiven l from))
 
--- the same with the list as words; bytes past a multiple of four are in none
+-- a request's list as words; bytes past a multiple of four are in none
 abbrev pub wordsGiven : List ℕ → List ℕ → List ℕ → Verdict
-wordsGiven t b l = checkWords t b (requestAt l 4096) (byteWords (listLength l / 4) (listGiven l))
+wordsGiven t b l = checkWords t b (requestAt l 4096) (byteWords (listLength l 4 / 4) (listGiven l 4))
 
 abbrev pub recordLength : List ℕ → List ℕ → ℕ
 recordLength t l = length (recordPart t (byteAt l 0))
@@ -113,10 +131,11 @@ seenBy letter t whole b l =
     cond (eqb letter 0x44) (tableAnswer whole l)
     (cond (eqb letter 0x53) (stateAnswer t b l)
     (cond (eqb letter 0x56) (numberOf (statusGiven t b l))
-    (cond (eqb letter 0x4c) (listAnswer t b l)
+    (cond (eqb letter 0x4c) (listAnswer t b (Plan (requestAt l 4096)) l 4)
+    (cond (eqb letter 0x43) (listAnswer t b BringUp l 0)
     (cond (eqb letter 0x57) (numberOf (wordsGiven t b l))
     (cond (eqb letter 0x52) (recordLength t l)
-    (cond (eqb letter 0x4d) (writeAnswer whole (length t) l) (cond (eqb letter 0x45) (describeAnswer t l) 0)))))))
+    (cond (eqb letter 0x4d) (writeAnswer whole (length t) l) (cond (eqb letter 0x45) (describeAnswer t l) 0))))))))
 
 abbrev pub seen : List ℕ → List ℕ → List ℕ → List ℕ → ℕ
 seen t whole b l = seenBy (getD l 0 0) t whole b l

@@ -6,6 +6,8 @@ use crate::states;
 use crate::states::Image;
 use crate::tables;
 use crate::tables::Whole;
+use crate::tasks;
+use crate::tasks::Task;
 use rules::Verdict;
 ghost use mathlib.Core.Path.{_≡_};
 ghost use Prim.Native.Nat.{_≤_};
@@ -43,7 +45,12 @@ fn damaged_state(table: &[u8], state: Image, line: &[u8]) -> u64
 {
     let bytes = changed(state, line, 4);
     let n = script::within(script::size(line, 4), 132);
-    states::check(table, &bytes[..n], script::request(line, 4096), b"")
+    tasks::check(
+        table,
+        &bytes[..n],
+        Task::Plan(script::request(line, 4096)),
+        b"",
+    )
 }
 
 // `V`: whether the table and the state's first bytes, with one of them changed, are a table and a consistent state of it.
@@ -56,32 +63,33 @@ fn status_verdict(table: &[u8], state: Image, line: &[u8]) -> Verdict
     status::verdict(table, &bytes[..n])
 }
 
-// Stores the bytes of a line past the request, as many as there is room for, and answers how many.
-fn store_list(list: &mut [u8], line: &[u8]) -> usize
-    requires { ⌜ length (now list) ≡ 1782 ⌝ }
-    ensures { λ r. ⌜ (r ≡ listLength (now (line .entry))) × (r ≤ 1782) ⌝ }
-    ensures list { λ _. ⌜ now (list .exit) ≡ listBytes (now (list .entry)) (now (line .entry)) ⌝ }
+// Stores the bytes of a line from byte `from` on, as many as there is room for, and answers how many.
+fn store_list(list: &mut [u8], line: &[u8], from: usize) -> usize
+    requires { ⌜ (length (now list) ≡ 1782) × (from ≤ 64) ⌝ }
+    ensures { λ r. ⌜ (r ≡ listLength (now (line .entry)) from) × (r ≤ 1782) ⌝ }
+    ensures list { λ _. ⌜ now (list .exit) ≡ listBytes (now (list .entry)) (now (line .entry)) from ⌝ }
 {
-    let n = script::within(script::past(line.len() / 3, 4), 1782);
-    script::fill(list, 0, line, 4, 0, n);
+    let n = script::within(script::past(line.len() / 3, from), 1782);
+    script::fill(list, 0, line, from, 0, n);
     n
 }
 
-// `L`: a request, and a list for it.
-fn list(table: &[u8], state: &[u8], line: &[u8]) -> u64
-    ensures { λ r. ⌜ r ≡ listAnswer (now (table .entry)) (now (state .entry)) (now (line .entry)) ⌝ }
+// `L` and `C`: a request and a list for it, and a list for bring-up.
+fn list(table: &[u8], state: &[u8], task: Task, line: &[u8], from: usize) -> u64
+    requires { ⌜ from ≤ 64 ⌝ }
+    ensures { λ r. ⌜ r ≡ listAnswer (now (table .entry)) (now (state .entry)) task (now (line .entry)) from ⌝ }
 {
     let mut list = [0u8; 1782];
-    let n = store_list(&mut list, line);
-    states::check(table, state, script::request(line, 4096), &list[..n])
+    let n = store_list(&mut list, line, from);
+    tasks::check(table, state, task, &list[..n])
 }
 
-// `W`: the same with the list as words; bytes past a multiple of four are left out.
+// `W`: as `L`, with the list as words; bytes past a multiple of four are left out.
 fn words_verdict(table: &[u8], state: &[u8], line: &[u8]) -> Verdict
     ensures { λ r. ⌜ r ≡ wordsGiven (now (table .entry)) (now (state .entry)) (now (line .entry)) ⌝ }
 {
     let mut list = [0u8; 1782];
-    let size = store_list(&mut list, line);
+    let size = store_list(&mut list, line, 4);
     let n = size / 4;
     let mut calls = [0u32; 445];
     words::read_words(&list[..size], n, &mut calls);
@@ -104,7 +112,14 @@ pub fn look(table: &[u8], whole: Whole, state: Image, line: &[u8]) -> u64
         b'D' => damaged_table(whole, line),
         b'S' => damaged_state(table, state, line),
         b'V' => print::verdict(status_verdict(table, state, line)),
-        b'L' => list(table, &state, line),
+        b'L' => list(
+            table,
+            &state,
+            Task::Plan(script::request(line, 4096)),
+            line,
+            4,
+        ),
+        b'C' => list(table, &state, Task::BringUp, line, 0),
         b'W' => print::verdict(words_verdict(table, &state, line)),
         b'R' => record(table, line) as u64,
         b'M' => descriptions::write(whole, table.len(), line),

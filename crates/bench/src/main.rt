@@ -6,6 +6,7 @@ mod print;
 mod script;
 mod states;
 mod tables;
+mod tasks;
 
 fn main() {
     let mut text = io::large_buffer();

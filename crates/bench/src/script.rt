@@ -110,7 +110,7 @@ fn turn(i: usize, period: usize) -> usize
 
 // Sets n bytes from `at` on to those of a line that start at byte `from`, again after each period.
 pub fn fill(bytes: &mut [u8], at: usize, line: &[u8], from: usize, period: usize, n: usize)
-    requires { ⌜ (from ≤ 64) × (at + n ≤ length (now bytes)) × (length (now bytes) ≡ 1782) ⌝ }
+    requires { ⌜ (from ≤ 64) × (at + n ≤ length (now bytes)) × (length (now bytes) ≤ 1782) ⌝ }
     ensures { λ _. ⌜ now (bytes .exit) ≡ filled (now (bytes .entry)) at (now (line .entry)) from period n ⌝ }
 {
     let mut i = 0;

@@ -1,4 +1,1 @@
-pub mod Switched
-pub mod Phase
-pub mod Walks
 pub mod Answer

@@ -5,7 +5,7 @@ use rules::Verdict;
 ghost use mathlib.Core.Path.{_≡_};
 ghost use Rattle.rules.specs.Station.{station};
 ghost use Rattle.rules.specs.Status.{status};
-ghost use Rattle.rules.specs.Check.{conforming};
+ghost use Rattle.rules.specs.Check.{conformingTo};
 ghost use Rattle.rules.specs.Outcomes.{checkWords};
 ghost use Rattle.laws.specs.Demand3.{Demand3};
 ghost use Rattle.request.specs.Permitted.{PermittedRequest};
@@ -13,12 +13,12 @@ ghost use Rattle.request.specs.Permitted.{PermittedRequest};
 // Whether the list is that of a request which has passed every check.
 pub fn conforming(table: &[u8], state: &[u8], q: Request, list: &[u32]) -> bool
     requires { ⌜ PermittedRequest (now table) (now state) q ⌝ }
-    ensures { λ r. ⌜ r ≡ conforming (station (now (table .entry))) (status (now (table .entry)) (now (state .entry))) q
+    ensures { λ r. ⌜ r ≡ conformingTo (station (now (table .entry))) (status (now (table .entry)) (now (state .entry))) q
         (now (list .entry)) ⌝ }
 {
     let on = status::image::on_set(table, state);
     let c = request::change::change(table, state, on, q);
-    crate::walk::walk(table, c, list)
+    switching::walk::walk(table, c.switching, list)
 }
 
 // The checker on a list of words. What it passes keeps demand 3.

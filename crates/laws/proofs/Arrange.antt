@@ -1,12 +1,12 @@
--- A list that conforms is arranged: own call, ONs, OFFs, own call, from the on-set to the needed set after the request. So the execution
--- theorem holds of it.
-use mathlib.Core.Path.{_≡_, refl, sym, _∙_}
+-- A list that conforms is arranged: own calls, ONs, OFFs, own calls, from the on-set to the target. So the execution theorem holds of it.
+use mathlib.Core.Path.{_≡_, refl, sym, ap, _∙_}
 use mathlib.Core.Bool.{Bool, true, false, cond}
-use mathlib.Core.List.{List, [], _∷_, map, append-assoc, append-nil}
+use mathlib.Core.List.{List, [], _∷_, _++_, map, append-assoc, append-nil}
 use Prim.Native.Nat.{ℕ, _+_, _^_, _≤_, _<_}
 use native.Mathlib.Omega.{arith}
-use borrow.Author.Tests.{lt-ltb, eq-eqb, ltb-true}
-use lib.Dec.{eqb}
+use borrow.Author.Tests.{lt-ltb, eq-eqb, ltb-true, ltb-false}
+use lib.Dec.{eqb, ltb}
+use lib.ListN.{length, getD, take, List·getD-eq-default}
 use Rattle.sets.specs.Sets.{member}
 use Rattle.sets.proofs.Laws.{member-below, decide, member-minus, minus-lt}
 use Rattle.rules.specs.declared.Request.{Request}
@@ -15,22 +15,43 @@ use Rattle.rules.specs.declared.Call.{Call}
 use Rattle.rules.specs.declared.Call.the-variants.{SetState, SetWake}
 use Rattle.rules.specs.Station.{Station}
 use Rattle.rules.specs.declared.Entry.{Entry}
-use Rattle.rules.specs.Status.{Status}
 use Rattle.rules.specs.Request.{isMove, isArm}
-use Rattle.rules.specs.Calls.{wordOf, listOf, only, methodFor, moveCall, wakeCall, ownCall, ownLast, endSet, toTurnOn, toTurnOff, arrange}
+use Rattle.rules.specs.Calls.{wordOf, listOf, only, methodFor, moveCall, wakeCall, ownCall, toTurnOn, toTurnOff, arrange}
 use Rattle.rules.specs.Conforms.{times, EachOnce, Conforms}
-use Rattle.rules.specs.Check.{ownFirstCalls, ownLastCalls}
+use Rattle.rules.specs.Check.{onWord, offWord, firstCalls, lastCalls}
+use Rattle.rules.specs.Execution.{execution}
 use Rattle.laws.specs.Carried.{All, Other, hasIn, listed, Arranged, Carried}
+use Rattle.laws.proofs.All.{all-append, all-at, all-map, all-imp}
 use Rattle.laws.proofs.Execution.{carried}
-use Rattle.laws.proofs.Conform.{by-phase}
+use Rattle.laws.proofs.Conform.{by-phase, Switchable}
 
 -- ---- words
 
+-- a word fits four bytes
+abbrev pub Fits : ℕ → Type 0
+Fits x = x < 2 ^ 32
+
+pub all-fit : (ws : List ℕ) → All Fits ws → (i : ℕ) → Fits (getD ws i 0)
+all-fit ws h i =
+    decide (ltb i (length ws)) (λ e. all-at Fits ws i 0 h (ltb-true _ _ e))
+    (λ e. rw (List·getD-eq-default ws 0 {n = i} (ltb-false _ _ e)) (omega arith))
+
 -- the words of an arranged list of calls
-pub arranged-words : (s : Station) (st : Status) (q : Request) (ons offs : List ℕ)
-    → map wordOf (arrange (ownLast q) (listOf (ownCall s (st .entries (q .device)) q)) ons offs) ≡ listed
-    (map wordOf (ownFirstCalls s st q)) ons offs (map wordOf (ownLastCalls s st q))
-arranged-words s st q ons offs = by-phase s st q ons offs ∙ simp (append-assoc, append-nil)
+pub arranged-words : (last : Bool) (own : List Call) (ons offs : List ℕ)
+    → map wordOf (arrange last own ons offs) ≡ listed (map wordOf (firstCalls last own)) ons offs (map wordOf (lastCalls last own))
+arranged-words last own ons offs = by-phase last own ons offs ∙ simp (append-assoc, append-nil)
+
+-- what holds of the own calls' words holds of those that stand first, and of those that stand last
+module _ (P : ℕ → Type 0) (own : List Call) (h : All P (map wordOf own)) where
+  pub first-all : (last : Bool) → All P (map wordOf (firstCalls last own))
+  unfolding firstCalls All
+  first-all true = tt
+  first-all false = h
+
+  pub last-all : (last : Bool) → All P (map wordOf (lastCalls last own))
+  unfolding lastCalls All
+  last-all true = h
+  last-all false = tt
 
 -- ---- the own call is neither `_ON` nor `_OFF`
 
@@ -45,14 +66,6 @@ own-other s e q =
     decide (isMove q) (λ m. rw m (only-other _ (SetState (q .device) (methodFor (q .a))) (omega arith)))
     (λ m. decide (isArm q) (λ a. rw (m, a) (only-other _ (SetWake (q .device) (Enable (q .a) (q .b))) (omega arith)))
     (λ a. rw (m, a) (only-other _ (SetWake (q .device) Disable) (omega arith))))
-
-pub own-first-other : (s : Station) (st : Status) (q : Request) → All Other (map wordOf (ownFirstCalls s st q))
-unfolding ownFirstCalls All
-own-first-other s st q = decide (ownLast q) (λ e. rw e tt) (λ e. rw e (own-other s (st .entries (q .device)) q))
-
-pub own-last-other : (s : Station) (st : Status) (q : Request) → All Other (map wordOf (ownLastCalls s st q))
-unfolding ownLastCalls All
-own-last-other s st q = decide (ownLast q) (λ e. rw e (own-other s (st .entries (q .device)) q)) (λ e. rw e tt)
 
 -- ---- each member once: what stands in the list are the set's members
 
@@ -77,24 +90,49 @@ once-small w m l h k o =
     has-all (λ r. r < 256) l (λ r e. let b = member-below w m r h (sym (once-has m l o r) ∙ e) in omega arith)
 
 -- ---- so a list that conforms is arranged, and carried out as the theorem says
-module _ (w : ℕ) (small : w ≤ 256) (s : Station) (st : Status) (q : Request) (on : st .on < 2 ^ w)
-    (end : endSet s (st .entries) q < 2 ^ w) where
-  pub conforms-arranged : (ws : List ℕ) (c : Conforms s st q ws)
-      → Arranged (member (st .on)) (member (endSet s (st .entries) q)) (map wordOf (ownFirstCalls s st q)) (c .ons) (c .offs)
-      (map wordOf (ownLastCalls s st q))
+module _ (s : Station) (own : List Call) (last : Bool) (on target : ℕ) (able : Switchable s own on target) (ws : List ℕ)
+    (c : Conforms s own last on target ws) where
+  abbrev first : List ℕ
+  first = map wordOf (firstCalls last own)
+
+  abbrev final : List ℕ
+  final = map wordOf (lastCalls last own)
+
+  pub conforms-listed : ws ≡ listed first (c .ons) (c .offs) final
+  conforms-listed = c .whole ∙ arranged-words last own (c .ons) (c .offs)
+
+  pub conforms-arranged : Arranged (member on) (member target) first (c .ons) (c .offs) final
   unfolding toTurnOn toTurnOff
-  conforms-arranged ws c =
-      let need = endSet s (st .entries) q in
+  conforms-arranged =
       record {
-        firstOther = own-first-other s st q;
-        lastOther = own-last-other s st q;
-        onsSmall = once-small w (toTurnOn s st q) (c .ons) (minus-lt w need (st .on) end) small (c .onsOnce);
-        offsSmall = once-small w (toTurnOff s st q) (c .offs) (minus-lt w (st .on) need on) small (c .offsOnce);
-        onsAre = λ r. once-has (toTurnOn s st q) (c .ons) (c .onsOnce) r ∙ member-minus need (st .on) r;
-        offsAre = λ r. once-has (toTurnOff s st q) (c .offs) (c .offsOnce) r ∙ member-minus (st .on) need r;
+        firstOther = first-all Other own (able .other) last;
+        lastOther = last-all Other own (able .other) last;
+        onsSmall = once-small (s .resources) _ (c .ons) (minus-lt _ target on (able .end)) (able .nameable) (c .onsOnce);
+        offsSmall = once-small (s .resources) _ (c .offs) (minus-lt _ on target (able .start)) (able .nameable) (c .offsOnce);
+        onsAre = λ r. once-has _ (c .ons) (c .onsOnce) r ∙ member-minus target on r;
+        offsAre = λ r. once-has _ (c .offs) (c .offsOnce) r ∙ member-minus on target r;
       }
 
-  pub conforms-carried : (ws : List ℕ) (c : Conforms s st q ws)
-      → Carried (member (st .on)) (member (endSet s (st .entries) q)) (map wordOf (ownFirstCalls s st q)) (c .ons) (c .offs)
-      (map wordOf (ownLastCalls s st q))
-  conforms-carried ws c = carried (conforms-arranged ws c)
+  pub conforms-carried : Carried (member on) (member target) first (c .ons) (c .offs) final
+  conforms-carried = carried conforms-arranged
+
+  -- carried out, it ends with exactly the target
+  pub conforms-ends : (r : ℕ) → execution (member on) ws r ≡ member target r
+  conforms-ends r = ap (λ (l : List ℕ). execution (member on) l r) conforms-listed ∙ conforms-carried .ends r
+
+  -- after any k of its words, what is in both sets is on
+  pub conforms-keeps : (k r : ℕ) → member on r ≡ true → member target r ≡ true → execution (member on) (take k ws) r ≡ true
+  conforms-keeps k r x y =
+      ap (λ (l : List ℕ). execution (member on) (take k l) r) conforms-listed ∙ conforms-carried .keeps k r x y
+
+  -- each of its words fits four bytes, where those of the own calls do
+  pub conforms-fits : All Fits (map wordOf own) → All Fits ws
+  conforms-fits h =
+      let a = conforms-arranged in
+      rw conforms-listed
+      (all-append Fits (first ++ map onWord (c .ons) ++ map offWord (c .offs)) final
+      (all-append Fits (first ++ map onWord (c .ons)) (map offWord (c .offs))
+      (all-append Fits first (map onWord (c .ons)) (first-all Fits own h last)
+      (all-map Fits onWord (c .ons) (all-imp (λ r. r < 256) (λ r. Fits (onWord r)) (λ r l. omega arith) (c .ons) (a .onsSmall))))
+      (all-map Fits offWord (c .offs) (all-imp (λ r. r < 256) (λ r. Fits (offWord r)) (λ r l. omega arith) (c .offs) (a .offsSmall))))
+      (last-all Fits own h last))

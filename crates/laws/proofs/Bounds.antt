@@ -23,16 +23,16 @@ use Rattle.rules.specs.Station.{Station, versionWidth, width, limit, recordSize
 use Rattle.rules.specs.Table.{countsGood, parentGood, fieldsGood, fieldsOrObjects, tableVerdict}
 use Rattle.rules.specs.Describe.{describedSize, describedR, describedD}
 use Rattle.rules.specs.Write.{describedFieldsGood, recordsVerdict, describedCountsGood, writeVerdict, describeVerdict}
-use Rattle.rules.specs.Status.{status, parentAllows, consistencyVerdict, stateVerdict}
+use Rattle.rules.specs.Status.{status, parentAllows, valuesVerdict, consistencyVerdict, stateVerdict}
 use Rattle.rules.specs.Request.{isMove, isArm, moveVerdict, armVerdict, kindVerdict, requestVerdict}
-use Rattle.rules.specs.Outcomes.{requestStage, freshVerdict, stagesVerdict, planned, planVerdict, checkBytes}
+use Rattle.rules.specs.Outcomes.{requestStage, freshVerdict, stagesVerdict, planVerdict, listVerdict}
+use Rattle.rules.specs.BringUp.{butPowerVerdict, stateButPowerVerdict, bringUpStages}
 use Rattle.rules.proofs.Width.{version-wide, width-wide}
 use Rattle.rules.proofs.Answers.{first-pass, first-stop, first-none, unless-of, unless-stop, unless-at, lowest-stop, lowest-none}
 use Rattle.laws.proofs.Tests.{both-true, or-cases, or-left}
 use Rattle.laws.proofs.Accepted.{accepted}
 use Rattle.laws.proofs.Kept.{StationRules}
 use Rattle.laws.proofs.States.{station-rules, form-device}
-use Rattle.laws.proofs.Stages.{Stages, stages-of}
 
 -- ---- what holds of each answer that a chain of checks can come to holds of the chain
 module _ (P : Verdict → Type 0) where
@@ -85,14 +85,14 @@ module _ (w most : ℕ) (h : 4 ≤ w) where
       (λ i u. refused _ devices i more u))
       (λ _. last-holds (Bounded w most) (Done 0) done))
 
-  module _ (s : Station) (few : s .devices ≤ limit w) (rules : StationRules s) (entries : ℕ → Entry) where
+  module _ (s : Station) (nameable : s .devices ≤ limit w) (rules : StationRules s) (entries : ℕ → Entry) where
     -- 13: a parent that bars the move is there, so it is lower than its child
     parent-bounded : (d x : ℕ) → d < s .devices → parentAllows s entries d x ≡ false
         → Bounded w most (Refused ParentDeeper (s .device d .parent))
     unfolding parentAllows parentGood
     parent-bounded d x u e =
         ⊎-elim
-        (λ (a : ltb (s .device d .parent) d ≡ true). refused _ (s .devices) (s .device d .parent) few
+        (λ (a : ltb (s .device d .parent) d ≡ true). refused _ (s .devices) (s .device d .parent) nameable
         (omega (arith, ltb-true (s .device d .parent) d a)))
         (λ a. absurd (true≢false (sym (or-left _ _ a) ∙ e)))
         (or-cases _ _ (rules .parents d u))
@@ -105,7 +105,7 @@ module _ (w most : ℕ) (h : 4 ≤ w) where
         (λ _. chain-holds (Bounded w most) _ _ _
         (unless-holds (Bounded w most) _ ParentDeeper (s .device d .parent) done (parent-bounded d x u))
         (λ _. chain-holds (Bounded w most) _ _ _ (lowest-holds (Bounded w most) _ (s .devices) (Refused ChildShallower) done
-        (λ i v. refused ChildShallower (s .devices) i few v))
+        (λ i v. refused ChildShallower (s .devices) i nameable v))
         (λ _. next _ _ _ _ (λ _. last-holds (Bounded w most) (Done 0) done)))))
 
     arm-bounded : (d x y : ℕ) → Bounded w most (armVerdict s entries d x y)
@@ -145,13 +145,19 @@ module _ (t : List ℕ) (most : ℕ) where
   fresh-bounded b = chain-holds (Bounded (width t) most) _ _ _ table-bounded
       (λ _. next _ _ low _ _ _ _ (λ _. last-holds (Bounded (width t) most) (Done 0) (done _ _ low)))
 
+  -- the lowest device that a test finds
+  lowest-bounded : station t .devices ≤ limit (width t) → (bad : ℕ → Bool)
+      → Bounded (width t) most (lowest bad (station t .devices) (Refused Inconsistent))
+  lowest-bounded nameable bad =
+      lowest-holds (Bounded (width t) most) bad (station t .devices) (Refused Inconsistent) (done _ _ low)
+      (λ i u. refused _ _ low Inconsistent (station t .devices) i nameable u)
+
   -- 7 and 8
   state-bounded : (b : List ℕ) → station t .devices ≤ limit (width t) → Bounded (width t) most (stateVerdict t b)
-  unfolding stateVerdict consistencyVerdict
-  state-bounded b few =
+  unfolding stateVerdict valuesVerdict consistencyVerdict
+  state-bounded b nameable =
       next _ _ low _ _ _ _
-      (λ _. chain-holds (Bounded (width t) most) _ _ _ (lowest-holds (Bounded (width t) most) _ (station t .devices) (Refused Inconsistent)
-      (done _ _ low) (λ i u. refused _ _ low Inconsistent (station t .devices) i few u))
+      (λ _. chain-holds (Bounded (width t) most) _ _ _ (lowest-bounded nameable _)
       (λ _. last-holds (Bounded (width t) most) (Done 0) (done _ _ low)))
 
   module _ (b : List ℕ) (q : Request) where
@@ -161,24 +167,37 @@ module _ (t : List ℕ) (most : ℕ) where
         chain-holds (Bounded (width t) most) _ _ _ table-bounded
         (λ e.
         let a = accepted t e in
-        let few : station t .devices ≤ limit (width t) = unfold stationOf in a .devices in
-        chain-holds (Bounded (width t) most) _ _ _ (state-bounded b few)
+        let nameable : station t .devices ≤ limit (width t) = unfold stationOf in a .devices in
+        chain-holds (Bounded (width t) most) _ _ _ (state-bounded b nameable)
         (λ _. next _ _ low _ _ _ _
         (λ _. chain-holds (Bounded (width t) most) _ _ _
-        (request-bounded _ _ low (station t) few (station-rules t a) (status t b .entries) q)
+        (request-bounded _ _ low (station t) nameable (station-rules t a) (status t b .entries) q)
         (λ _. last-holds (Bounded (width t) most) (Done 0) (done _ _ low)))))
 
-    pub plan-bounded : (room : Bool) → (Stages t b q → length (planned t b q) ≤ most)
-        → Bounded (width t) most (planVerdict room t b q)
-    unfolding planVerdict
-    plan-bounded room short =
-        chain-holds (Bounded (width t) most) _ _ _ (stages-bounded room)
-        (λ e. last-holds (Bounded (width t) most) _ (record { place = omega (arith, low); count = short (stages-of room t b q e) }))
+  -- 1 to 9 of bring-up
+  pub bring-up-bounded : (b : List ℕ) (room : Bool) → Bounded (width t) most (bringUpStages room t b)
+  unfolding bringUpStages stateButPowerVerdict valuesVerdict butPowerVerdict
+  bring-up-bounded b room =
+      let end = last-holds (Bounded (width t) most) (Done 0) (done _ _ low) in
+      chain-holds (Bounded (width t) most) _ _ _ table-bounded
+      (λ e.
+      let nameable : station t .devices ≤ limit (width t) = unfold stationOf in accepted t e .devices in
+      chain-holds (Bounded (width t) most) _ _ _
+      (next _ _ low _ _ _ _ (λ _. chain-holds (Bounded (width t) most) _ _ _ (lowest-bounded nameable _) (λ _. end)))
+      (λ _. next _ _ low _ _ _ _ (λ _. end)))
 
-    pub check-bounded : (list : List ℕ) → Bounded (width t) most (checkBytes t b q list)
-    unfolding checkBytes
-    check-bounded list =
-        chain-holds (Bounded (width t) most) _ _ _ (stages-bounded true)
+  -- a plan, and a list, of any checks
+  module _ (checks : Verdict) (bound : Bounded (width t) most checks) where
+    pub plan-bounded : (words : List ℕ) → (passes checks ≡ true → length words ≤ most) → Bounded (width t) most (planVerdict checks words)
+    unfolding planVerdict
+    plan-bounded words short =
+        chain-holds (Bounded (width t) most) _ _ _ bound
+        (λ e. last-holds (Bounded (width t) most) _ (record { place = omega (arith, low); count = short e }))
+
+    pub list-bounded : (conforms : Bool) → Bounded (width t) most (listVerdict checks conforms)
+    unfolding listVerdict
+    list-bounded conforms =
+        chain-holds (Bounded (width t) most) _ _ _ bound
         (λ _. next _ _ low _ _ _ _ (λ _. last-holds (Bounded (width t) most) (Done 0) (done _ _ low)))
 
 -- ---- 11: the bytes of the largest table of a width, and of the lists that it describes

@@ -29,7 +29,7 @@ use Rattle.laws.proofs.Accepted.{DeviceRules, values-rules, refuses, ac
 use Rattle.laws.proofs.Good.{good-each}
 use Rattle.laws.proofs.Write.{count-r, count-d, table-long, resources-back, devices-back}
 use Rattle.laws.proofs.Describe.{described-long, resources-long, described-representable, table-back}
-use Rattle.laws.proofs.Demand3.{number-passes}
+use Rattle.laws.proofs.Lists.{number-passes}
 use Rattle.laws.proofs.Verdict.{same-verdict}
 
 -- records that are each whole are all of a list that has no more than them
@@ -66,7 +66,7 @@ module _ (version : ℕ) (rs ds : List ℕ) (room : ℕ) (e : passes (writeVerdi
       let b = first-both _ _ _ (a .1) in
       let f = first-both _ _ _ records-pass in
       let g = first-both _ _ _ (f .1) in
-      let few = leb-true (describedR rs) (limit w) (both-true _ _ (unless-at _ _ _ (b .0)) .0) in
+      let nameable = leb-true (describedR rs) (limit w) (both-true _ _ (unless-at _ _ _ (b .0)) .0) in
       let device : (d : ℕ) → d < describedD ds
       → (describedSize * d + describedSize ≤ length ds) × DeviceRules (describedR rs) d (describedDevice ds d) =
       λ d u. described-good (describedR rs) ds d

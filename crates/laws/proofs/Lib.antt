@@ -18,6 +18,7 @@ pub mod Consistency
 pub mod Kept
 pub mod States
 pub mod Stages
+pub mod Lists
 pub mod Sort
 pub mod Chain
 pub mod Order
@@ -30,4 +31,6 @@ pub mod Demand3
 pub mod Demand2
 pub mod Runs
 pub mod Bytes
+pub mod BringUp
+pub mod BringUpLists
 pub mod Bounds

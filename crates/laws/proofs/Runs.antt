@@ -14,12 +14,13 @@ use Rattle.rules.specs.Answers.{numberOf, passes}
 use Rattle.rules.specs.Station.{width, station}
 use Rattle.rules.specs.Table.{tableVerdict}
 use Rattle.rules.specs.Status.{imageOf, freshStatus, stateVerdict}
-use Rattle.rules.specs.Outcomes.{outcome, fresh, freshVerdict, planRoom, planned, planVerdict, planBytes, stateAfter}
+use Rattle.rules.specs.Outcomes.{outcome, fresh, freshVerdict, planRoom, stagesVerdict, planned, planVerdict, planOutcome, planBytes}
+use Rattle.rules.specs.Outcomes.{stateAfter}
 use Rattle.rules.proofs.Answers.{first-both, first-through, done-passes}
 use Rattle.laws.specs.Runs.{Turn, stateAfterAll, StaysConsistent}
 use Rattle.laws.proofs.States.{fresh-consistent, after-consistent}
-use Rattle.laws.proofs.Stages.{plan-stages}
-use Rattle.laws.proofs.Demand3.{number-passes}
+use Rattle.laws.proofs.Stages.{stages-of}
+use Rattle.laws.proofs.Lists.{number-passes, plan-checks}
 
 -- what an outcome leaves in the state
 outcome-done : (v : Verdict) (b p b′ p′ : List ℕ) → passes v ≡ true → outcome v b p b′ p′ .state ≡ b′
@@ -33,14 +34,14 @@ outcome-refused v b p b′ p′ e = rw e refl
 -- one request, accepted or refused
 plan-consistent : (t b : List ℕ) (q : Request) (plan : List ℕ) → passes (tableVerdict t) ≡ true → passes (stateVerdict t b) ≡ true
     → passes (stateVerdict t (planBytes t b q plan .state)) ≡ true
-unfolding planBytes
+unfolding planBytes planOutcome
 plan-consistent t b q plan e f =
-    let room = leb (4 * planRoom (width t)) (length plan) in
-    let v = planVerdict room t b q in
+    let checks = stagesVerdict (leb (4 * planRoom (width t)) (length plan)) t b q in
+    let v = planVerdict checks (planned t b q) in
     let bytes = put plan 0 (wordBytes (planned t b q)) in
     decide (passes v)
     (λ y.
-    let z = plan-stages room t b q y in
+    let z = stages-of _ t b q (plan-checks checks (planned t b q) y) in
     rw (outcome-done v b plan (stateAfter t b q) bytes y, after-consistent t b q (z .table) (z .state) (z .request)) (done-passes 0))
     (λ y. rw (outcome-refused v b plan (stateAfter t b q) bytes y) f)
 

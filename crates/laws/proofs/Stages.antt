@@ -1,18 +1,18 @@
--- The chain of checks that planner and checker share: it passes exactly if each stage does, and an accepted plan is done with its count.
-use mathlib.Core.Path.{_≡_, _∙_}
+-- The chain of checks that planner and checker share, and that of bring-up: each passes exactly if its stages do.
+use mathlib.Core.Path.{_≡_, ap, _∙_}
 use mathlib.Core.Bool.{Bool, true}
 use mathlib.Core.List.{List}
 use Prim.Native.Nat.{ℕ}
-use lib.ListN.{length}
 use Rattle.rules.specs.declared.Request.{Request}
 use Rattle.rules.specs.declared.Verdict.the-variants.{Done}
 use Rattle.rules.specs.declared.Reason.the-variants.{NoRoom}
 use Rattle.rules.specs.Answers.{passes}
 use Rattle.rules.specs.Station.{station}
 use Rattle.rules.specs.Table.{tableVerdict}
-use Rattle.rules.specs.Status.{status, stateVerdict}
+use Rattle.rules.specs.Status.{status, valuesVerdict, stateVerdict}
 use Rattle.rules.specs.Request.{requestVerdict}
-use Rattle.rules.specs.Outcomes.{requestStage, stagesVerdict, planned, planVerdict}
+use Rattle.rules.specs.Outcomes.{requestStage, stagesVerdict}
+use Rattle.rules.specs.BringUp.{butPowerVerdict, stateButPowerVerdict, bringUpStages}
 use Rattle.rules.proofs.Answers.{first-both, first-pass, first-none, unless-of, unless-at, done-passes}
 
 -- the stages that a permitted request has passed
@@ -41,11 +41,26 @@ module _ (room : Bool) (t b : List ℕ) (q : Request) where
   unfolding stagesVerdict
   room-passed e = unless-at room NoRoom 0 (first-both _ _ _ (first-both _ _ _ (first-both _ _ _ e .1) .1) .0)
 
-  -- an accepted plan has passed them, and is done with the count of its calls
-  pub plan-stages : passes (planVerdict room t b q) ≡ true → Stages t b q
-  unfolding planVerdict
-  plan-stages e = stages-of (first-both _ _ _ e .0)
+-- the stages that bring-up asks for
+pub record BringUpPassed (t b : List ℕ) : Type 0 where
+  pub table : passes (tableVerdict t) ≡ true
+  pub values : passes (valuesVerdict t b) ≡ true
+  pub apart : passes (butPowerVerdict (station t) (status t b .entries)) ≡ true
 
-  pub plan-done : passes (planVerdict room t b q) ≡ true → planVerdict room t b q ≡ Done (length (planned t b q))
-  unfolding planVerdict
-  plan-done e = first-pass _ _ _ (first-both _ _ _ e .0) ∙ first-none _
+module _ (room : Bool) (t b : List ℕ) where
+  pub bring-up-of : passes (bringUpStages room t b) ≡ true → BringUpPassed t b × (room ≡ true)
+  unfolding bringUpStages stateButPowerVerdict
+  bring-up-of e =
+      let x = first-both _ _ _ e in
+      let y = first-both _ _ _ (x .1) in
+      let z = first-both _ _ _ (y .0) in (
+        record { table = x .0; values = z .0; apart = first-both _ _ _ (z .1) .0 },
+        unless-at room NoRoom 0 (first-both _ _ _ (y .1) .0),
+      )
+
+  pub bring-up-pass : BringUpPassed t b → room ≡ true → bringUpStages room t b ≡ Done 0
+  unfolding bringUpStages stateButPowerVerdict
+  bring-up-pass g e =
+      let kept = first-pass _ _ (Done 0) (g .values) ∙ first-pass _ _ (Done 0) (g .apart) ∙ first-none (Done 0) in
+      first-pass _ _ _ (g .table) ∙ first-pass _ _ _ (ap passes kept ∙ done-passes 0)
+      ∙ first-pass _ _ _ (rw (unless-of room NoRoom 0 e) (done-passes 0)) ∙ first-none (Done 0)

@@ -1,7 +1,7 @@
--- The state image along requests: a fresh one is consistent, an accepted request leaves a consistent one with exactly the needed set on,
--- and so after any run of requests from fresh, refused ones among them, it is consistent.
-use mathlib.Core.Path.{_≡_, refl, sym, _∙_}
-use mathlib.Core.Bool.{Bool, true, false, _&&_, _||_, true≢false}
+-- The state image along requests: a fresh one is consistent, and an accepted request leaves a consistent one with exactly the needed set
+-- on.
+use mathlib.Core.Path.{_≡_, refl, sym, ap, _∙_}
+use mathlib.Core.Bool.{Bool, true, false, not, _&&_, _||_, true≢false, and-true}
 use mathlib.Core.List.{List}
 use mathlib.Core.Logic.{⊎-elim}
 use Prim.Native.Nat.{ℕ, _*_, _^_, _≤_, _<_}
@@ -11,8 +11,8 @@ use borrow.Author.Tests.{eqb-true, eqb-false, eq-eqb, leb-true, le-leb, ltb-true
 use lib.Dec.{eqb, ltb, leb}
 use lib.ListN.{length}
 use lib.Pow.{pow-mono}
-use Rattle.sets.specs.Sets.{subset, firstN}
-use Rattle.sets.proofs.Laws.{decide, firstN-lt, member-firstN, subset-of}
+use Rattle.sets.specs.Sets.{member, subset, firstN}
+use Rattle.sets.proofs.Laws.{decide, firstN-lt, member-firstN, subset-at, subset-of}
 use Rattle.rules.specs.declared.Request.{Request}
 use Rattle.rules.specs.declared.Verdict.the-variants.{Done, Refused}
 use Rattle.rules.specs.declared.Reason.the-variants.{BadState, Inconsistent}
@@ -23,15 +23,18 @@ use Rattle.rules.specs.declared.Entry.{Entry}
 use Rattle.rules.specs.Power.{supported, needs, needed}
 use Rattle.rules.specs.Status.{Status, noEntry, entriesOf, statusOf, status, imageOf, imageSize, freshStatus, entryGood, entryZero}
 use Rattle.rules.specs.Status.{entriesGood, onGood, parentAllows, wakeConsistent, consistentButPower, powered, consistent, valuesGood}
-use Rattle.rules.specs.Status.{consistencyVerdict, stateVerdict}
+use Rattle.rules.specs.Status.{imageGood, valuesVerdict, consistencyVerdict, stateVerdict}
 use Rattle.rules.specs.Request.{isMove, isArm, isDisarm, numbersGood, formGood, requestVerdict, newEntry, entriesAfter}
 use Rattle.rules.specs.Calls.{endSet, statusAfter}
 use Rattle.rules.specs.Outcomes.{stateAfter}
+use Rattle.rules.specs.BringUp.{butPowerVerdict}
 use Rattle.rules.proofs.Index.{every-at, every-of, below-out}
 use Rattle.rules.proofs.Answers.{first-both, unless-at, unless-of, refused-stops, lowest-at, lowest-of}
+use Rattle.rules.proofs.Width.{width-wide}
 use Rattle.laws.proofs.Tests.{both-true, or-cases, or-right}
+use Rattle.laws.proofs.Every.{lowest-ext}
 use Rattle.laws.proofs.Accepted.{Accepted, accepted}
-use Rattle.laws.proofs.Needed.{needs-lt, needed-lt, all-powered}
+use Rattle.laws.proofs.Needed.{needed-by, needs-lt, needed-lt, all-powered}
 use Rattle.laws.proofs.Image.{image-length, status-image}
 use Rattle.laws.proofs.Consistency.{Apart, apart-of, apart-is, after-same, after-other}
 use Rattle.laws.proofs.Kept.{StationRules, apart-after}
@@ -42,6 +45,17 @@ unfolding stationOf setGood
 station-rules t a =
     record { parents = λ d h. a .device d h .parent; sets = λ d h k l. ltb-true _ _ (both-true _ _ (a .device d h .sets k l) .0) }
 
+-- a byte can name each of its resources, and what its devices need are resources of it
+pub nameable : (t : List ℕ) → passes (tableVerdict t) ≡ true → station t .resources ≤ 256
+unfolding stationOf
+nameable t e = omega (arith, accepted t e .resources, width-wide t .high)
+
+pub needed-small : (t : List ℕ) → passes (tableVerdict t) ≡ true → (entries : ℕ → Entry)
+    → needed (station t) entries < 2 ^ station t .resources
+unfolding needed
+needed-small t e entries =
+    needed-lt (station t .resources) (station t) entries (station t .devices) (station-rules t (accepted t e) .sets)
+
 -- ---- a status that passes 7 and 8
 pub record ConsistentStatus (n : ℕ) (s : Station) (st : Status) : Type 0 where
   pub entries : entriesGood n s (st .entries) ≡ true
@@ -49,26 +63,46 @@ pub record ConsistentStatus (n : ℕ) (s : Station) (st : Status) : Type 0 where
   pub apart : (d : ℕ) → d < s .devices → Apart s (st .entries) d
   pub power : (d : ℕ) → d < s .devices → subset (needs s d (st .entries d)) (st .on) ≡ true
 
+-- what 7 leaves
+pub record GoodValues (t b : List ℕ) : Type 0 where
+  pub long : length b ≡ imageSize (width t)
+  pub entries : entriesGood (limit (width t)) (station t) (status t b .entries) ≡ true
+  pub on : status t b .on < 2 ^ station t .resources
+
+pub values-of : (t b : List ℕ) → passes (valuesVerdict t b) ≡ true → GoodValues t b
+unfolding valuesVerdict imageGood valuesGood onGood
+values-of t b e =
+    let v = both-true (eqb (length b) (imageSize (width t))) _ (unless-at _ _ _ e) in
+    let u = both-true (entriesGood (limit (width t)) (station t) (status t b .entries)) _ (v .1) in
+    record { long = eqb-true _ _ (v .0); entries = u .0; on = ltb-true _ _ (u .1) }
+
 pub consistent-of : (t b : List ℕ) → passes (stateVerdict t b) ≡ true → (length b ≡ imageSize (width t))
     × ConsistentStatus (limit (width t)) (station t) (status t b)
-unfolding stateVerdict valuesGood onGood consistencyVerdict consistent powered
+unfolding stateVerdict consistencyVerdict consistent powered
 consistent-of t b e =
     let s = station t in
     let a = first-both _ _ _ e in
     let c = first-both _ _ _ (a .1) in
-    let v = both-true (eqb (length b) (imageSize (width t))) _ (unless-at _ _ _ (a .0)) in
-    let u = both-true (entriesGood (limit (width t)) s (status t b .entries)) _ (v .1) in
+    let v = values-of t b (a .0) in
     let k : (d : ℕ) → d < s .devices → (consistentButPower s (status t b .entries) d ≡ true) × (powered s (status t b) d ≡ true) =
     λ d h. both-true _ _ (not-false (consistent s (status t b) d) (lowest-at _ (s .devices) (Refused Inconsistent)
     (refused-stops Inconsistent) (c .0) d h)) in (
-      eqb-true _ _ (v .0),
+      v .long,
       record {
-        entries = u .0;
-        on = ltb-true _ _ (u .1);
+        entries = v .entries;
+        on = v .on;
         apart = λ d h. apart-of s (status t b .entries) d (k d h .0);
         power = λ d h. k d h .1;
       },
     )
+
+-- it has on what its entries need
+pub needs-on : (t b : List ℕ) → passes (stateVerdict t b) ≡ true → (r : ℕ) → member (needed (station t) (status t b .entries)) r ≡ true
+    → member (status t b .on) r ≡ true
+unfolding needed
+needs-on t b f r e =
+    let n = needed-by (station t) (status t b .entries) (station t .devices) r e in
+    subset-at _ _ r (consistent-of t b f .1 .power (n .0) (n .1)) (n .2)
 
 all-consistent : (n : ℕ) (s : Station) (st : Status) → ConsistentStatus n s st → consistencyVerdict s st ≡ Done 0
 unfolding consistencyVerdict consistent powered
@@ -77,7 +111,7 @@ all-consistent n s st a =
 
 pub consistent-is : (t b : List ℕ) → length b ≡ imageSize (width t) → ConsistentStatus (limit (width t)) (station t) (status t b)
     → stateVerdict t b ≡ Done 0
-unfolding stateVerdict valuesGood onGood passes firstOf
+unfolding stateVerdict valuesVerdict imageGood valuesGood onGood passes firstOf
 consistent-is t b l a =
     rw (
       eq-eqb (length b) (imageSize (width t)) l,
@@ -92,6 +126,39 @@ consistent-is t b l a =
 fits-image : (w n x : ℕ) → n ≤ 8 * w → x < 2 ^ n → x < 2 ^ (8 * w)
 fits-image w n x h l = lt-of-lt-of-le l (pow-mono h)
 
+-- the image of a consistent status reads back as it, and gets neither 7 nor 8
+module _ (t : List ℕ) (e : passes (tableVerdict t) ≡ true) (st : Status) (c : ConsistentStatus (limit (width t)) (station t) st)
+    (out : (k : ℕ) → limit (width t) ≤ k → st .entries k ≡ noEntry) where
+  pub image-reads : status t (imageOf (width t) st) ≡ st
+  image-reads =
+      status-image (width t) st
+      (fits-image (width t) (station t .resources) (st .on) (unfold stationOf in accepted t e .resources) (c .on)) out
+
+  pub image-consistent : stateVerdict t (imageOf (width t) st) ≡ Done 0
+  image-consistent = consistent-is t (imageOf (width t) st) (image-length (width t) st) (rw image-reads c)
+
+-- ---- all on: nothing that a device needs is missing
+pub all-on : (s : Station) → StationRules s → (d : ℕ) → d < s .devices → (e : Entry) → subset (needs s d e) (firstN (s .resources)) ≡ true
+all-on s rules d h e =
+    subset-of (s .resources) (needs s d e) (firstN (s .resources)) (needs-lt (s .resources) s d e (rules .sets d h))
+    (λ r l m. member-firstN (s .resources) r ∙ lt-ltb r (s .resources) l)
+
+-- where nothing is missing, what is not consistent is so for another reason
+pub powered-apart : (s : Station) (entries : ℕ → Entry) (on : ℕ) → ((d : ℕ) → d < s .devices → subset (needs s d (entries d)) on ≡ true)
+    → consistencyVerdict s (record { entries = entries; on = on }) ≡ butPowerVerdict s entries
+unfolding consistencyVerdict butPowerVerdict consistent powered
+powered-apart s entries on h =
+    lowest-ext _ _ (s .devices) (Refused Inconsistent) (Refused Inconsistent)
+    (λ d l. rw (h d l) (ap not (and-true (consistentButPower s entries d))))
+    (λ d l. refl)
+
+pub all-on-apart : (t : List ℕ) → passes (tableVerdict t) ≡ true → (entries : ℕ → Entry)
+    → consistencyVerdict (station t) (record { entries = entries; on = firstN (station t .resources) })
+    ≡ butPowerVerdict (station t) entries
+all-on-apart t e entries =
+    powered-apart (station t) entries (firstN (station t .resources))
+    (λ d h. all-on (station t) (station-rules t (accepted t e)) d h (entries d))
+
 -- ---- fresh
 fresh-status-consistent : (n : ℕ) (s : Station) → StationRules s → ConsistentStatus n s (freshStatus s)
 unfolding freshStatus entriesGood entryGood entryZero parentAllows wakeConsistent supported
@@ -100,20 +167,13 @@ fresh-status-consistent n s rules =
       entries = every-of _ n (λ k h. or-right (ltb k (s .devices)) true refl);
       on = firstN-lt (s .resources) (s .resources) (omega arith);
       apart = λ d h. record { known = refl; under = or-right (eqb (s .device d .parent) absent) true refl; wake = refl };
-      power = λ d h. subset-of (s .resources) (needs s d noEntry) (firstN (s .resources))
-          (needs-lt (s .resources) s d noEntry (rules .sets d h))
-          (λ r l e. member-firstN (s .resources) r ∙ lt-ltb r (s .resources) l);
+      power = λ d h. all-on s rules d h noEntry;
     }
 
 pub fresh-consistent : (t : List ℕ) → passes (tableVerdict t) ≡ true → stateVerdict t (imageOf (width t) (freshStatus (station t))) ≡ Done 0
 fresh-consistent t e =
-    let a = accepted t e in
-    let s = station t in
-    let st = freshStatus s in
-    let f = fresh-status-consistent (limit (width t)) s (station-rules t a) in
-    let same : status t (imageOf (width t) st) ≡ st = status-image (width t) st (fits-image (width t) (s .resources) (st .on)
-    (unfold stationOf in a .resources) (f .on)) (λ k h. unfold freshStatus in refl) in
-    consistent-is t (imageOf (width t) st) (image-length (width t) st) (rw same f)
+    image-consistent t e (freshStatus (station t)) (fresh-status-consistent (limit (width t)) (station t) (station-rules t (accepted t e)))
+    (λ k h. unfold freshStatus in refl)
 
 -- ---- an accepted request
 pub form-passed : (s : Station) (entries : ℕ → Entry) (q : Request) → passes (requestVerdict s entries q) ≡ true → formGood s q ≡ true
@@ -186,31 +246,27 @@ after-status-consistent n s st q rules a e =
       power = λ d h. all-powered (s .resources) s (entriesAfter (st .entries) q) d h (rules .sets d h);
     }
 
-entries-out : (w : ℕ) (b : List ℕ) (k : ℕ) → 8 * w ≤ k → statusOf w b .entries k ≡ noEntry
+pub entries-out : (w : ℕ) (b : List ℕ) (k : ℕ) → 8 * w ≤ k → statusOf w b .entries k ≡ noEntry
 unfolding statusOf entriesOf
 entries-out w b k h = below-out (8 * w) noEntry _ k h
 
--- the image after an accepted request reads back as the status after it
-pub after-reads : (t b : List ℕ) (q : Request) → passes (tableVerdict t) ≡ true → passes (stateVerdict t b) ≡ true
-    → passes (requestVerdict (station t) (status t b .entries) q) ≡ true → status t (stateAfter t b q) ≡ statusAfter
-    (station t) (status t b) q
-unfolding stateAfter
-after-reads t b q e f g =
-    let a = accepted t e in
-    let s = station t in
-    let st = status t b in
-    let form = form-passed s (st .entries) q g in
-    let new = after-status-consistent (limit (width t)) s st q (station-rules t a) (consistent-of t b f .1) g in
-    status-image (width t) (statusAfter s st q) (fits-image (width t) (s .resources) (statusAfter s st q .on) (unfold stationOf in
-    a .resources) (new .on))
-    (λ k h.
-    let l : q .device < limit (width t) = lt-of-lt-of-le (form-device s q form) (unfold stationOf in a .devices) in
-    unfold statusAfter in (after-other (st .entries) q k (λ z. omega arith) ∙ entries-out (width t) b k h))
+-- the image after an accepted request reads back as the status after it, and gets neither 7 nor 8
+module _ (t b : List ℕ) (q : Request) (e : passes (tableVerdict t) ≡ true) (f : passes (stateVerdict t b) ≡ true)
+    (g : passes (requestVerdict (station t) (status t b .entries) q) ≡ true) where
+  new : ConsistentStatus (limit (width t)) (station t) (statusAfter (station t) (status t b) q)
+  new = after-status-consistent (limit (width t)) (station t) (status t b) q (station-rules t (accepted t e)) (consistent-of t b f .1) g
 
-pub after-consistent : (t b : List ℕ) (q : Request) → passes (tableVerdict t) ≡ true → passes (stateVerdict t b) ≡ true
-    → passes (requestVerdict (station t) (status t b .entries) q) ≡ true → stateVerdict t (stateAfter t b q) ≡ Done 0
-after-consistent t b q e f g =
-    let s = station t in
-    consistent-is t (stateAfter t b q) (unfold stateAfter in image-length (width t) (statusAfter s (status t b) q))
-    (rw (after-reads t b q e f g) (after-status-consistent (limit (width t)) s (status t b) q (station-rules t (accepted t e))
-    (consistent-of t b f .1) g))
+  new-out : (k : ℕ) → limit (width t) ≤ k → statusAfter (station t) (status t b) q .entries k ≡ noEntry
+  unfolding statusAfter
+  new-out k h =
+      let form = form-passed (station t) (status t b .entries) q g in
+      let l : q .device < limit (width t) = lt-of-lt-of-le (form-device (station t) q form) (unfold stationOf in accepted t e .devices) in
+      after-other (status t b .entries) q k (λ z. omega arith) ∙ entries-out (width t) b k h
+
+  pub after-reads : status t (stateAfter t b q) ≡ statusAfter (station t) (status t b) q
+  unfolding stateAfter
+  after-reads = image-reads t e (statusAfter (station t) (status t b) q) new new-out
+
+  pub after-consistent : stateVerdict t (stateAfter t b q) ≡ Done 0
+  unfolding stateAfter
+  after-consistent = image-consistent t e (statusAfter (station t) (status t b) q) new new-out

@@ -28,26 +28,28 @@ NotShallower t b d =
     let parent = station t .device d .parent in
     (parent ≡ absent) ⊎ (status t b .entries parent .state ≤ status t b .entries d .state)
 
+-- a consistent state with exactly the needed set on
+pub record ExactlyNeeded (t b : List ℕ) : Type 0 where
+  -- a resource is on exactly if some device needs it with its entry
+  pub on : (r : ℕ) → (member (status t b .on) r ≡ true) ↔ SomeNeeds t b r
+  -- no device is shallower than its parent
+  pub parents : (d : ℕ) → d < station t .devices → NotShallower t b d
+  -- it gets neither 7 nor 8
+  pub good : numberOf (stateVerdict t b) ≡ 0
+
 -- the state b′ that an accepted request leaves of b
 pub record LeftState (t b : List ℕ) (q : Request) (b′ : List ℕ) : Type 0 where
-  -- a resource is on exactly if some device needs it with its entry of then
-  pub on : (r : ℕ) → (member (status t b′ .on) r ≡ true) ↔ SomeNeeds t b′ r
-  -- no device is shallower than its parent
-  pub parents : (d : ℕ) → d < station t .devices → NotShallower t b′ d
+  pub needed : ExactlyNeeded t b′
   -- the device of the request has its new entry, and every other entry is as before
   pub own : status t b′ .entries (q .device) ≡ newEntry (status t b .entries (q .device)) q
   pub others : (d : ℕ) → (d ≡ q .device → ⊥) → status t b′ .entries d ≡ status t b .entries d
-  -- it gets neither 7 nor 8
-  pub good : numberOf (stateVerdict t b′) ≡ 0
 
--- the plan plan′ that it leaves of plan, and the answer's count. A word of the plan has `size` elements, and `written` turns words into
--- these
-pub record LeftPlan (size : ℕ) (written : List ℕ → List ℕ) (t b : List ℕ) (q : Request) (plan : List ℕ) (count : ℕ) (plan′ : List ℕ)
-    : Type 0 where
-  -- the count is the number of calls
-  pub counts : count ≡ length (calls (station t) (status t b) q)
-  -- their words are at the front of the plan, and what is past them is as it was lent
-  pub front : take (size * count) plan′ ≡ written (map wordOf (calls (station t) (status t b) q))
+-- the plan plan′ that is left of plan with words in it, and the answer's count. A word of the plan has `size` elements, and `written` turns
+-- words into these
+pub record LeftPlan (size : ℕ) (written : List ℕ → List ℕ) (words plan : List ℕ) (count : ℕ) (plan′ : List ℕ) : Type 0 where
+  pub counts : count ≡ length words
+  -- the words are at the front of the plan, and what is past them is as it was lent
+  pub front : take (size * count) plan′ ≡ written words
   pub kept : drop (size * count) plan′ ≡ drop (size * count) plan
 
 -- number and count are the answer's; b and plan are state and plan as they are lent, b′ and plan′ as they are afterwards
@@ -57,7 +59,7 @@ pub record Demand2 (size : ℕ) (written : List ℕ → List ℕ) (t b : List �
   pub accepts : (number ≡ 0) ↔ (Permitted t b q × (size * planRoom (width t) ≤ length plan))
   -- and then
   pub state : number ≡ 0 → LeftState t b q b′
-  pub calls : number ≡ 0 → LeftPlan size written t b q plan count plan′
+  pub calls : number ≡ 0 → LeftPlan size written (map wordOf (calls (station t) (status t b) q)) plan count plan′
 
 -- of a plan of words, and of one of bytes, four a word
 abbrev pub Demand2Words : List ℕ → List ℕ → Request → List ℕ → ℕ → ℕ → List ℕ → List ℕ → Type 0

@@ -18,7 +18,7 @@ use Rattle.rules.specs.Power.{needs, needed}
 use Rattle.rules.specs.Status.{status}
 use Rattle.rules.specs.Request.{entriesAfter}
 use Rattle.rules.specs.Calls.{wordOf, ownCall, endSet}
-use Rattle.rules.specs.Conforms.{Conforms}
+use Rattle.rules.specs.Conforms.{ConformsTo}
 use Rattle.rules.specs.Execution.{execution}
 use Rattle.rules.specs.Outcomes.{permittedVerdict, planWords, planBytes, checkWords, checkBytes}
 
@@ -52,7 +52,7 @@ onAfter t b ws n = execution (member (status t b .on)) (take n ws)
 
 pub record Demand3 (t b : List ℕ) (q : Request) (ws : List ℕ) : Type 0 where
   -- for a permitted request the checker passes the list exactly if it conforms
-  pub exactly : Permitted t b q → Passed t b q ws ↔ Conforms (station t) (status t b) q ws
+  pub exactly : Permitted t b q → Passed t b q ws ↔ ConformsTo (station t) (status t b) q ws
   -- at the start and after every word, what is needed before and after is on
   pub keeps : Passed t b q ws → (n r : ℕ) → member (neededBefore t b) r ≡ true → member (neededAfter t b q) r ≡ true
       → onAfter t b ws n r ≡ true

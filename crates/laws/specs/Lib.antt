@@ -2,4 +2,5 @@ pub mod Carried
 pub mod Runs
 pub mod Demand2
 pub mod Demand3
+pub mod BringUp
 pub mod Inverse

@@ -1,14 +1,13 @@
 -- The planner whole: the words and the state of an accepted request, and the outcome.
 use mathlib.Core.Path.{_≡_, refl, sym, ap, _∙_}
 use mathlib.Core.Bool.{Bool, true, false, not}
-use mathlib.Core.List.{List, []}
+use mathlib.Core.List.{List}
 use Prim.Native.Nat.{ℕ, _*_, _≤_, _<_}
 use native.Mathlib.Omega.{arith}
-use borrow.Author.Tests.{leb-true, not-true, not-false}
+use borrow.Author.Tests.{leb-true, not-false}
 use lib.Dec.{leb}
 use lib.ListN.{length, take}
 use Rattle.words.specs.Words.{put, wordBytes}
-use Rattle.words.proofs.Put.{take-put}
 use Rattle.rules.specs.declared.Change.{Change}
 use Rattle.rules.specs.declared.Request.{Request}
 use Rattle.rules.specs.declared.State.{State}
@@ -17,9 +16,8 @@ use Rattle.rules.specs.declared.Verdict.the-variants.{Done}
 use Rattle.rules.specs.Answers.{numberOf, countOf, passes}
 use Rattle.rules.specs.Station.{versionWidth, width, station}
 use Rattle.rules.specs.Status.{Status, status}
-use Rattle.rules.specs.Calls.{turnOn, turnOff, calls, changeOf}
-use Rattle.rules.specs.Outcomes.{Outcome, outcome, planRoom, planned, stagesVerdict, planVerdict, stateAfter, planWords, planBytes}
-use Rattle.rules.proofs.Answers.{first-pass, first-stop, first-none}
+use Rattle.rules.specs.Calls.{ownCall, ownLast, calls, switchingWords, changeOf}
+use Rattle.rules.specs.Outcomes.{planRoom, planned, stagesVerdict, stateAfter, planWords, planBytes}
 use Rattle.table.specs.Layout.{WellSized}
 use Rattle.status.specs.State.{loadState, storeState, withEntry}
 use Rattle.status.specs.Ready.{statusWith}
@@ -29,7 +27,9 @@ use Rattle.request.proofs.Changes.{status-with, on-small}
 use Rattle.laws.specs.Demand2.{Demand2Words}
 use Rattle.laws.proofs.Stages.{room-passed}
 use Rattle.laws.proofs.Demand2.{demand2-words}
-use Rattle.planner.specs.Plan.{changeWords, changedState, Written}
+use Rattle.switching.proofs.Made.{words-are}
+use Rattle.switching.proofs.Answered.{Answered, outcome-refused, outcome-written, front-bytes}
+use Rattle.planner.specs.Plan.{changedState, Written}
 
 -- ---- the state by value after a change
 pub changed-is : (st entered : State) (d : ℕ) (c : Change) → entered ≡ withEntry st d (c .entry)
@@ -43,15 +43,16 @@ module _ (t b : List ℕ) (q : Request) (on : ℕ) (c : Change) (h : on ≡ stat
   change-is : c ≡ changeOf (station t) (status t b) q
   change-is = i ∙ ap (λ (st : Status). changeOf (station t) st q) (status-with t b on h)
 
-  words-are : changeWords (station t) c ≡ planned t b q
-  unfolding changeWords planned calls turnOn turnOff
-  words-are = rw change-is refl
+  list-is : switchingWords (station t) (c .switching) ≡ planned t b q
+  unfolding planned calls
+  list-is = rw change-is (words-are (ownCall (station t) (status t b .entries (q .device)) q) (ownLast q) (status t b .on) _ (station t))
 
 -- what is known of each value comes before what it is made of, so that the search finds the values in turn
 pub plan-written : (t b : List ℕ) (q : Request) (n : ℕ) (b′ plan plan′ : List ℕ) (after : State) → b′ ≡ storeState after
     → (before : State) (c : Change) → after ≡ changedState before (q .device) c → before ≡ loadState b
     → (on : ℕ) → c ≡ changeOf (station t) (statusWith t b on) q → on ≡ status t b .on
-    → n ≡ length (changeWords (station t) c) → plan′ ≡ put plan 0 (changeWords (station t) c) → PermittedRequest t b q
+    → n ≡ length (switchingWords (station t) (c .switching)) → plan′ ≡ put plan 0 (switchingWords (station t) (c .switching))
+    → PermittedRequest t b q
     → Written t b q plan n b′ plan′
 unfolding changedState
 plan-written t b q n b′ plan plan′ after s before c m l on i h k w g =
@@ -60,7 +61,7 @@ plan-written t b q n b′ plan plan′ after s before c m l on i h k w g =
     ap storeState (m ∙ rw l refl)
     ∙ after-image t b q (c .entry) (c .needed) (g .long) (omega (arith, g .device, g .ready .sized .devices))
     (ap (λ (x : Change). x .entry) same) (ap (λ (x : Change). x .needed) same) in
-    let are = words-are t b q on c h i in
+    let are = list-is t b q on c h i in
     record { count = k ∙ ap length are; state = s ∙ image; words = w ∙ ap (put plan 0) are }
 
 -- ---- what the code asks of its parts
@@ -77,38 +78,12 @@ sized-table t b q g = g .ready .sized
 
 pub ruleset writing = (image-132, device-32, sized-table, on-small)
 
--- ---- the outcome: what v, b′ and plan′ are as parts of it
-pub record Answered (v : Verdict) (b′ plan′ : List ℕ) (o : Outcome) : Type 0 where
-  pub verdict : v ≡ o .verdict
-  pub state : b′ ≡ o .state
-  pub plan : plan′ ≡ o .plan
-
-pub parts : {v : Verdict} {b plan : List ℕ} {o : Outcome} → Answered v b plan o → (v ≡ o .verdict) × (b ≡ o .state) × (plan ≡ o .plan)
-parts a = (a .verdict, a .state, a .plan)
+-- ---- the outcome
 
 -- the parts of an outcome of words keep demand 2
 pub words-demand : {v : Verdict} {b′ plan′ : List ℕ} (t b : List ℕ) (q : Request) (plan : List ℕ)
     → Answered v b′ plan′ (planWords t b q plan) → Demand2Words t b q plan (numberOf v) (countOf v) b′ plan′
 words-demand t b q plan a = rw (a .verdict, a .state, a .plan) (demand2-words t b q plan)
-
--- whatever an accepted request writes into the plan: words, or their bytes. v is the answer of the stages, p whether it passes
-module _ (t b : List ℕ) (q : Request) (room : Bool) (v : Verdict) (p : Bool) (e : v ≡ stagesVerdict room t b q) (f : p ≡ passes v)
-    (plan written : List ℕ) where
-  refused-outcome : not p ≡ true → Answered v b plan (outcome (planVerdict room t b q) b plan (stateAfter t b q) written)
-  unfolding planVerdict outcome
-  refused-outcome n =
-      let stop : passes v ≡ false = sym f ∙ not-true p n in
-      let same : planVerdict room t b q ≡ v = first-stop (stagesVerdict room t b q) [] _ (sym (ap passes e) ∙ stop) ∙ sym e in
-      let no : passes (planVerdict room t b q) ≡ false = ap passes same ∙ stop in
-      record { verdict = sym same; state = rw no refl; plan = rw no refl }
-
-  done-outcome : not p ≡ false → (n : ℕ) (b′ : List ℕ) → n ≡ length (planned t b q) → b′ ≡ stateAfter t b q
-      → Answered (Done n) b′ written (outcome (planVerdict room t b q) b plan (stateAfter t b q) written)
-  unfolding planVerdict outcome passes
-  done-outcome n k b′ c s =
-      let done : planVerdict room t b q ≡ Done (length (planned t b q)) =
-      first-pass (stagesVerdict room t b q) [] _ (sym (ap passes e) ∙ sym f ∙ not-false p n) ∙ first-none _ in
-      record { verdict = rw (done, c) refl; state = rw done s; plan = rw done refl }
 
 -- n: the room that a plan must have, in words; m: the words or bytes that it has
 module _ (t b : List ℕ) (q : Request) (n m : ℕ) (i : n ≡ planRoom (width t)) (v : Verdict) (p : Bool) (f : p ≡ passes v) where
@@ -123,22 +98,24 @@ module _ (t b : List ℕ) (q : Request) (plan : List ℕ) (n : ℕ) (i : n ≡ p
   module _ (e : v ≡ stagesVerdict (leb n (length plan)) t b q) where
     pub words-refused : not p ≡ true → Answered v b plan (planWords t b q plan)
     unfolding planWords
-    words-refused k = refused-outcome t b q _ v p (rw i at e) f plan _ k
+    words-refused k = outcome-refused _ v p (rw i at e) f (λ ws. ws) b plan (stateAfter t b q) (planned t b q) k
 
     pub words-planned : not p ≡ false → (k : ℕ) (b′ plan′ : List ℕ) → Written t b q plan k b′ plan′
         → Answered (Done k) b′ plan′ (planWords t b q plan)
     unfolding planWords
-    words-planned h k b′ plan′ w = rw (w .words) (done-outcome t b q _ v p (rw i at e) f plan _ h k b′ (w .count) (w .state))
+    words-planned h k b′ plan′ w =
+        outcome-written _ v p (rw i at e) f (λ ws. ws) b plan (stateAfter t b q) (planned t b q) h k b′ plan′ (w .count) (w .state)
+        (w .words)
 
   -- a plan of bytes
   module _ (e : v ≡ stagesVerdict (leb (4 * n) (length plan)) t b q) where
     pub bytes-refused : not p ≡ true → Answered v b plan (planBytes t b q plan)
     unfolding planBytes
-    bytes-refused k = refused-outcome t b q _ v p (rw i at e) f plan _ k
+    bytes-refused k = outcome-refused _ v p (rw i at e) f wordBytes b plan (stateAfter t b q) (planned t b q) k
 
     pub bytes-planned : not p ≡ false → (k : ℕ) (b′ plan′ words words′ : List ℕ) → Written t b q words k b′ words′
         → plan′ ≡ put plan 0 (wordBytes (take k words′)) → Answered (Done k) b′ plan′ (planBytes t b q plan)
     unfolding planBytes
     bytes-planned h k b′ plan′ words words′ w r =
-        let front : take k words′ ≡ planned t b q = rw (w .words) (take-put words (planned t b q) k (sym (w .count))) in
-        rw (r, front) (done-outcome t b q _ v p (rw i at e) f plan _ h k b′ (w .count) (w .state))
+        outcome-written _ v p (rw i at e) f wordBytes b plan (stateAfter t b q) (planned t b q) h k b′ plan′ (w .count) (w .state)
+        (r ∙ ap (put plan 0) (front-bytes (planned t b q) (stateAfter t b q) words words′ k b′ w))

@@ -13,13 +13,6 @@ ghost use Rattle.laws.specs.Demand2.{Demand2Words};
 ghost use Rattle.request.specs.Permitted.{PermittedRequest};
 ghost use Rattle.planner.specs.Plan.{changedState, Written};
 
-// The words that a plan must have room for.
-pub fn room(table: &[u8]) -> usize
-    ensures { λ r. ⌜ (r ≡ planRoom (width (now (table .entry)))) × (r ≤ 65) ⌝ }
-{
-    table::fields::limit(table) + 1
-}
-
 // The state after a change: the device's new entry, and exactly what is then needed on.
 fn changed_state(before: State, d: usize, c: Change) -> State
     requires { ⌜ d < 32 ⌝ }
@@ -42,7 +35,7 @@ pub fn write_plan(table: &[u8], state: &mut [u8], q: Request, plan: &mut [u32]) 
     let c = request::change::change(table, state, on, q);
     let before = status::image::load(state);
     let after = changed_state(before, q.device as usize, c);
-    let count = crate::write::write_calls(table, c, plan);
+    let count = switching::write::write_calls(table, c.switching, plan);
     status::image::store(after, state);
     count
 }
@@ -55,7 +48,7 @@ pub fn plan_words(table: &[u8], state: &mut [u8], q: Request, plan: &mut [u32]) 
     ensures demand { λ r. ⌜ Demand2Words (now (table .entry)) (now (state .entry)) q (now (plan .entry)) (numberOf r) (countOf r)
         (now (state .exit)) (now (plan .exit)) ⌝ }
 {
-    let fits = plan.len() >= room(table);
+    let fits = plan.len() >= switching::write::room(table);
     let v = request::stages::verdict(table, state, fits, q);
     if !rules::passes(v) {
         return v;

@@ -16,7 +16,8 @@ use Rattle.rules.specs.Table.{headerGood, tableVerdict}
 use Rattle.rules.specs.Status.{statusOf, entries, stateVerdict}
 use Rattle.rules.specs.Request.{requestVerdict}
 use Rattle.rules.specs.Outcomes.{requestStage, stagesVerdict}
-use Rattle.rules.proofs.Answers.{done-passes, refused-stops, first-pass, first-stop, first-alone, unless-of, unless-stop}
+use Rattle.rules.proofs.Answers.{done-passes, refused-stops, first-pass, first-stop, first-alone, unless-of, unless-stop, answer-passed}
+use Rattle.rules.proofs.Answers.{answer-stopped}
 use Rattle.laws.proofs.Accepted.{accepted}
 use Rattle.laws.proofs.States.{consistent-of}
 use Rattle.table.proofs.Verdicts.{sized-of, no-table, table-passed}
@@ -35,19 +36,11 @@ request-alone : (s : Station) (entries : ℕ → Entry) (q : Request) → firstO
 unfolding requestVerdict
 request-alone s entries q = first-alone _
 
--- v is a stage's answer, w what it is by the rules, p whether it passes
-module _ (v w : Verdict) (p : Bool) (e : v ≡ w) (f : p ≡ passes v) where
-  passed : not p ≡ false → passes w ≡ true
-  passed n = sym (ap passes e) ∙ sym f ∙ not-false p n
-
-  stopped : not p ≡ true → passes w ≡ false
-  stopped n = sym (ap passes e) ∙ sym f ∙ not-true p n
-
 -- ---- the table's answer
 module _ (t : List ℕ) (v : Verdict) (p : Bool) (e : v ≡ tableVerdict t) (f : p ≡ passes v) where
   pub stop-table : (b : List ℕ) (q : Request) (room : Bool) → not p ≡ true → v ≡ stagesVerdict room t b q
   unfolding stagesVerdict
-  stop-table b q room n = rw e (sym (first-stop (tableVerdict t) _ (Done 0) (stopped v _ p e f n)))
+  stop-table b q room n = rw e (sym (first-stop (tableVerdict t) _ (Done 0) (answer-stopped v _ p e f n)))
 
 -- h: whether the header is good
 pub stop-header : (t b : List ℕ) (q : Request) (room h : Bool) → h ≡ headerGood t → not h ≡ true
@@ -62,11 +55,11 @@ module _ (t b : List ℕ) (done : tableVerdict t ≡ Done 0) (u : Verdict) (r : 
   pub stop-state : (q : Request) (room : Bool) → not r ≡ true → u ≡ stagesVerdict room t b q
   unfolding stagesVerdict
   stop-state q room n =
-      rw g (sym (first-pass (tableVerdict t) _ (Done 0) on-table ∙ first-stop (stateVerdict t b) _ (Done 0) (stopped u _ r g h n)))
+      rw g (sym (first-pass (tableVerdict t) _ (Done 0) on-table ∙ first-stop (stateVerdict t b) _ (Done 0) (answer-stopped u _ r g h n)))
 
   module _ (yes : not r ≡ false) where
     on-state : passes (stateVerdict t b) ≡ true
-    on-state = passed u _ r g h yes
+    on-state = answer-passed u _ r g h yes
 
     -- the lists that the request's stage is handed stand apart, so that the search compares them with t and b once
     pub request-asks : (table image : List ℕ) → t ≡ table → b ≡ image → Ready table image

@@ -7,27 +7,24 @@ ghost use Prim.Native.Nat.{_^_, _<_};
 ghost use Rattle.rules.specs.Station.{countR, station};
 ghost use Rattle.rules.specs.Calls.{changeOf};
 ghost use Rattle.status.specs.Ready.{statusWith};
-ghost use Rattle.request.specs.Permitted.{PermittedRequest, GoodChange};
+ghost use Rattle.switching.specs.Switching.{GoodSwitching};
+ghost use Rattle.request.specs.Permitted.{PermittedRequest};
 
 pub fn change(table: &[u8], devices: &[u8], on: u32, q: Request) -> Change
     requires { ⌜ PermittedRequest (now table) (now devices) q × (on < 2 ^ countR (now table)) ⌝ }
     ensures { λ r. ⌜ (r ≡ changeOf (station (now (table .entry))) (statusWith (now (table .entry)) (now (devices .entry)) on) q)
-        × GoodChange (now (table .entry)) r ⌝ }
+        × GoodSwitching (now (table .entry)) (r .switching) ⌝ }
 {
     let d = q.device as usize;
     let e = status::image::entry(devices, d);
     let entry = crate::new_entry(e, q);
     let needed = status::needed::needed_with(table, devices, d, entry);
-    let added = sets::minus(needed, on);
-    let removed = sets::minus(on, needed);
     let own = calls::own::own_call(table, e, q);
     let last = calls::own::own_last(q);
+    let switching = switching::switching(own, last, on, needed);
     Change {
         entry,
         needed,
-        added,
-        removed,
-        own,
-        last,
+        switching,
     }
 }

@@ -1,10 +1,10 @@
 -- The laws of chains of checks: an answer passes exactly if each check does, and each check is what it tests.
 use mathlib.Core.Path.{_≡_, refl, sym, ap, _∙_}
-use mathlib.Core.Bool.{Bool, true, false, true≢false}
+use mathlib.Core.Bool.{Bool, true, false, not, true≢false}
 use mathlib.Core.List.{List, [], _∷_}
 use Prim.Native.Nat.{ℕ, _<_, _≤_}
 use native.Mathlib.Omega.{arith}
-use borrow.Author.Tests.{ltb-true, ltb-false, lt-ltb, le-ltb}
+use borrow.Author.Tests.{ltb-true, ltb-false, lt-ltb, le-ltb, not-true, not-false}
 use lib.Dec.{ltb}
 use Rattle.rules.specs.declared.Verdict.{Verdict}
 use Rattle.rules.specs.declared.Verdict.the-variants.{Done, Refused}
@@ -127,3 +127,11 @@ no-reason-0 NoWake e = omega arith
 no-reason-0 WakeUnpowered e = omega arith
 no-reason-0 BadWakeState e = omega arith
 no-reason-0 NotConforming e = omega arith
+
+-- ---- v is an answer as code has it, w what it is by the rules, p whether it passes
+module _ (v w : Verdict) (p : Bool) (e : v ≡ w) (f : p ≡ passes v) where
+  pub answer-passed : not p ≡ false → passes w ≡ true
+  answer-passed n = sym (ap passes e) ∙ sym f ∙ not-false p n
+
+  pub answer-stopped : not p ≡ true → passes w ≡ false
+  answer-stopped n = sym (ap passes e) ∙ sym f ∙ not-true p n

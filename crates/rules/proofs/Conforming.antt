@@ -1,16 +1,15 @@
 -- What a list that conforms has, part by part, and short lists that rise, fall, repeat or do not. That the planner's list conforms, and
 -- that the checker's test says the same, is proved in crates/laws.
 use mathlib.Core.Path.{_≡_, refl}
-use mathlib.Core.Bool.{true, false}
+use mathlib.Core.Bool.{Bool, true, false}
 use mathlib.Core.List.{List, [], _∷_, _++_, map}
 use Prim.Native.Nat.{ℕ, _≤_}
 use native.Mathlib.Omega.{arith}
-use Rattle.sets.specs.Sets.{member}
+use Rattle.sets.specs.Sets.{member, minus}
+use Rattle.rules.specs.declared.Call.{Call}
 use Rattle.rules.specs.declared.Call.the-variants.{ResourceOn, ResourceOff}
-use Rattle.rules.specs.declared.Request.{Request}
 use Rattle.rules.specs.Station.{Station}
-use Rattle.rules.specs.Status.{Status}
-use Rattle.rules.specs.Calls.{wordOf, listOf, ownCall, ownLast, toTurnOn, toTurnOff, orderIn, arrange}
+use Rattle.rules.specs.Calls.{wordOf, toTurnOn, toTurnOff, orderIn, arrange}
 use Rattle.rules.specs.Conforms.{times, EachOnce, Rises, Falls, Conforms}
 
 -- ---- how often
@@ -46,19 +45,19 @@ unfolding Falls
 not-falling h = let l : 1 ≤ 0 = h .1 .0 in omega arith
 
 -- ---- the parts of a list that conforms
-module _ (s : Station) (st : Status) (q : Request) (words : List ℕ) (c : Conforms s st q words) where
-  pub own-last-words : ownLast q ≡ true → words ≡ map wordOf (map ResourceOn (c .ons) ++ map ResourceOff (c .offs)
-      ++ listOf (ownCall s (st .entries (q .device)) q))
+module _ (s : Station) (own : List Call) (last : Bool) (on target : ℕ) (words : List ℕ) (c : Conforms s own last on target words) where
+  pub own-last-words : last ≡ true → words ≡ map wordOf (map ResourceOn (c .ons) ++ map ResourceOff (c .offs) ++ own)
   unfolding arrange
   own-last-words e = rw e at (c .whole)
 
-  pub own-first-words : ownLast q ≡ false → words ≡ map wordOf (listOf (ownCall s (st .entries (q .device)) q) ++ map ResourceOn (c .ons)
-      ++ map ResourceOff (c .offs))
+  pub own-first-words : last ≡ false → words ≡ map wordOf (own ++ map ResourceOn (c .ons) ++ map ResourceOff (c .offs))
   unfolding arrange
   own-first-words e = rw e at (c .whole)
 
-  pub ons-are : EachOnce (toTurnOn s st q) (c .ons) × Rises (orderIn s) (c .ons)
+  pub ons-are : EachOnce (minus target on) (c .ons) × Rises (orderIn s) (c .ons)
+  unfolding toTurnOn
   ons-are = (c .onsOnce, c .onsRise)
 
-  pub offs-are : EachOnce (toTurnOff s st q) (c .offs) × Falls (orderIn s) (c .offs)
+  pub offs-are : EachOnce (minus on target) (c .offs) × Falls (orderIn s) (c .offs)
+  unfolding toTurnOff
   offs-are = (c .offsOnce, c .offsFall)

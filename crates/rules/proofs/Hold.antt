@@ -21,37 +21,60 @@ use Rattle.rules.specs.Power.{supported, ownSet, listedSet, stateNeeds, 
 use Rattle.rules.specs.Power.{wakeFrom, wakePowered, wakeState, wakePair}
 use Rattle.rules.specs.Status.{entryAt, entryBytes, entriesOf, statusOf, imageOf, freshStatus, entryGood}
 use Rattle.rules.specs.Status.{entryZero, entriesGood, onGood, parentAllows, wakeConsistent, consistentButPower, powered}
-use Rattle.rules.specs.Status.{consistent, valuesGood, consistencyVerdict, stateVerdict}
+use Rattle.rules.specs.Status.{consistent, valuesGood, imageGood, valuesVerdict, consistencyVerdict, stateVerdict}
 use Rattle.rules.specs.Request.{numbersGood, formGood, notShallowerOrD0, childBars, wakeAllows, moveVerdict, armVerdict}
 use Rattle.rules.specs.Request.{kindVerdict, requestVerdict, newEntry, replaceEntry}
 use Rattle.rules.specs.Calls.{wakeOf, callOfBytes, callOf, listOf, only, methodFor, callsMethod, moveCall, wakeCall, ownCall}
 use Rattle.rules.specs.Calls.{ownLast, endSet, toTurnOn, toTurnOff, membersFrom, earlier, insert, sort, rising, turnOn, turnOff}
-use Rattle.rules.specs.Calls.{arrange, calls, statusAfter}
-use Rattle.rules.specs.Check.{onWord, offWord, andThen, takeWords, mayCome, takeSet, ownFirstCalls, ownLastCalls, isEnd, conforming}
-use Rattle.rules.specs.Outcomes.{outcome, freshVerdict, fresh, requestStage, stagesVerdict, planned, planVerdict, stateAfter}
-use Rattle.rules.specs.Outcomes.{planWords, planBytes, checkWords, checkBytes, recordPart}
+use Rattle.rules.specs.Calls.{arrange, switchCalls, calls, statusAfter, switchingWords}
+use Rattle.rules.specs.Check.{onWord, offWord, andThen, takeWords, mayCome, takeSet, firstCalls, lastCalls, isEnd, conforming}
+use Rattle.rules.specs.Outcomes.{outcome, freshVerdict, fresh, requestStage, stagesVerdict, planVerdict, planOutcome, planned}
+use Rattle.rules.specs.Outcomes.{stateAfter}
+use Rattle.rules.specs.Outcomes.{planWords, planBytes, listVerdict, ofBytes, checkWords, checkBytes, recordPart}
+use Rattle.rules.specs.BringUp.{butPowerVerdict, stateButPowerVerdict, bringUpStages, bringUpCalls, statusBroughtUp, bringUpList}
+use Rattle.rules.specs.BringUp.{stateBroughtUp, bringUpWords}
+use Rattle.rules.specs.BringUp.{bringUpBytes, checkBringUpWords, checkBringUpBytes}
+use Rattle.rules.specs.BringUpRows.{doneRows, refusedRows}
 use Rattle.rules.specs.Execution.{carryOut, execution}
 use Rattle.rules.specs.Rows.{bytes, rows, benchTable, benchDevices}
 use Rattle.rules.specs.OwnStation.{ownTable, ownState, wideTable}
 use Rattle.rules.specs.OwnRows.{ownRows, callWords, otherWords}
 use Rattle.rules.specs.Holds.{same, answers, freshAnswers, startOf, stateOf, endState, leaves, wordRead, wordsRead, agree}
-use Rattle.rules.specs.Holds.{changes, carried, checks, checksAll, holdsFrom, holdsIn, wrong}
+use Rattle.rules.specs.Holds.{changes, carried, checks, checksAll, holdsFrom, holdsIn, holds, wrong, holdsBringUpIn, holdsBringUp}
 
-pub all-hold : (wrong 1 rows ≡ []) × (wrong 1 ownRows ≡ [])
+pub all-hold : (wrong holds 1 rows ≡ []) × (wrong holds 1 ownRows ≡ [])
 unfolding member union minus single firstN subset readLE bytesLE put wordBytes byteWords leastFrom every below eachFrom passes firstOf
     unless lowest versionGood versionWidth width deviceStart resourceAt deviceAt stationOf headerGood countsGood lengthGood firstBad
     resourceGood parentGood present setGood sxdGood sxwGood deepestGood headFields setFields sxdFields sxwFields deepestFields valueFields
     zeroFields deviceFields badField fieldsGood objectsGood fieldsOrObjects deviceGood tableVerdict supported ownSet listedSet stateNeeds
     wakeNeeds needs neededBelow needed wakeRange
     wakeFrom wakePowered wakeState wakePair entryAt entryBytes entriesOf statusOf joinFrom imageOf freshStatus entryGood entryZero
-    entriesGood onGood parentAllows wakeConsistent consistentButPower powered consistent valuesGood consistencyVerdict stateVerdict
+    entriesGood onGood parentAllows wakeConsistent consistentButPower powered consistent valuesGood imageGood valuesVerdict
+    consistencyVerdict stateVerdict
     numbersGood formGood notShallowerOrD0 childBars wakeAllows moveVerdict armVerdict kindVerdict requestVerdict newEntry replaceEntry
     listOf only methodFor callsMethod moveCall wakeCall ownCall ownLast endSet toTurnOn toTurnOff membersFrom earlier insert sort rising
-    turnOn turnOff arrange calls statusAfter andThen takeWords mayCome takeSet ownFirstCalls ownLastCalls isEnd conforming outcome
-    freshVerdict fresh requestStage stagesVerdict planned planVerdict stateAfter planBytes checkBytes carryOut execution wakeOf
+    turnOn turnOff arrange switchCalls calls statusAfter andThen takeWords mayCome takeSet firstCalls lastCalls isEnd conforming outcome
+    freshVerdict fresh requestStage stagesVerdict planVerdict planOutcome planned stateAfter planBytes listVerdict ofBytes checkBytes
+    carryOut execution wakeOf
     callOfBytes callOf planWords checkWords recordPart same answers freshAnswers startOf stateOf endState leaves wordRead wordsRead
-    agree changes carried checks checksAll holdsFrom holdsIn wrong ownTable ownState wideTable
+    agree switchingWords changes carried checks checksAll holdsFrom holdsIn wrong ownTable ownState wideTable
 all-hold = (refl, refl)
+
+-- and so do the rows of bring-up
+pub bring-up-holds : (wrong holdsBringUp 1 doneRows ≡ []) × (wrong holdsBringUp 1 refusedRows ≡ [])
+unfolding member union minus single readLE bytesLE put wordBytes byteWords leastFrom every below eachFrom passes firstOf
+    unless lowest versionGood versionWidth width deviceStart resourceAt deviceAt stationOf headerGood countsGood lengthGood firstBad
+    resourceGood parentGood present setGood sxdGood sxwGood deepestGood headFields setFields sxdFields sxwFields deepestFields valueFields
+    zeroFields deviceFields badField fieldsGood objectsGood fieldsOrObjects deviceGood tableVerdict supported ownSet listedSet stateNeeds
+    wakeNeeds needs neededBelow needed wakeRange wakeFrom wakePowered wakeState wakePair entryAt entryBytes entriesOf statusOf joinFrom
+    imageOf entryGood entryZero entriesGood onGood parentAllows wakeConsistent consistentButPower valuesGood imageGood valuesVerdict
+    toTurnOn
+    toTurnOff membersFrom earlier insert sort rising turnOn turnOff arrange switchCalls andThen takeWords mayCome takeSet firstCalls
+    lastCalls isEnd conforming outcome planVerdict planOutcome listVerdict ofBytes carryOut execution wakeOf callOfBytes callOf
+    butPowerVerdict stateButPowerVerdict bringUpStages bringUpCalls statusBroughtUp bringUpList stateBroughtUp bringUpWords bringUpBytes
+    checkBringUpWords
+    checkBringUpBytes same answers endState leaves wordRead wordsRead agree carried checks checksAll holdsBringUpIn wrong ownTable wideTable
+bring-up-holds = (refl, refl)
 
 -- a word is read as the call with this word, or as none; words that are none leave any set
 pub codes-hold :

@@ -1,4 +1,4 @@
--- RULES.md 2.9 and 6: a call as a word, the calls of a request and their order, and the planner's list.
+-- RULES.md 2.9 and 6: a call as a word, the calls from an on-set to a target set and their order, and the planner's list for a request.
 use Prim.Native.Nat.{ℕ, zero, suc, _+_, _-_, _*_, _/_, _%_}
 use mathlib.Core.Bool.{Bool, _&&_, _||_, not, cond}
 use mathlib.Core.List.{List, [], _∷_, _++_, map, reverse}
@@ -14,6 +14,7 @@ use Rattle.rules.specs.declared.OptionalCall.the-variants.{Is, NoCall}
 use Rattle.rules.specs.Station.{Station, hasPS, hasDSW}
 use Rattle.rules.specs.declared.Entry.{Entry}
 use Rattle.rules.specs.declared.Change.{Change}
+use Rattle.rules.specs.declared.Switching.{Switching}
 use Rattle.rules.specs.Power.{isArmed, needed}
 use Rattle.rules.specs.Status.{Status}
 use Rattle.rules.specs.Request.{isMove, isArm, newEntry, entriesAfter}
@@ -86,15 +87,20 @@ ownCall s e q = cond (isMove q) (moveCall s e (q .device) (q .a)) (wakeCall s e 
 unfoldable pub ownLast : Request → Bool
 ownLast q = isMove q && eqb (q .a) 0 || isArm q
 
--- RULES.md 6.1: the needed set after the request, and what it asks to turn on and off
+-- the own calls of a request: one or none
+abbrev pub ownCalls : Station → Status → Request → List Call
+ownCalls s st q = listOf (ownCall s (st .entries (q .device)) q)
+
+-- the needed set after the request, which its calls lead to
 unfoldable pub endSet : Station → (ℕ → Entry) → Request → ℕ
 endSet s entries q = needed s (entriesAfter entries q)
 
-unfoldable pub toTurnOn : Station → Status → Request → ℕ
-toTurnOn s st q = minus (endSet s (st .entries) q) (st .on)
+-- RULES.md 6.1: from an on-set to a target set, what is to be turned on and what off
+unfoldable pub toTurnOn : ℕ → ℕ → ℕ
+toTurnOn on target = minus target on
 
-unfoldable pub toTurnOff : Station → Status → Request → ℕ
-toTurnOff s st q = minus (st .on) (endSet s (st .entries) q)
+unfoldable pub toTurnOff : ℕ → ℕ → ℕ
+toTurnOff on target = minus on target
 
 -- the members of a set among the k numbers from i on
 unfoldable pub membersFrom : ℕ → ℕ → ℕ → List ℕ
@@ -121,34 +127,43 @@ unfoldable pub rising : Station → ℕ → List ℕ
 rising s m = sort (earlier (orderIn s)) (membersFrom m 0 (s .resources))
 
 -- RULES.md 6.4: what is turned on by rising order; what is turned off by falling order, equal orders by falling number
-unfoldable pub turnOn : Station → Status → Request → List ℕ
-turnOn s st q = rising s (toTurnOn s st q)
+unfoldable pub turnOn : Station → ℕ → ℕ → List ℕ
+turnOn s on target = rising s (toTurnOn on target)
 
-unfoldable pub turnOff : Station → Status → Request → List ℕ
-turnOff s st q = reverse (rising s (toTurnOff s st q))
+unfoldable pub turnOff : Station → ℕ → ℕ → List ℕ
+turnOff s on target = reverse (rising s (toTurnOff on target))
 
--- the own call before or after the others
+-- the own calls before or after the others
 unfoldable pub arrange : Bool → List Call → List ℕ → List ℕ → List Call
 arrange last own ons offs =
     cond last (map ResourceOn ons ++ map ResourceOff offs ++ own) (own ++ map ResourceOn ons ++ map ResourceOff offs)
 
+-- the calls from an on-set to a target set, with own calls first or last
+unfoldable pub switchCalls : Station → List Call → Bool → ℕ → ℕ → List Call
+switchCalls s own last on target = arrange last own (turnOn s on target) (turnOff s on target)
+
 -- the planner's list
 unfoldable pub calls : Station → Status → Request → List Call
-calls s st q = arrange (ownLast q) (listOf (ownCall s (st .entries (q .device)) q)) (turnOn s st q) (turnOff s st q)
+calls s st q = switchCalls s (ownCalls s st q) (ownLast q) (st .on) (endSet s (st .entries) q)
 
 -- the status after an accepted request: the new entry, the others as before, and exactly the needed set on
 unfoldable pub statusAfter : Station → Status → Request → Status
 statusAfter s st q = record { entries = entriesAfter (st .entries) q; on = endSet s (st .entries) q }
 
--- all that a request does as one value: the new entry, the set needed afterwards, what is added to the on-set and what is
--- removed from it, the own call and whether it comes last
+-- the calls from an on-set to a target set as one value: what is turned on, what is turned off, the own call or none and whether it comes
+-- last
+abbrev pub switchingOf : OptionalCall → Bool → ℕ → ℕ → Switching
+switchingOf own last on target = record { added = toTurnOn on target; removed = toTurnOff on target; own = own; last = last }
+
+-- the words of all its calls
+unfoldable pub switchingWords : Station → Switching → List ℕ
+switchingWords s c = map wordOf (arrange (c .last) (listOf (c .own)) (rising s (c .added)) (reverse (rising s (c .removed))))
+
+-- all that a request does as one value: the new entry, the set needed afterwards, and the calls
 abbrev pub changeOf : Station → Status → Request → Change
 changeOf s st q =
     record {
       entry = newEntry (st .entries (q .device)) q;
       needed = endSet s (st .entries) q;
-      added = toTurnOn s st q;
-      removed = toTurnOff s st q;
-      own = ownCall s (st .entries (q .device)) q;
-      last = ownLast q;
+      switching = switchingOf (ownCall s (st .entries (q .device)) q) (ownLast q) (st .on) (endSet s (st .entries) q);
     }

@@ -1,5 +1,5 @@
--- The test that the checker computes: the words are taken from the front, phase by phase, and the first that cannot stand there ends it.
--- That it says what `Conforms` says (RULES.md 7), for accepted tables and states, is proved in crates/laws.
+-- The test that a checker computes: the words are taken from the front, phase by phase, and the first that cannot stand there ends it.
+-- That it says what `Conforms` says (RULES.md 7), for sets of resources that a byte can name, is proved in crates/laws.
 use Prim.Native.Nat.{ℕ, _/_, _%_}
 use mathlib.Core.Bool.{Bool, true, false, _&&_, _||_, cond}
 use mathlib.Core.List.{List, [], _∷_, map}
@@ -10,7 +10,7 @@ use Rattle.rules.specs.declared.Call.the-variants.{ResourceOn, ResourceO
 use Rattle.rules.specs.declared.Request.{Request}
 use Rattle.rules.specs.Station.{Station}
 use Rattle.rules.specs.Status.{Status}
-use Rattle.rules.specs.Calls.{wordOf, listOf, ownCall, ownLast, toTurnOn, toTurnOff, orderIn}
+use Rattle.rules.specs.Calls.{wordOf, ownCalls, ownLast, endSet, toTurnOn, toTurnOff, orderIn}
 
 -- what is left of a list once a phase has taken its words, or that it cannot
 pub data Rest : Type 0 where
@@ -61,23 +61,27 @@ notLower s last r = leb (orderIn s last) (orderIn s r)
 abbrev pub notHigher : Station → ℕ → ℕ → Bool
 notHigher s last r = leb (orderIn s r) (orderIn s last)
 
--- the own call where it stands first or last, none elsewhere
-unfoldable pub ownFirstCalls : Station → Status → Request → List Call
-ownFirstCalls s st q = cond (ownLast q) [] (listOf (ownCall s (st .entries (q .device)) q))
+-- the own calls where they stand first or last, none elsewhere
+unfoldable pub firstCalls : Bool → List Call → List Call
+firstCalls last own = cond last [] own
 
-unfoldable pub ownLastCalls : Station → Status → Request → List Call
-ownLastCalls s st q = cond (ownLast q) (listOf (ownCall s (st .entries (q .device)) q)) []
+unfoldable pub lastCalls : Bool → List Call → List Call
+lastCalls last own = cond last own []
 
 unfoldable pub isEnd : Rest → Bool
 isEnd (left []) = true
 isEnd (left (w ∷ ws)) = false
 isEnd refused = false
 
--- the own call first or last, ONs and OFFs, and nothing after
-unfoldable pub conforming : Station → Status → Request → List ℕ → Bool
-conforming s st q ws =
+-- the own calls first or last, the ONs and then the OFFs from an on-set to a target set, and nothing else
+unfoldable pub conforming : Station → List Call → Bool → ℕ → ℕ → List ℕ → Bool
+conforming s own last on target ws =
     isEnd
-    (andThen (takeWords (map wordOf (ownFirstCalls s st q)) ws)
-    λ a. andThen (takeSet onWord (notLower s) (toTurnOn s st q) true 0 a)
-    λ b. andThen (takeSet offWord (notHigher s) (toTurnOff s st q) true 0 b)
-    λ c. takeWords (map wordOf (ownLastCalls s st q)) c)
+    (andThen (takeWords (map wordOf (firstCalls last own)) ws)
+    λ a. andThen (takeSet onWord (notLower s) (toTurnOn on target) true 0 a)
+    λ b. andThen (takeSet offWord (notHigher s) (toTurnOff on target) true 0 b)
+    λ c. takeWords (map wordOf (lastCalls last own)) c)
+
+-- the test of a list for a request
+abbrev pub conformingTo : Station → Status → Request → List ℕ → Bool
+conformingTo s st q = conforming s (ownCalls s st q) (ownLast q) (st .on) (endSet s (st .entries) q)

@@ -1,9 +1,9 @@
 -- What a row of requests must meet: the planner, the checker, a fresh state and a device's record, on bytes and on words, and the list
--- carried out.
-use Prim.Native.Nat.{ℕ, suc, _-_, _*_, _/_, _%_}
+-- carried out; and what a row of bring-up must meet.
+use Prim.Native.Nat.{ℕ, suc, _*_, _/_, _%_}
 use mathlib.Core.Bool.{Bool, true, false, _&&_, not, cond}
-use mathlib.Core.List.{List, [], _∷_, _++_, map, reverse}
-use lib.ListN.{length, replicate, take, drop}
+use mathlib.Core.List.{List, [], _∷_, _++_}
+use lib.ListN.{length, take, drop}
 use lib.Dec.{eqb, leb}
 use Rattle.sets.specs.Sets.{member}
 use Rattle.words.specs.Words.{byteWords}
@@ -16,10 +16,12 @@ use Rattle.rules.specs.Answers.{numberOf, placeOf, countOf}
 use Rattle.rules.specs.declared.Change.{Change}
 use Rattle.rules.specs.Station.{Station, countR, station}
 use Rattle.rules.specs.Status.{status, entryBytes}
-use Rattle.rules.specs.Calls.{wordOf, callOf, listOf, rising, arrange, changeOf}
+use Rattle.rules.specs.Calls.{wordOf, callOf, switchingWords, changeOf}
 use Rattle.rules.specs.Execution.{execution}
 use Rattle.rules.specs.Outcomes.{Outcome, fresh, planWords, planBytes, checkWords, checkBytes, recordPart}
-use Rattle.rules.specs.Rows.{bytes, blank, Start, freshIn, given, Answer, Listed, Row}
+use Rattle.rules.specs.BringUp.{bringUpWords, bringUpBytes, checkBringUpWords, checkBringUpBytes}
+use Rattle.rules.specs.Rows.{imageFrom, blank, Start, freshIn, given, Answer, Listed, Row}
+use Rattle.rules.specs.BringUpRows.{BringUpRow}
 
 -- two lists are equal
 unfoldable pub same : List ℕ → List ℕ → Bool
@@ -54,7 +56,7 @@ stateOf t b (q ∷ qs) = let o = planBytes t b q (blank 132) in stateOf t (cond 
 
 -- the state afterwards: zeros between the entries and the on-set; as it was lent if the request is refused
 unfoldable pub endState : List ℕ → Answer → List ℕ
-endState b a = cond (eqb (a .number) 0) (a .entries ++ replicate (128 - length (a .entries)) 0 ++ reverse (bytes 4 (a .on))) b
+endState b a = cond (eqb (a .number) 0) (imageFrom (a .entries) (a .on)) b
 
 -- an outcome is what the row says: number, place, count, every byte of the state and, of the lent plan, the calls at its front and the rest
 -- as it was
@@ -81,7 +83,7 @@ unfoldable pub changes : Station → Change → ℕ → Answer → Bool
 changes s c d a =
     same (entryBytes (c .entry)) (take 4 (drop (4 * d) (a .entries)))
     && eqb (c .needed) (a .on)
-    && same (map wordOf (arrange (c .last) (listOf (c .own)) (rising s (c .added)) (reverse (rising s (c .removed))))) (wordsIn (a .calls))
+    && same (switchingWords s (c .switching)) (wordsIn (a .calls))
 
 -- the row's words, each a call, carried out from the on-set before: every resource ends as the row's on-set has it
 unfoldable pub carried : List ℕ → List ℕ → Answer → Bool
@@ -89,15 +91,14 @@ carried t b a =
     let ws = wordsIn (a .calls) in
     same (wordsRead ws) ws && every (λ r. agree (execution (member (status t b .on)) ws r) (member (a .on) r)) (countR t)
 
--- the checker of bytes, and of words if they are whole: number, place and count of its answer to a list
-unfoldable pub checks : List ℕ → List ℕ → Request → List ℕ → ℕ → ℕ → Bool
-checks t b q list number place =
-    answers (checkBytes t b q list) number place 0
-    && cond (eqb (length list % 4) 0) (answers (checkWords t b q (wordsIn list)) number place 0) true
+-- a checker of bytes, and of words if they are whole: number, place and count of its answer to a list
+unfoldable pub checks : (List ℕ → Verdict) → (List ℕ → Verdict) → List ℕ → ℕ → ℕ → Bool
+checks onBytes onWords list number place =
+    answers (onBytes list) number place 0 && cond (eqb (length list % 4) 0) (answers (onWords (wordsIn list)) number place 0) true
 
-unfoldable pub checksAll : List ℕ → List ℕ → Request → List Listed → Bool
-checksAll t b q [] = true
-checksAll t b q (l ∷ ls) = checks t b q (l .list) (l .number) 0 && checksAll t b q ls
+unfoldable pub checksAll : (List ℕ → Verdict) → (List ℕ → Verdict) → List Listed → Bool
+checksAll onBytes onWords [] = true
+checksAll onBytes onWords (l ∷ ls) = checks onBytes onWords (l .list) (l .number) 0 && checksAll onBytes onWords ls
 
 -- the last request, from state b and with a plan of n bytes: the planner of bytes and of words, the checker of the row's calls and of the
 -- other lists, the record that is handed out; where it is done, the list carried out, and the request as one value
@@ -105,8 +106,8 @@ unfoldable pub holdsFrom : List ℕ → List ℕ → Request → ℕ → Answer 
 holdsFrom t b q n a r =
     leaves (planBytes t b q (blank n)) a (a .calls) (endState b a) (blank n)
     && leaves (planWords t b q (blank (n / 4))) a (wordsIn (a .calls)) (endState b a) (blank (n / 4))
-    && checks t b q (a .calls) (a .checked) (a .place)
-    && checksAll t b q (r .lists)
+    && checks (checkBytes t b q) (checkWords t b q) (a .calls) (a .checked) (a .place)
+    && checksAll (checkBytes t b q) (checkWords t b q) (r .lists)
     && same (recordPart t (q .device)) (r .part)
     && cond (eqb (a .number) 0) (carried t b a && changes (station t) (changeOf (station t) (status t b) q) (q .device) a) true
 
@@ -118,7 +119,20 @@ holdsIn t r =
 abbrev pub holds : Row → Bool
 holds r = holdsIn (r .lent .table) r
 
--- the places, counted from i, of the rows that fail
-unfoldable pub wrong : ℕ → List Row → List ℕ
-wrong i [] = []
-wrong i (r ∷ rs) = cond (holds r) (wrong (suc i) rs) (i ∷ wrong (suc i) rs)
+-- bring-up from a row's state and with its room: of bytes and of words, its checker of the row's calls and of the other lists; where it is
+-- done, the list carried out
+unfoldable pub holdsBringUpIn : List ℕ → List ℕ → ℕ → Answer → List Listed → Bool
+holdsBringUpIn t b n a ls =
+    leaves (bringUpBytes t b (blank n)) a (a .calls) (endState b a) (blank n)
+    && leaves (bringUpWords t b (blank (n / 4))) a (wordsIn (a .calls)) (endState b a) (blank (n / 4))
+    && checks (checkBringUpBytes t b) (checkBringUpWords t b) (a .calls) (a .checked) (a .place)
+    && checksAll (checkBringUpBytes t b) (checkBringUpWords t b) ls
+    && cond (eqb (a .number) 0) (carried t b a) true
+
+abbrev pub holdsBringUp : BringUpRow → Bool
+holdsBringUp r = holdsBringUpIn (r .table) (r .state) (r .room) (r .answer) (r .lists)
+
+-- the places, counted from i, of the rows that fail a test
+unfoldable pub wrong : {A : Type 0} → (A → Bool) → ℕ → List A → List ℕ
+wrong test i [] = []
+wrong test i (r ∷ rs) = cond (test r) (wrong test (suc i) rs) (i ∷ wrong test (suc i) rs)

@@ -12,9 +12,11 @@ pub mod Conforms
 pub mod Execution
 pub mod Check
 pub mod Outcomes
+pub mod BringUp
 pub mod Rows
-pub mod Holds
 pub mod OwnStation
+pub mod BringUpRows
+pub mod Holds
 pub mod Damaged
 pub mod OwnRows
 pub mod WriteRows

@@ -15,7 +15,7 @@ use Rattle.rules.specs.Table.{tableVerdict}
 use Rattle.rules.specs.Status.{status, imageOf, imageSize, freshStatus, stateVerdict}
 use Rattle.rules.specs.Request.{requestVerdict}
 use Rattle.rules.specs.Calls.{wordOf, calls, statusAfter}
-use Rattle.rules.specs.Check.{conforming}
+use Rattle.rules.specs.Check.{conformingTo}
 
 -- what such a function answers, and what it leaves in the lent state and plan
 pub record Outcome : Type 0 where
@@ -50,13 +50,17 @@ stagesVerdict room t b q = firstOf (tableVerdict t ∷ stateVerdict t b ∷ unle
 abbrev pub planRoom : ℕ → ℕ
 planRoom w = limit w + 1
 
+-- the answer of the stages, else done with the count of the words
+unfoldable pub planVerdict : Verdict → List ℕ → Verdict
+planVerdict stages words = firstOf (stages ∷ []) (Done (length words))
+
+-- where it is done: the state b′, and the words at the front of the plan, as `written` turns them into its elements
+unfoldable pub planOutcome : (List ℕ → List ℕ) → Verdict → List ℕ → List ℕ → List ℕ → List ℕ → Outcome
+planOutcome written stages b plan b′ words = outcome (planVerdict stages words) b plan b′ (put plan 0 (written words))
+
 -- the words of the planner's list
 unfoldable pub planned : List ℕ → List ℕ → Request → List ℕ
 planned t b q = map wordOf (calls (station t) (status t b) q)
-
--- the stages, else done with the count of calls
-unfoldable pub planVerdict : Bool → List ℕ → List ℕ → Request → Verdict
-planVerdict room t b q = firstOf (stagesVerdict room t b q ∷ []) (Done (length (planned t b q)))
 
 -- the state image after an accepted request
 unfoldable pub stateAfter : List ℕ → List ℕ → Request → List ℕ
@@ -65,28 +69,30 @@ stateAfter t b q = imageOf (width t) (statusAfter (station t) (status t b) q)
 -- the planner on a plan of words, and on one of bytes, four a word
 unfoldable pub planWords : List ℕ → List ℕ → Request → List ℕ → Outcome
 planWords t b q plan =
-    outcome (planVerdict (leb (planRoom (width t)) (length plan)) t b q) b plan (stateAfter t b q) (put plan 0 (planned t b q))
+    planOutcome (λ ws. ws) (stagesVerdict (leb (planRoom (width t)) (length plan)) t b q) b plan (stateAfter t b q) (planned t b q)
 
 unfoldable pub planBytes : List ℕ → List ℕ → Request → List ℕ → Outcome
 planBytes t b q plan =
-    outcome (planVerdict (leb (4 * planRoom (width t)) (length plan)) t b q) b plan (stateAfter t b q)
-    (put plan 0 (wordBytes (planned t b q)))
+    planOutcome wordBytes (stagesVerdict (leb (4 * planRoom (width t)) (length plan)) t b q) b plan (stateAfter t b q) (planned t b q)
+
+-- the answer of the stages, then 19 for a list that does not conform
+unfoldable pub listVerdict : Verdict → Bool → Verdict
+listVerdict stages conforms = firstOf (stages ∷ unless conforms NotConforming 0 ∷ []) (Done 0)
+
+-- a test of words on a list of bytes, four a word; it fails where the length is no multiple of four
+unfoldable pub ofBytes : (List ℕ → Bool) → List ℕ → Bool
+ofBytes test list = eqb (length list % 4) 0 && test (byteWords (length list / 4) list)
 
 -- passes exactly if the request is permitted: the checker owes it no answer but 0 or 19
 abbrev pub permittedVerdict : List ℕ → List ℕ → Request → Verdict
 permittedVerdict t b q = stagesVerdict true t b q
 
--- 1 to 8, 10 to 18, then 19 for a list that does not conform; a list of bytes is a list of words if its length is a multiple of four
+-- the checker on a list of words, and on one of bytes: 1 to 8, 10 to 18, then 19
 unfoldable pub checkWords : List ℕ → List ℕ → Request → List ℕ → Verdict
-checkWords t b q list = firstOf (permittedVerdict t b q ∷ unless (conforming (station t) (status t b) q list) NotConforming 0 ∷ []) (Done 0)
+checkWords t b q list = listVerdict (permittedVerdict t b q) (conformingTo (station t) (status t b) q list)
 
 unfoldable pub checkBytes : List ℕ → List ℕ → Request → List ℕ → Verdict
-checkBytes t b q list =
-    firstOf
-    (permittedVerdict t b q
-    ∷ unless (eqb (length list % 4) 0 && conforming (station t) (status t b) q (byteWords (length list / 4) list)) NotConforming 0
-    ∷ [])
-    (Done 0)
+checkBytes t b q list = listVerdict (permittedVerdict t b q) (ofBytes (conformingTo (station t) (status t b) q) list)
 
 -- RULES.md 9.7: a device's own bytes of the table; empty if the table is refused or the number is not below D
 unfoldable pub recordPart : List ℕ → ℕ → List ℕ

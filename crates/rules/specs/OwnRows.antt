@@ -3,18 +3,11 @@ use Prim.Native.Nat.{ℕ}
 use mathlib.Core.List.{List, [], _∷_, _++_}
 use lib.ListN.{replicate}
 use Rattle.rules.specs.Rows.{bytes, benchTable, lamp, request, move, arm, disarm, freshIn, given, lend, done, refused, noRoom}
-use Rattle.rules.specs.Rows.{Listed, Row, row}
+use Rattle.rules.specs.Rows.{Listed, conforms, differs, Row, row}
 use Rattle.rules.specs.Holds.{wordsIn}
 use Rattle.rules.specs.OwnStation.{hub, disk, radio, fan, led, ownTable, ownState, wideDevice, wideTable, bareDevice, bare, new}
 use Rattle.rules.specs.OwnStation.{lentState, from, to, asleep}
 use Rattle.rules.specs.Damaged.{damagedRows}
-
--- lists that the checker answers with 0; with 19
-abbrev pub conforms : ℕ → ℕ → Listed
-conforms n x = record { list = bytes n x; number = 0 }
-
-abbrev pub differs : ℕ → ℕ → Listed
-differs n x = record { list = bytes n x; number = 19 }
 
 abbrev pub withLists : List Listed → Row → Row
 withLists lists r = record { lent = r .lent; asked = r .asked; part = r .part; answer = r .answer; lists = lists }

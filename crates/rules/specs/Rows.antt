@@ -1,8 +1,8 @@
 -- RULES.md 10: the bench station's table, byte for byte, and the worked rows W1 to W12. What a row must meet is in Holds; rows of our own
 -- are in OwnRows.
-use Prim.Native.Nat.{ℕ, zero, suc, _/_, _%_}
-use mathlib.Core.List.{List, [], _∷_, _++_}
-use lib.ListN.{replicate}
+use Prim.Native.Nat.{ℕ, zero, suc, _-_, _*_, _/_, _%_}
+use mathlib.Core.List.{List, [], _∷_, _++_, reverse}
+use lib.ListN.{length, replicate}
 use Rattle.rules.specs.declared.Request.{Request}
 
 -- the n bytes of x as they stand in a hexadecimal number, the highest first
@@ -33,6 +33,13 @@ benchDevices =
     bytes 54 0xff090900_0100000000000000_0000000000000000_0000000000000000_0100000000000000_0000000000000000_ffffffff_ffffffffff_00
     ++ bytes 54 0x000d0d03_0700000000000000_0000000000000000_0500000000000000_0100000000000000_0400000000000000_ffff02ff_ffffff03ff_03
     ++ bytes 54 0x00000900_0200000000000000_0000000000000000_0000000000000000_0000000000000000_0000000000000000_ffffffff_ffffffffff_00
+
+-- a state image: the bytes of entries, zeros, and an on-set; the same of the entries of n devices
+abbrev pub imageFrom : List ℕ → ℕ → List ℕ
+imageFrom entries on = entries ++ replicate (128 - length entries) 0 ++ reverse (bytes 4 on)
+
+abbrev pub image : ℕ → ℕ → ℕ → List ℕ
+image n entries on = imageFrom (bytes (4 * n) entries) on
 
 -- a request by its four numbers; a device to state x, armed for S and D, disarmed
 abbrev pub request : ℕ → ℕ → ℕ → ℕ → Request
@@ -73,6 +80,16 @@ pub record Answer : Type 0 where
 pub record Listed : Type 0 where
   pub list : List ℕ
   pub number : ℕ
+
+abbrev pub withAnswer : ℕ → List ℕ → Listed
+withAnswer number list = record { list = list; number = number }
+
+-- lists that the checker answers with 0; with 19
+abbrev pub conforms : ℕ → ℕ → Listed
+conforms n x = withAnswer 0 (bytes n x)
+
+abbrev pub differs : ℕ → ℕ → Listed
+differs n x = withAnswer 19 (bytes n x)
 
 -- a row: what is lent and asked, the record that is handed out for the request's device, what must come, and other lists
 pub record Row : Type 0 where

@@ -1,5 +1,5 @@
 -- RULES.md 2.7 and 4: the image's bytes as a status, which are good, and answers 7 and 8.
-use Prim.Native.Nat.{ℕ, zero, _+_, _*_, _^_}
+use Prim.Native.Nat.{ℕ, _+_, _*_, _^_}
 use mathlib.Core.Bool.{Bool, _&&_, _||_, not}
 use mathlib.Core.List.{List, [], _∷_, _++_}
 use lib.ListN.{length, getD}
@@ -104,15 +104,18 @@ consistent s st d = consistentButPower s (st .entries) d && powered s st d
 unfoldable pub valuesGood : ℕ → Station → Status → Bool
 valuesGood n s st = entriesGood n s (st .entries) && onGood s (st .on)
 
+-- an image has its size, and its values are good
+unfoldable pub imageGood : List ℕ → List ℕ → Bool
+imageGood t b = eqb (length b) (imageSize (width t)) && valuesGood (limit (width t)) (station t) (status t b)
+
+-- 7: an image that is not good
+unfoldable pub valuesVerdict : List ℕ → List ℕ → Verdict
+valuesVerdict t b = unless (imageGood t b) BadState 0
+
 -- 8: the lowest device that is not consistent
 unfoldable pub consistencyVerdict : Station → Status → Verdict
 consistencyVerdict s st = lowest (λ d. not (consistent s st d)) (s .devices) (Refused Inconsistent)
 
 -- 7, then 8
 unfoldable pub stateVerdict : List ℕ → List ℕ → Verdict
-stateVerdict t b =
-    firstOf
-    (unless (eqb (length b) (imageSize (width t)) && valuesGood (limit (width t)) (station t) (status t b)) BadState 0
-    ∷ consistencyVerdict (station t) (status t b)
-    ∷ [])
-    (Done 0)
+stateVerdict t b = firstOf (valuesVerdict t b ∷ consistencyVerdict (station t) (status t b) ∷ []) (Done 0)

@@ -43,15 +43,20 @@ pub struct Entry {
     pub wake: u8,
 }
 
-// What a permitted request does: the device's new entry, the set needed afterwards, what is added to the on-set and what is removed from
-// it, the device's own call, and whether that comes last.
-pub struct Change {
-    pub entry: Entry,
-    pub needed: u32,
+// The calls from an on-set to a target set: what is added to the on-set and what is removed from it, a device's own call or none, and
+// whether that comes last.
+pub struct Switching {
     pub added: u32,
     pub removed: u32,
     pub own: OptionalCall,
     pub last: bool,
+}
+
+// What a permitted request does: the device's new entry, the set needed afterwards, and the calls.
+pub struct Change {
+    pub entry: Entry,
+    pub needed: u32,
+    pub switching: Switching,
 }
 
 // The state image: four bytes a device, and the set of the resources that are on.
@@ -71,7 +76,7 @@ pub enum Reason {
     BadDevice,
     BadObjects,
     BadState,
-    // the state is not consistent (RULES.md 4.3)
+    // the state is not consistent (RULES.md 4.3; for bring-up 12.1)
     Inconsistent,
     NoRoom,
     BadRequest,
@@ -89,7 +94,7 @@ pub enum Reason {
     NotConforming,
 }
 
-// An answer: done with a count, of the planner's calls or of the bytes that write and describe have written, else 0; or refused with a
+// An answer: done with a count, of the calls in a plan or of the bytes that write and describe have written, else 0; or refused with a
 // place, 0 where the reason names none.
 pub enum Verdict {
     Done(usize),

@@ -1,9 +1,11 @@
 -- An answer as one number: from its three parts, read back, and handed on.
 use mathlib.Core.Path.{_≡_, refl}
+use mathlib.Core.Bool.{true}
 use mathlib.Core.List.{List}
 use Prim.Native.Nat.{ℕ, _+_, _*_, _/_, _%_, _≤_, _<_}
 use native.Mathlib.Nat.{mul-le-mul-right}
 use native.Mathlib.Omega.{arith}
+use lib.Dec.{leb}
 use lib.ListN.{length}
 use Rattle.rules.specs.declared.Request.{Request}
 use Rattle.rules.specs.declared.Verdict.{Verdict}
@@ -12,18 +14,22 @@ use Rattle.rules.specs.declared.Reason.{Reason}
 use Rattle.rules.specs.declared.Reason.the-variants.{NotATable, TooMany, WrongLength, BadResource, BadDevice, BadObjects, BadState}
 use Rattle.rules.specs.declared.Reason.the-variants.{Inconsistent, NoRoom, BadRequest, Unsupported, Shallower, ParentDeeper}
 use Rattle.rules.specs.declared.Reason.the-variants.{ChildShallower, TooDeepToWake, NoWake, WakeUnpowered, BadWakeState, NotConforming}
-use Rattle.rules.specs.Answers.{reasonNumber, numberOf, placeOf, countOf}
+use Rattle.rules.specs.Answers.{reasonNumber, numberOf, placeOf, countOf, passes}
 use Rattle.rules.specs.Station.{versionWidth, width, Wide, recordSize}
-use Rattle.rules.specs.Outcomes.{outcome, planRoom, fresh, planBytes, checkBytes}
+use Rattle.rules.specs.Outcomes.{outcome, planRoom, fresh, planned, planVerdict, planOutcome, planBytes, checkBytes}
+use Rattle.rules.specs.BringUp.{bringUpList, bringUpBytes, checkBringUpBytes}
 use Rattle.rules.specs.Write.{write, describe}
 use Rattle.rules.proofs.Width.{version-wide, width-wide}
 use Rattle.laws.specs.Inverse.{AllBytes, WrittenDescribes, DescribedMakes, AnswersAsReader}
 use Rattle.laws.specs.Demand2.{Demand2Bytes}
 use Rattle.laws.proofs.Demand2.{demand2-bytes}
-use Rattle.laws.proofs.Bounds.{Bounded, fresh-bounded, plan-bounded, check-bounded, mostWritten, mostDescribed, write-bounded}
-use Rattle.laws.proofs.Bounds.{describe-bounded}
+use Rattle.laws.specs.BringUp.{BringsUpBytes}
+use Rattle.laws.proofs.BringUp.{brings-up-bytes}
+use Rattle.laws.proofs.Stages.{stages-of, bring-up-of}
+use Rattle.laws.proofs.Bounds.{Bounded, fresh-bounded, stages-bounded, bring-up-bounded, plan-bounded, list-bounded, mostWritten}
+use Rattle.laws.proofs.Bounds.{mostDescribed, write-bounded, describe-bounded}
 use Rattle.laws.proofs.Inverse.{write-inverse, describe-inverse, write-answers}
-use Rattle.sailgarnet.proofs.Outer.{planned-short}
+use Rattle.sailgarnet.proofs.Outer.{planned-short, up-short}
 use Rattle.sailgarnet.specs.Packed.{numberIn, countIn, placeIn, packed, Reads}
 
 reason-small : (why : Reason) → reasonNumber why < 0x100
@@ -85,14 +91,32 @@ module _ (t : List ℕ) where
   unfolding fresh outcome
   fresh-fits b = small (width t) 0 _ (width-wide t) (omega arith) (fresh-bounded t 0 b)
 
+  -- a plan, with any stages, and a list
+  plan-small : (stages : Verdict) (words : List ℕ) → Bounded (width t) (planRoom (width t)) stages
+      → (passes stages ≡ true → length words ≤ planRoom (width t)) → Small (planVerdict stages words)
+  plan-small stages words h short =
+      let w = width-wide t in
+      small (width t) (planRoom (width t)) _ w (omega arith) (plan-bounded t (planRoom (width t)) stages h words short)
+
   pub plan-fits : (b : List ℕ) (q : Request) (plan : List ℕ) → Small (planBytes t b q plan .verdict)
-  unfolding planBytes outcome
+  unfolding planBytes planOutcome outcome
   plan-fits b q plan =
-      let h = width-wide t in
-      small (width t) (planRoom (width t)) _ h (omega arith) (plan-bounded t (planRoom (width t)) b q _ (planned-short t b q))
+      let room = leb (4 * planRoom (width t)) (length plan) in
+      plan-small _ (planned t b q) (stages-bounded t (planRoom (width t)) b q room) (λ e. planned-short t b q (stages-of room t b q e))
 
   pub check-fits : (b : List ℕ) (q : Request) (list : List ℕ) → Small (checkBytes t b q list)
-  check-fits b q list = small (width t) 0 _ (width-wide t) (omega arith) (check-bounded t 0 b q list)
+  unfolding checkBytes
+  check-fits b q list = small (width t) 0 _ (width-wide t) (omega arith) (list-bounded t 0 _ (stages-bounded t 0 b q true) _)
+
+  pub bring-up-fits : (b plan : List ℕ) → Small (bringUpBytes t b plan .verdict)
+  unfolding bringUpBytes planOutcome outcome
+  bring-up-fits b plan =
+      let room = leb (4 * planRoom (width t)) (length plan) in
+      plan-small _ (bringUpList t b) (bring-up-bounded t (planRoom (width t)) b room) (λ e. up-short t b (bring-up-of room t b e .0))
+
+  pub check-bring-up-fits : (b list : List ℕ) → Small (checkBringUpBytes t b list)
+  unfolding checkBringUpBytes
+  check-bring-up-fits b list = small (width t) 0 _ (width-wide t) (omega arith) (list-bounded t 0 _ (bring-up-bounded t 0 b true) _)
 
   pub describe-fits : (rs ds : List ℕ) → Small (describe t rs ds .verdict)
   unfolding describe
@@ -128,3 +152,9 @@ pub bytes-demand : (t b : List ℕ) (q : Request) (plan : List ℕ) (r : ℕ) (b
     → b′ ≡ planBytes t b q plan .state → plan′ ≡ planBytes t b q plan .plan
     → Demand2Bytes t b q plan (numberIn r) (countIn r) b′ plan′
 bytes-demand t b q plan r b′ plan′ a s p = rw (a .number, a .count, s, p) (demand2-bytes t b q plan)
+
+-- and what bring-up leaves keeps what it promises
+pub bytes-brings : (t b plan : List ℕ) (r : ℕ) (b′ plan′ : List ℕ) → Reads r (bringUpBytes t b plan .verdict)
+    → b′ ≡ bringUpBytes t b plan .state → plan′ ≡ bringUpBytes t b plan .plan
+    → BringsUpBytes t b plan (numberIn r) (countIn r) b′ plan′
+bytes-brings t b plan r b′ plan′ a s p = rw (a .number, a .count, s, p) (brings-up-bytes t b plan)

@@ -12,7 +12,7 @@ asked kind device a b = record { kind = kind; device = device; a = a; b = b }
 unfoldable pub packed : Verdict → ℕ
 packed v = numberOf v + 0x100 * countOf v + 0x100_0000 * placeOf v
 
--- what the header's helpers read from it
+-- what the header's functions read from it
 abbrev pub numberIn : ℕ → ℕ
 numberIn r = r % 0x100
 

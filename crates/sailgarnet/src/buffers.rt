@@ -4,17 +4,16 @@ use rules::Reason;
 use rules::Request;
 use rules::Verdict;
 ghost use mathlib.Core.Path.{_≡_};
-ghost use mathlib.Core.Bool.{_&&_};
-ghost use Prim.Native.Nat.{_*_, _/_, _%_};
-ghost use lib.Dec.{eqb};
-ghost use lib.ListN.{length};
 ghost use Rattle.rules.specs.Station.{station};
 ghost use Rattle.rules.specs.Status.{status};
-ghost use Rattle.rules.specs.Check.{conforming};
+ghost use Rattle.rules.specs.Check.{conformingTo};
 ghost use Rattle.request.specs.Permitted.{PermittedRequest};
-ghost use Rattle.rules.specs.Outcomes.{planBytes, checkBytes};
+ghost use Rattle.rules.specs.Outcomes.{ofBytes, planBytes, checkBytes};
+ghost use Rattle.rules.specs.BringUp.{bringUpBytes, conformingToBringUp, checkBringUpBytes};
 ghost use Rattle.laws.specs.Demand3.{Demand3Bytes};
-ghost use Rattle.words.specs.Words.{byteWords};
+ghost use Rattle.laws.specs.BringUp.{BringUpCheckedBytes};
+ghost use Rattle.bringup.specs.Passed.{BringUpState};
+ghost use Rattle.sailgarnet.specs.Lists.{wordsInBytes};
 
 // Plans one request on a plan of bytes.
 pub fn plan_bytes(table: &[u8], state: &mut [u8], q: Request, plan: &mut [u8]) -> Verdict
@@ -22,7 +21,7 @@ pub fn plan_bytes(table: &[u8], state: &mut [u8], q: Request, plan: &mut [u8]) -
         × (now (state .exit) ≡ planBytes (now (table .entry)) (now (state .entry)) q (now (plan .entry)) .state)
         × (now (plan .exit) ≡ planBytes (now (table .entry)) (now (state .entry)) q (now (plan .entry)) .plan) ⌝ }
 {
-    let room = plan.len() >= 4 * planner::plan::room(table);
+    let room = plan.len() >= 4 * switching::write::room(table);
     if !table::header::header_good(table) {
         return Verdict::Refused(Reason::NotATable, 0);
     }
@@ -40,19 +39,34 @@ pub fn plan_bytes(table: &[u8], state: &mut [u8], q: Request, plan: &mut [u8]) -
     Verdict::Done(n)
 }
 
+// How many words a list of bytes has, or that it cannot conform.
+pub enum ListWords {
+    Words(usize),
+    NotAList,
+}
+
+// The words of so many bytes: a list that conforms has whole words, and no more than a plan.
+fn words_in(bytes: usize) -> ListWords
+    ensures { λ r. ⌜ r ≡ wordsInBytes bytes ⌝ }
+{
+    if bytes % 4 != 0 {
+        return ListWords::NotAList;
+    }
+    if bytes / 4 > 33 {
+        return ListWords::NotAList;
+    }
+    ListWords::Words(bytes / 4)
+}
+
 // Whether a list of bytes is that of a request which has passed every check.
 fn conforming(table: &[u8], state: &[u8], q: Request, list: &[u8]) -> bool
     requires { ⌜ PermittedRequest (now table) (now state) q ⌝ }
-    ensures { λ r. ⌜ r ≡ eqb (length (now (list .entry)) % 4) 0 && conforming (station (now (table .entry)))
-        (status (now (table .entry)) (now (state .entry))) q (byteWords (length (now (list .entry)) / 4) (now (list .entry))) ⌝ }
+    ensures { λ r. ⌜ r ≡ ofBytes (conformingTo (station (now (table .entry))) (status (now (table .entry)) (now (state .entry))) q)
+        (now (list .entry)) ⌝ }
 {
-    if list.len() % 4 != 0 {
+    let ListWords::Words(n) = words_in(list.len()) else {
         return false;
-    }
-    let n = list.len() / 4;
-    if n > 33 {
-        return false;
-    }
+    };
     let mut calls = [0u32; 33];
     words::read_words(list, n, &mut calls);
     checker::check::conforming(table, state, q, &calls[..n])
@@ -75,6 +89,66 @@ pub fn check_bytes(table: &[u8], state: &[u8], q: Request, list: &[u8]) -> Verdi
         return v;
     }
     if !conforming(table, state, q, list) {
+        return Verdict::Refused(Reason::NotConforming, 0);
+    }
+    Verdict::Done(0)
+}
+
+// Bring-up on a plan of bytes.
+pub fn bring_up_bytes(table: &[u8], state: &mut [u8], plan: &mut [u8]) -> Verdict
+    ensures { λ r. ⌜ (r ≡ bringUpBytes (now (table .entry)) (now (state .entry)) (now (plan .entry)) .verdict)
+        × (now (state .exit) ≡ bringUpBytes (now (table .entry)) (now (state .entry)) (now (plan .entry)) .state)
+        × (now (plan .exit) ≡ bringUpBytes (now (table .entry)) (now (state .entry)) (now (plan .entry)) .plan) ⌝ }
+{
+    let room = plan.len() >= 4 * switching::write::room(table);
+    if !table::header::header_good(table) {
+        return Verdict::Refused(Reason::NotATable, 0);
+    }
+    let of_table = table::check_past_header(table);
+    if !rules::passes(of_table) {
+        return of_table;
+    }
+    let v = bringup::stages::past_table(table, state, room);
+    if !rules::passes(v) {
+        return v;
+    }
+    let mut calls = [0u32; 33];
+    let n = bringup::bring_up::write_bring_up(table, state, &mut calls);
+    words::write_words(&calls, n, plan);
+    Verdict::Done(n)
+}
+
+// Whether a list of bytes conforms to the bring-up of a state that has passed every check.
+fn conforming_to_bring_up(table: &[u8], state: &[u8], list: &[u8]) -> bool
+    requires { ⌜ BringUpState (now table) (now state) ⌝ }
+    ensures { λ r. ⌜ r ≡ ofBytes (conformingToBringUp (station (now (table .entry))) (status (now (table .entry)) (now (state .entry))))
+        (now (list .entry)) ⌝ }
+{
+    let ListWords::Words(n) = words_in(list.len()) else {
+        return false;
+    };
+    let mut calls = [0u32; 33];
+    words::read_words(list, n, &mut calls);
+    bringup::check::conforming(table, state, &calls[..n])
+}
+
+// The checker of bring-up on a list of bytes.
+pub fn check_bring_up_bytes(table: &[u8], state: &[u8], list: &[u8]) -> Verdict
+    ensures answer { λ r. ⌜ r ≡ checkBringUpBytes (now (table .entry)) (now (state .entry)) (now (list .entry)) ⌝ }
+    ensures checked { λ _. ⌜ BringUpCheckedBytes (now (table .entry)) (now (state .entry)) (now (list .entry)) ⌝ }
+{
+    if !table::header::header_good(table) {
+        return Verdict::Refused(Reason::NotATable, 0);
+    }
+    let of_table = table::check_past_header(table);
+    if !rules::passes(of_table) {
+        return of_table;
+    }
+    let v = bringup::stages::past_table(table, state, true);
+    if !rules::passes(v) {
+        return v;
+    }
+    if !conforming_to_bring_up(table, state, list) {
         return Verdict::Refused(Reason::NotConforming, 0);
     }
     Verdict::Done(0)

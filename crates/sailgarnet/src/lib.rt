@@ -8,10 +8,12 @@ ghost use Prim.Native.Nat.{_<_};
 ghost use lib.ListN.{length};
 ghost use Rattle.rules.specs.Answers.{placeOf, countOf};
 ghost use Rattle.rules.specs.Outcomes.{fresh, planBytes, checkBytes};
+ghost use Rattle.rules.specs.BringUp.{bringUpBytes, checkBringUpBytes};
 ghost use Rattle.rules.specs.Write.{write, describe};
 ghost use Rattle.laws.specs.Inverse.{WrittenDescribes, DescribedMakes, AnswersAsReader};
 ghost use Rattle.laws.specs.Demand2.{Demand2Bytes};
 ghost use Rattle.laws.specs.Demand3.{Demand3Bytes};
+ghost use Rattle.laws.specs.BringUp.{BringsUpBytes, BringUpCheckedBytes};
 ghost use Rattle.sailgarnet.specs.Packed.{packed, numberIn, countIn, placeIn, Reads, asked};
 
 // An answer as one number: its number in bits 0 to 7, its count in bits 8 to 23, its place in bits 24 to 63.
@@ -72,6 +74,27 @@ pub extern "C" fn sailgarnet_check(
     ensures demand { λ _. ⌜ Demand3Bytes (now (table .entry)) (now (state .entry)) (asked kind device a b) (now (list .entry)) ⌝ }
 {
     pack(crate::buffers::check_bytes(table, state, Request { kind, device, a, b }, list))
+}
+
+#[no_mangle]
+pub extern "C" fn sailgarnet_bring_up(table: &[u8], state: &mut [u8], plan: &mut [u8]) -> u64
+    ensures answer { λ r. ⌜ (r ≡ packed (bringUpBytes (now (table .entry)) (now (state .entry)) (now (plan .entry)) .verdict))
+        × Reads r (bringUpBytes (now (table .entry)) (now (state .entry)) (now (plan .entry)) .verdict) ⌝ }
+    ensures state { λ _. ⌜ now (state .exit) ≡ bringUpBytes (now (table .entry)) (now (state .entry)) (now (plan .entry)) .state ⌝ }
+    ensures plan { λ _. ⌜ now (plan .exit) ≡ bringUpBytes (now (table .entry)) (now (state .entry)) (now (plan .entry)) .plan ⌝ }
+    ensures brings { λ r. ⌜ BringsUpBytes (now (table .entry)) (now (state .entry)) (now (plan .entry)) (numberIn r) (countIn r)
+        (now (state .exit)) (now (plan .exit)) ⌝ }
+{
+    pack(crate::buffers::bring_up_bytes(table, state, plan))
+}
+
+#[no_mangle]
+pub extern "C" fn sailgarnet_check_bring_up(table: &[u8], state: &[u8], list: &[u8]) -> u64
+    ensures answer { λ r. ⌜ (r ≡ packed (checkBringUpBytes (now (table .entry)) (now (state .entry)) (now (list .entry))))
+        × Reads r (checkBringUpBytes (now (table .entry)) (now (state .entry)) (now (list .entry))) ⌝ }
+    ensures checked { λ _. ⌜ BringUpCheckedBytes (now (table .entry)) (now (state .entry)) (now (list .entry)) ⌝ }
+{
+    pack(crate::buffers::check_bring_up_bytes(table, state, list))
 }
 
 #[no_mangle]

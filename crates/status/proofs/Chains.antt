@@ -1,8 +1,8 @@
 -- Answers 7 and 8, and what making a fresh state leaves: one law for each way out.
 use mathlib.Core.Path.{_≡_, refl, sym, ap, _∙_}
-use mathlib.Core.Bool.{Bool, true, false, not, _&&_, cond}
+use mathlib.Core.Bool.{Bool, true, false, not, cond}
 use mathlib.Core.List.{List, [], _∷_}
-use Prim.Native.Nat.{ℕ}
+use Prim.Native.Nat.{ℕ, _≤_}
 use native.Mathlib.Omega.{arith}
 use borrow.Author.Tests.{eq-eqb, ne-eqb, not-true, not-false}
 use lib.Dec.{eqb, ltb}
@@ -16,21 +16,38 @@ use Rattle.rules.specs.Index.{least}
 use Rattle.rules.specs.Answers.{passes, firstOf, unless, lowest}
 use Rattle.rules.specs.Station.{versionWidth, width, limit, countR, stationOf, station}
 use Rattle.rules.specs.Table.{tableVerdict}
-use Rattle.rules.specs.Status.{entries, statusOf, status, imageSize, entriesGood, onGood, valuesGood, consistencyVerdict, stateVerdict}
+use Rattle.sets.specs.Sets.{firstN}
+use Rattle.rules.specs.Status.{entries, statusOf, status, imageSize, entriesGood, onGood, valuesGood, imageGood, valuesVerdict}
+use Rattle.rules.specs.Status.{consistencyVerdict, stateVerdict}
+use Rattle.rules.specs.BringUp.{butPowerVerdict, stateButPowerVerdict}
 use Rattle.rules.specs.Outcomes.{outcome, freshVerdict, fresh, tableAndStateVerdict}
 use Rattle.rules.proofs.Answers.{done-passes, refused-stops, first-pass, first-stop, first-alone, unless-of}
 use Rattle.laws.proofs.Accepted.{accepted}
+use Rattle.laws.proofs.States.{GoodValues, values-of, all-on-apart}
 use Rattle.table.proofs.Verdicts.{sized-done, sized-told, accepted-is, table-passed}
 use Rattle.status.specs.State.{storeState, freshState}
 use Rattle.status.specs.Ready.{Ready, statusWith}
 use Rattle.status.proofs.Held.{fresh-image}
 
--- ---- what an accepted table and good entries give; g is what the test of the entries returned
-pub ready-by : (t b : List ℕ) (n : ℕ) (g : Bool) → tableVerdict t ≡ Done 0 → n ≡ imageSize (width t) → length b ≡ n
-    → g ≡ entriesGood (limit (width t)) (station t) (entries t b) → not g ≡ false → Ready t b
-ready-by t b n g e m l q u =
-    let a = accepted t (rw e (done-passes 0)) in
-    record { sized = sized-done t 0 e; parents = λ d h. a .device d h .parent; long = omega arith; good = sym q ∙ not-false g u }
+-- ---- the image; n is the size that it has, good and fits are what the tests of the entries and of the on-set returned
+module _ (t b : List ℕ) (n : ℕ) (z : n ≡ imageSize (width t)) where
+  pub length-bad : (length b ≡ n → ⊥) → false ≡ imageGood t b
+  unfolding imageGood
+  length-bad m = rw (ne-eqb (length b) (imageSize (width t)) (rw z at m)) refl
+
+  module _ (good : Bool) (l : length b ≡ n) (q : good ≡ entriesGood (limit (width t)) (station t) (entries t b)) where
+    long : eqb (length b) (imageSize (width t)) ≡ true
+    long = eq-eqb (length b) (imageSize (width t)) (l ∙ z)
+
+    pub entries-bad : not good ≡ true → false ≡ imageGood t b
+    unfolding imageGood valuesGood statusOf
+    entries-bad m = rw (long, ← q, not-true good m) refl
+
+    pub on-last : not good ≡ false → (on : ℕ) (fits : Bool) → on ≡ status t b .on → fits ≡ onGood (station t) on → fits ≡ imageGood t b
+    unfolding imageGood valuesGood statusOf
+    on-last m on fits r o = rw (long, ← q, not-false good m, ← r, ← o) refl
+
+pub ruleset image-laws = (sized-done, length-bad, entries-bad, on-last)
 
 -- ---- a check of numbered things ends a chain as it is
 lowest-last : (bad : ℕ → Bool) (n : ℕ) (refusal : ℕ → Verdict) → ((i : ℕ) → passes (refusal i) ≡ false)
@@ -40,46 +57,61 @@ lowest-last bad n refusal r =
     decide (ltb (least bad n) n) (λ e. rw e (first-stop (refusal (least bad n)) [] (Done 0) (r (least bad n))))
     (λ e. rw e (first-pass (Done 0) [] (Done 0) refl ∙ (unfold firstOf in refl)))
 
--- ---- 7 and 8; n is the size that an image has; good and fits are what the tests of the entries and of the on-set returned
-module _ (t b : List ℕ) (n : ℕ) (z : n ≡ imageSize (width t)) where
-  refused : eqb (length b) (imageSize (width t)) && valuesGood (limit (width t)) (station t) (status t b) ≡ false
-      → Refused BadState 0 ≡ stateVerdict t b
-  unfolding stateVerdict unless firstOf passes
-  refused e = rw e refl
+-- ---- 7 and 8; g is what the test of the image returned
+module _ (t b : List ℕ) (g : Bool) (i : g ≡ imageGood t b) where
+  pub state-values : not g ≡ true → Refused BadState 0 ≡ stateVerdict t b
+  unfolding stateVerdict valuesVerdict unless firstOf passes
+  state-values n = rw (← i, not-true g n) refl
 
-  pub state-length : (length b ≡ n → ⊥) → Refused BadState 0 ≡ stateVerdict t b
-  state-length m = refused (rw (ne-eqb (length b) (imageSize (width t)) (rw z at m)) refl)
+  pub but-power-values : not g ≡ true → Refused BadState 0 ≡ stateButPowerVerdict t b
+  unfolding stateButPowerVerdict valuesVerdict unless firstOf passes
+  but-power-values n = rw (← i, not-true g n) refl
 
-  module _ (good : Bool) (l : length b ≡ n) (q : good ≡ entriesGood (limit (width t)) (station t) (entries t b)) where
-    long : eqb (length b) (imageSize (width t)) ≡ true
-    long = eq-eqb (length b) (imageSize (width t)) (l ∙ z)
+  module _ (n : not g ≡ false) where
+    values : GoodValues t b
+    unfolding valuesVerdict
+    values = values-of t b (rw (← i, not-false g n, unless-of true BadState 0 refl) (done-passes 0))
 
-    pub state-entries : not good ≡ true → Refused BadState 0 ≡ stateVerdict t b
-    unfolding valuesGood statusOf
-    state-entries m = refused (rw (long, ← q, not-true good m) refl)
+    pub image-long : length b ≡ imageSize (width t)
+    image-long = values .long
 
-    module _ (m : not good ≡ false) (on : ℕ) (fits : Bool) (r : on ≡ status t b .on) (o : fits ≡ onGood (station t) on) where
-      pub state-on : not fits ≡ true → Refused BadState 0 ≡ stateVerdict t b
-      unfolding valuesGood statusOf
-      state-on k = refused (rw (long, ← q, not-false good m, ← r, ← o, not-true fits k) refl)
+    pub ready-by : tableVerdict t ≡ Done 0 → Ready t b
+    unfolding statusOf
+    ready-by e =
+        let a = accepted t (rw e (done-passes 0)) in
+        record {
+          sized = sized-done t 0 e;
+          parents = λ d h. a .device d h .parent;
+          long = omega (arith, values .long);
+          good = values .entries;
+        }
 
-      pub state-is : (v : Verdict) → not fits ≡ false → v ≡ consistencyVerdict (station t) (statusWith t b on) → v ≡ stateVerdict t b
-      unfolding stateVerdict valuesGood statusOf consistencyVerdict
-      state-is v k c =
-          rw (
-            long,
-            ← q,
-            not-false good m,
-            ← r,
-            ← o,
-            not-false fits k,
-            unless-of true BadState 0 refl,
-            first-pass (Done 0) _
-                (Done 0) (done-passes 0),
-          )
-          (c ∙ sym (lowest-last _ (station t .devices) (Refused Inconsistent) (refused-stops Inconsistent)))
+    pub state-is : (on : ℕ) (v : Verdict) → on ≡ status t b .on → v ≡ consistencyVerdict (station t) (statusWith t b on)
+        → v ≡ stateVerdict t b
+    unfolding stateVerdict valuesVerdict statusOf consistencyVerdict
+    state-is on v r c =
+        rw (← i, not-false g n, ← r, unless-of true BadState 0 refl, first-pass (Done 0) _ (Done 0) (done-passes 0))
+        (c ∙ sym (lowest-last _ (station t .devices) (Refused Inconsistent) (refused-stops Inconsistent)))
 
-pub ruleset state-laws = (sized-done, ready-by, state-length, state-entries, state-on, state-is)
+    -- with all resources on
+    pub but-power-is : tableVerdict t ≡ Done 0 → (r all : ℕ) (v : Verdict) → r ≡ countR t → all ≡ firstN r
+        → v ≡ consistencyVerdict (station t) (statusWith t b all) → v ≡ stateButPowerVerdict t b
+    unfolding stateButPowerVerdict valuesVerdict statusOf butPowerVerdict
+    but-power-is e r all v k l c =
+        let same : all ≡ firstN (station t .resources) = l ∙ ap firstN (unfold stationOf in k) in
+        rw (← i, not-false g n, unless-of true BadState 0 refl, first-pass (Done 0) _ (Done 0) (done-passes 0))
+        (c ∙ ap (λ (on : ℕ). consistencyVerdict (station t) (statusWith t b on)) same
+        ∙ all-on-apart t (rw e (done-passes 0)) (entries t b)
+        ∙ sym (lowest-last _ (station t .devices) (Refused Inconsistent) (refused-stops Inconsistent)))
+
+-- the R resources of an accepted table are at most 32
+pub few-resources : (t : List ℕ) (r : ℕ) → tableVerdict t ≡ Done 0 → r ≡ countR t → r ≤ 32
+unfolding versionWidth width
+few-resources t r e k = omega (arith, sized-done t 0 e .resources)
+
+pub ruleset state-laws = (sized-done, image-long, ready-by, state-values, state-is)
+
+pub ruleset but-power-laws = (sized-done, few-resources, ready-by, but-power-values, but-power-is)
 
 -- ---- 1 to 8; v is what the check of the table answered, p whether that passes
 state-alone : (t b : List ℕ) → firstOf (stateVerdict t b ∷ []) (Done 0) ≡ stateVerdict t b

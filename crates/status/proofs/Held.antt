@@ -1,6 +1,6 @@
 -- A state, its image and its status say the same: what is loaded and stored, and what a fresh state says.
 use mathlib.Core.Path.{_≡_, refl, sym, ap, _∙_, fun-ext}
-use mathlib.Core.List.{List, [], _∷_, _++_}
+use mathlib.Core.List.{List, [], _∷_, _++_, append-nil}
 use Prim.Native.Nat.{ℕ, zero, suc, _+_, _*_, _≤_, _<_}
 use native.Mathlib.Nat.{add-zero}
 use native.Mathlib.Numerals.{towards-suc}
@@ -22,6 +22,7 @@ use Rattle.rules.specs.Status.{noEntry, entryAt, entryBytes, entriesSize, entri
 use Rattle.rules.specs.Status.{imageSize, freshStatus}
 use Rattle.rules.proofs.Index.{below-in, below-out}
 use Rattle.table.specs.Layout.{WellSized}
+use Rattle.status.specs.Ready.{statusWith}
 use Rattle.status.specs.State.{loadState, storeState, statusIn, freshState}
 
 -- ---- one entry
@@ -135,6 +136,29 @@ pub image-of : (st : State) → length (st .devices) ≡ 128 → imageOf 4 (stat
 unfolding imageOf statusIn storeState
 image-of st l = ap (λ (b : List ℕ). b ++ bytesLE 4 (st .on)) (entries-drop (entriesOf 4 (st .devices)) (st .devices) 0 32
     (entry-in 4 (st .devices)) l)
+
+-- another on-set after the entries of an image
+put-end : (b ws : List ℕ) (n : ℕ) → length b ≡ n + length ws → put b n ws ≡ take n b ++ ws
+unfolding put
+put-end b ws n l =
+    ap (λ (r : List ℕ). take n b ++ ws ++ r) (drop-of-length-le b {i = n + length ws} (omega arith)) ∙ append-nil (take n b ++ ws)
+
+with-on : (b : List ℕ) (on : ℕ) → length b ≡ 132
+    → take 128 b ++ bytesLE 4 on ≡ imageOf 4 (record { entries = statusOf 4 b .entries; on = on })
+with-on b on l =
+    let st : State = record { devices = loadState b .devices; on = on } in
+    let long : length (st .devices) ≡ 128 = unfold loadState in length-take-le 128 b (omega arith) in
+    let said : statusIn st ≡ record { entries = statusOf 4 b .entries; on = on } = unfold statusIn in rw (entries-of b) refl in
+    let stored : storeState st ≡ take 128 b ++ bytesLE 4 on = unfold storeState loadState in refl in
+    sym stored ∙ sym (image-of st long) ∙ ap (imageOf 4) said
+
+pub on-written : (t b : List ℕ) (at on : ℕ) (b′ : List ℕ) → length b ≡ imageSize (width t) → at ≡ width t
+    → b′ ≡ put b (32 * at) (bytesLE 4 on)
+    → b′ ≡ imageOf (width t) (statusWith t b on)
+unfolding versionWidth width
+on-written t b at on b′ l a w =
+    w ∙ ap (λ (n : ℕ). put b (32 * n) (bytesLE 4 on)) a ∙ put-end b (bytesLE 4 on) 128 (omega (arith, bytes-length 4 on))
+    ∙ with-on b on l ∙ (unfold statusOf in refl)
 
 -- ---- what a fresh state says
 

@@ -80,3 +80,10 @@ with-entry t b d n x y z w e h m p q r o =
     o ∙ from-same s f g z (d + 1) (n - (d + 1)) (λ j l _. replaced-other f d j e (λ c. omega arith))
     ∙ ap (λ (a : ℕ). neededFrom s g a (d + 1) (n - (d + 1))) one
     ∙ from-below s g (d + 1) (n - (d + 1)) ∙ ap (neededBelow s g) all ∙ (unfold needed in refl)
+
+-- all of them
+pub all-devices : (t b : List ℕ) (n w : ℕ) → n ≡ countD t → w ≡ neededFrom (station t) (entries t b) 0 0 (n - 0)
+    → w ≡ needed (station t) (entries t b)
+all-devices t b n w m o =
+    let all : n - 0 ≡ station t .devices = unfold stationOf in omega arith in
+    o ∙ from-none (station t) (entries t b) (n - 0) ∙ ap (neededBelow (station t) (entries t b)) all ∙ (unfold needed in refl)

@@ -1,9 +1,10 @@
-// The state image as a state by value and back, and a device's entry in it.
+// The state image as a state by value and back, and its on-set and a device's entry in place.
 ghost use mathlib.Core.Path.{_≡_};
 ghost use Prim.Native.Nat.{_+_, _*_, _<_, _≤_};
 ghost use lib.ListN.{length};
 ghost use Rattle.rules.specs.Station.{width};
-ghost use Rattle.rules.specs.Status.{entryAt, imageSize, status};
+ghost use Rattle.rules.specs.Status.{entryAt, imageSize, imageOf, status};
+ghost use Rattle.status.specs.Ready.{statusWith};
 ghost use Rattle.status.specs.State.{loadState, storeState, freshState, withEntry};
 
 // Every device in D0, none armed, the given number of resources on.
@@ -61,6 +62,15 @@ pub fn on_set(table: &[u8], image: &[u8]) -> u32
     ensures { λ r. ⌜ r ≡ status (now (table .entry)) (now (image .entry)) .on ⌝ }
 {
     words::read32(image, 32 * table::fields::width(table))
+}
+
+// Another on-set in the image; its entries stay.
+pub fn set_on(table: &[u8], image: &mut [u8], on: u32)
+    requires { ⌜ length (now image) ≡ imageSize (width (now table)) ⌝ }
+    ensures { λ _. ⌜ now (image .exit) ≡ imageOf (width (now (table .entry)))
+        (statusWith (now (table .entry)) (now (image .entry)) on) ⌝ }
+{
+    words::write32(image, 32 * table::fields::width(table), on);
 }
 
 // Device d's entry, of bytes that start with the device part.

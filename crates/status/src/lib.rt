@@ -9,25 +9,46 @@ use rules::Verdict;
 ghost use mathlib.Core.Path.{_≡_};
 ghost use Rattle.rules.specs.declared.Verdict.the-variants.{Done};
 ghost use Rattle.rules.specs.Table.{tableVerdict};
-ghost use Rattle.rules.specs.Status.{stateVerdict};
+ghost use Rattle.rules.specs.Status.{imageGood, stateVerdict};
+ghost use Rattle.rules.specs.BringUp.{stateButPowerVerdict};
 ghost use Rattle.rules.specs.Outcomes.{fresh, tableAndStateVerdict};
 
-// Whether a state image is good for an accepted table.
+// Whether an image has its size and every value is in range: else it is answered 7.
+pub fn image_good(table: &[u8], image: &[u8]) -> bool
+    requires { ⌜ tableVerdict (now table) ≡ Done 0 ⌝ }
+    ensures { λ r. ⌜ r ≡ imageGood (now (table .entry)) (now (image .entry)) ⌝ }
+{
+    if image.len() != crate::image::size(table) {
+        return false;
+    }
+    if !crate::values::entries_good(table, image) {
+        return false;
+    }
+    crate::values::on_good(table, crate::image::on_set(table, image))
+}
+
+// 7 and 8 of an image, for an accepted table.
 pub fn check_state(table: &[u8], image: &[u8]) -> Verdict
     requires { ⌜ tableVerdict (now table) ≡ Done 0 ⌝ }
     ensures { λ r. ⌜ r ≡ stateVerdict (now (table .entry)) (now (image .entry)) ⌝ }
 {
-    if image.len() != crate::image::size(table) {
-        return Verdict::Refused(Reason::BadState, 0);
-    }
-    if !crate::values::entries_good(table, image) {
+    if !image_good(table, image) {
         return Verdict::Refused(Reason::BadState, 0);
     }
     let on = crate::image::on_set(table, image);
-    if !crate::values::on_good(table, on) {
+    crate::consistency::consistency(table, image, on)
+}
+
+// The same without rule 4 of RULES.md 4.3: with all resources on, nothing that a device needs is missing.
+pub fn check_but_power(table: &[u8], image: &[u8]) -> Verdict
+    requires { ⌜ tableVerdict (now table) ≡ Done 0 ⌝ }
+    ensures { λ r. ⌜ r ≡ stateButPowerVerdict (now (table .entry)) (now (image .entry)) ⌝ }
+{
+    if !image_good(table, image) {
         return Verdict::Refused(Reason::BadState, 0);
     }
-    crate::consistency::consistency(table, image, on)
+    let all = sets::first_n(table::fields::resources(table) as u32);
+    crate::consistency::consistency(table, image, all)
 }
 
 // Answers 1 to 8 of any bytes: whether they are a power table and a consistent state of it.

@@ -26,8 +26,16 @@ fn needed_from(table: &[u8], devices: &[u8], set: u32, from: usize, end: usize) 
     all
 }
 
-// The union of what each device needs with its entry, device d's being e: so no caller writes an entry to learn what it would need. The
-// devices before d and after it go by turns of their own, so that no turn asks which device it is at.
+// The union of what each device needs with its entry.
+pub fn needed(table: &[u8], devices: &[u8]) -> u32
+    requires { ⌜ WellSized (now table) × (entriesSize (width (now table)) ≤ length (now devices)) ⌝ }
+    ensures { λ r. ⌜ r ≡ needed (station (now (table .entry))) (entries (now (table .entry)) (now (devices .entry))) ⌝ }
+{
+    needed_from(table, devices, 0, 0, table::fields::devices(table))
+}
+
+// The same with e for device d's entry: so no caller writes an entry to learn what it would need. The devices before d and after it go by
+// turns of their own, so that no turn asks which device it is at.
 pub fn needed_with(table: &[u8], devices: &[u8], d: usize, e: Entry) -> u32
     requires { ⌜ WellSized (now table) × (entriesSize (width (now table)) ≤ length (now devices)) × (d < countD (now table)) ⌝ }
     ensures { λ r. ⌜ r ≡ needed (station (now (table .entry))) (replaceEntry (entries (now (table .entry)) (now (devices .entry))) d e) ⌝ }

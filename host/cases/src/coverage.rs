@@ -1,26 +1,41 @@
-//! How often each answer was given, and the writer's at each place.
+//! How often each answer was given, and some of them at each place.
 
 use std::fmt;
 
 use reference::Answer;
 
-/// How often a function gave each answer number.
+/// How often a function gave each answer number at each place.
 #[derive(Clone, Default)]
-pub struct Counts([u64; 20]);
+pub struct Counts([[u64; 32]; 20]);
 
 impl Counts {
     /// Counts one answer.
-    pub fn add(&mut self, number: u8) {
-        self.0[usize::from(number)] += 1;
+    pub fn add(&mut self, answer: Answer) {
+        self.0[usize::from(answer.number)][answer.place as usize] += 1;
+    }
+
+    /// How often this answer number was given.
+    fn of(&self, number: u8) -> u64 {
+        self.0[usize::from(number)].iter().sum()
     }
 
     /// Fails unless exactly these answers were given, each at least `least` times.
     pub fn must_be(&self, name: &str, answers: &[u8], least: u64) {
-        for (number, &count) in self.0.iter().enumerate() {
-            if answers.contains(&(number as u8)) {
+        for number in 0..20 {
+            let count = self.of(number);
+            if answers.contains(&number) {
                 assert!(count >= least, "{name} gave {number} only {count} times");
             } else {
                 assert_eq!(count, 0, "{name} gave {number}, which it cannot");
+            }
+        }
+    }
+
+    /// Fails unless each of these answers was given at every place.
+    pub fn must_reach_places(&self, name: &str, answers: &[u8]) {
+        for &number in answers {
+            for (place, &count) in self.0[usize::from(number)].iter().enumerate() {
+                assert!(count > 0, "{name} never gave {number} at place {place}");
             }
         }
     }
@@ -40,30 +55,15 @@ pub const FRESH: &[u8] = &[0, 1, 2, 3, 4, 5, 6, 7];
 pub const WRITER: &[u8] = &[0, 1, 2, 4, 5, 6, 9];
 /// The answers of the describer.
 pub const DESCRIBER: &[u8] = &[0, 1, 2, 3, 4, 5, 6, 9];
+/// The answers of bring-up.
+pub const BRING_UP: &[u8] = &[0, 1, 2, 3, 4, 5, 6, 7, 8, 9];
+/// The answers of the checker of bring-up.
+pub const BRING_UP_CHECKER: &[u8] = &[0, 1, 2, 3, 4, 5, 6, 7, 8, 19];
 
-/// How often the writer refused the record at each place with 4, 5 and 6.
-#[derive(Clone, Default)]
-pub struct Places([[u64; 3]; 32]);
-
-impl Places {
-    /// Counts an answer of the writer if it is one of the three.
-    pub fn add(&mut self, answer: Answer) {
-        if let 4..=6 = answer.number {
-            self.0[answer.place as usize][usize::from(answer.number - 4)] += 1;
-        }
-    }
-
-    /// Fails unless each place was reached with each of the three numbers.
-    pub fn must_be_whole(&self) {
-        for (place, counts) in self.0.iter().enumerate() {
-            let reached = counts.iter().all(|&count| count > 0);
-            assert!(
-                reached,
-                "writer, answers 4 to 6 at place {place}: {counts:?}"
-            );
-        }
-    }
-}
+/// The answers of the writer that must be given at every place.
+pub const WRITER_PLACES: &[u8] = &[4, 5, 6];
+/// Those of bring-up and of its checker.
+pub const BRING_UP_PLACES: &[u8] = &[4, 5, 6, 8];
 
 /// The answers of all functions.
 #[derive(Clone, Default)]
@@ -78,57 +78,97 @@ pub struct Coverage {
     pub writer: Counts,
     /// The describer's.
     pub describer: Counts,
-    /// The places of the writer's refusals.
-    pub places: Places,
+    /// Those of bring-up.
+    pub bring_up: Counts,
+    /// Those of the checker of bring-up.
+    pub bring_up_checker: Counts,
 }
 
+/// A function with its counts, the answers it can give, and those of them that
+/// must be given at every place.
+type Function<'a> = (&'static str, &'a Counts, &'static [u8], &'static [u8]);
+
 impl Coverage {
-    fn functions(&self) -> [(&'static str, &Counts, &'static [u8]); 5] {
+    fn functions(&self) -> [Function<'_>; 7] {
         [
-            ("planner", &self.planner, PLANNER),
-            ("checker", &self.checker, CHECKER),
-            ("fresh", &self.fresh, FRESH),
-            ("writer", &self.writer, WRITER),
-            ("describer", &self.describer, DESCRIBER),
+            ("planner", &self.planner, PLANNER, &[]),
+            ("checker", &self.checker, CHECKER, &[]),
+            ("fresh", &self.fresh, FRESH, &[]),
+            ("writer", &self.writer, WRITER, WRITER_PLACES),
+            ("describer", &self.describer, DESCRIBER, &[]),
+            ("bring-up", &self.bring_up, BRING_UP, BRING_UP_PLACES),
+            (
+                "bring-up checker",
+                &self.bring_up_checker,
+                BRING_UP_CHECKER,
+                BRING_UP_PLACES,
+            ),
         ]
     }
 
     /// Fails unless every answer that can be given was given at least `least`
-    /// times, and no other, and the writer refused a record at every place.
+    /// times, and no other, and those of the writer and of bring-up that name a
+    /// record or a device were given at every place.
     pub fn must_be_whole(&self, least: u64) {
-        for (name, counts, answers) in self.functions() {
+        for (name, counts, answers, placed) in self.functions() {
             counts.must_be(name, answers, least);
+            counts.must_reach_places(name, placed);
         }
-        self.places.must_be_whole();
+    }
+
+    /// A row for each answer; "-" is an answer that cannot occur.
+    fn fmt_answers(&self, f: &mut fmt::Formatter) -> fmt::Result {
+        let width = |name: &str| name.len().max(10) + 2;
+        write!(f, "answer")?;
+        for (name, ..) in self.functions() {
+            write!(f, "{name:>0$}", width(name))?;
+        }
+        for number in 0..20 {
+            write!(f, "\n{number:6}")?;
+            for (name, counts, answers, _) in self.functions() {
+                let width = width(name);
+                match counts.of(number) {
+                    0 if !answers.contains(&number) => write!(f, "{:>width$}", "-")?,
+                    count => write!(f, "{count:width$}")?,
+                }
+            }
+        }
+        Ok(())
+    }
+
+    /// A row for each place, with the answers that must be given at every place.
+    fn fmt_places(&self, f: &mut fmt::Formatter) -> fmt::Result {
+        write!(f, " place")?;
+        for (name, _, _, placed) in self.functions() {
+            write!(
+                f,
+                "{:>1$}",
+                if placed.is_empty() { "" } else { name },
+                8 * placed.len()
+            )?;
+        }
+        write!(f, "\n      ")?;
+        for (.., placed) in self.functions() {
+            placed
+                .iter()
+                .try_for_each(|number| write!(f, "{number:8}"))?;
+        }
+        for place in 0..32 {
+            write!(f, "\n{place:6}")?;
+            for (_, counts, _, placed) in self.functions() {
+                for &number in placed {
+                    write!(f, "{:8}", counts.0[usize::from(number)][place])?;
+                }
+            }
+        }
+        Ok(())
     }
 }
 
 impl fmt::Display for Coverage {
-    /// A table with a row for each answer; "-" is an answer that cannot occur.
-    /// Then one with a row for each place of the writer's answers 4, 5 and 6.
     fn fmt(&self, f: &mut fmt::Formatter) -> fmt::Result {
-        let functions = self.functions();
-        write!(f, "answer")?;
-        for (name, ..) in functions {
-            write!(f, "{name:>12}")?;
-        }
-        for number in 0..20u8 {
-            write!(f, "\n{number:6}")?;
-            for (_, counts, answers) in functions {
-                match counts.0[usize::from(number)] {
-                    0 if !answers.contains(&number) => write!(f, "{:>12}", "-")?,
-                    count => write!(f, "{count:12}")?,
-                }
-            }
-        }
-        write!(
-            f,
-            "\n place{:>12}{:>12}{:>12}",
-            "writer 4", "writer 5", "writer 6"
-        )?;
-        for (place, [resource, device, objects]) in self.places.0.iter().enumerate() {
-            write!(f, "\n{place:6}{resource:12}{device:12}{objects:12}")?;
-        }
-        Ok(())
+        self.fmt_answers(f)?;
+        writeln!(f)?;
+        self.fmt_places(f)
     }
 }

@@ -146,7 +146,8 @@ fn some_record<'a>(rng: &mut Rng, records: &'a mut [u8], length: usize) -> Optio
 
 fn resource_field(rng: &mut Rng, resources: &mut [u8]) {
     if let Some(record) = some_record(rng, resources, RESOURCE) {
-        record[rng.below(RESOURCE)] = rng.edge_byte();
+        // Any order is good, so its two bytes are changed less often.
+        record[rng.pick(&[0, 0, 1, 1, 2, 3])] = rng.edge_byte();
     }
 }
 

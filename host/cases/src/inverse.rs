@@ -1,11 +1,9 @@
 //! What must hold of a writer and a describer on every case, checked without
 //! the code of either.
 
-use std::fmt::Debug;
-
 use reference::{check_table, Answer};
 
-use crate::{Case, Description};
+use crate::{equal, Case, Description};
 
 /// Writes the table of a description in some version, and gives the answer as
 /// one number.
@@ -84,11 +82,4 @@ fn described_writes_back(case: &Case, write: Write, describe: Describe) -> Resul
     let expected = Answer::done(table.len() as u16);
     equal("the answer to what was described", &answer, &expected)?;
     equal("what was described", &table, &case.table)
-}
-
-fn equal<T: PartialEq + Debug + ?Sized>(what: &str, is: &T, expected: &T) -> Result<(), String> {
-    match is == expected {
-        true => Ok(()),
-        false => Err(format!("{what} is\n{is:02x?}, not\n{expected:02x?}")),
-    }
 }

@@ -2,19 +2,22 @@
 //!
 //! [`Cases`] gives one case after the other without end. A station is drawn, a
 //! walk of requests leads it from its fresh state or a drawn one through others,
-//! and each step of the walk is a case. Some cases are damaged on purpose: the
-//! table, the state, the request, the room for the plan, the list, or the
-//! description of the station and the version and room for its table. The same
-//! seed gives the same cases. [`Coverage`] counts the answers they get.
+//! and each step of the walk is a case. Bring-up has the entries of the step and
+//! any resources on. Some cases are damaged on purpose: the table, a state, the
+//! request, the room for the plan, a list, or the description of the station and
+//! the version and room for its table. The same seed gives the same cases.
+//! [`Coverage`] counts the answers they get.
 //!
 //! [`workloads`] are the inputs to measure, [`sweep`] has small sets of inputs that are gone through completely, and
 //! [`Guarded`] lends a buffer between two runs of bytes that must stay as they are.
 
 #![forbid(unsafe_code)]
 
+mod bring_up;
 mod coverage;
 mod damage;
 mod description;
+mod faults;
 mod guard;
 mod inverse;
 mod lists;
@@ -28,18 +31,22 @@ mod workload;
 use std::fmt;
 
 use reference::{
-    fresh, plan, Request, DESCRIBED_DEVICE_BYTES, DESCRIBED_RESOURCE_BYTES, PLAN_BYTES, STATE_BYTES,
+    bring_up, fresh, plan, Answer, Request, DESCRIBED_DEVICE_BYTES, DESCRIBED_RESOURCE_BYTES,
+    PLAN_BYTES, STATE_BYTES,
 };
+use states::switch_more_on;
 
-pub use coverage::{Counts, Coverage, Places};
+pub use bring_up::BringUp;
+pub use coverage::{Counts, Coverage, WRITER_PLACES};
 pub use damage::{damage_description, damage_state, damage_table};
 pub use description::{Description, VERSIONS};
+pub use faults::{entries_with_fault, faults, good_entries, put_fault, FAULTS};
 pub use guard::Guarded;
 pub use inverse::{inverse_holds, Describe, Write};
-pub use lists::{permute_equal_orders, vary_list};
+pub use lists::{permute_equal_orders, turn_on_all_needed, vary_bring_up_list, vary_list};
 pub use requests::{any_request, likely_request};
 pub use rng::Rng;
-pub use states::draw_state;
+pub use states::{draw_state, report_any_on};
 pub use station::{Record, Resource, Station, SHAPES};
 pub use workload::{filled_station, workloads, Workload};
 
@@ -52,10 +59,14 @@ pub struct Case {
     pub state: Vec<u8>,
     /// The request.
     pub request: Request,
-    /// The buffer lent for the plan, with any content.
+    /// The buffer lent for the plan, of bring-up too, with any content.
     pub plan: Vec<u8>,
     /// The list lent to the checker.
     pub list: Vec<u8>,
+    /// The state lent to bring-up and its checker.
+    pub reported: Vec<u8>,
+    /// The list lent to the checker of bring-up.
+    pub bring_up_list: Vec<u8>,
     /// The buffer lent for a fresh state, with any content.
     pub fresh: Vec<u8>,
     /// The device whose record is asked for.
@@ -87,6 +98,22 @@ impl Case {
             ..Self::default()
         }
     }
+
+    /// A state to be brought up, with room for the plan and the reference's list.
+    /// There is no other state and no request.
+    pub fn of_bring_up(table: &[u8], reported: &[u8]) -> Self {
+        let mut bring_up_list = Vec::new();
+        set_planned(&mut bring_up_list, |buffer| {
+            bring_up(table, &mut reported.to_vec(), buffer)
+        });
+        Self {
+            table: table.to_vec(),
+            reported: reported.to_vec(),
+            plan: vec![0x5a; PLAN_BYTES],
+            bring_up_list,
+            ..Self::default()
+        }
+    }
 }
 
 impl fmt::Debug for Case {
@@ -96,6 +123,8 @@ impl fmt::Debug for Case {
             ("table", &self.table),
             ("state", &self.state),
             ("list", &self.list),
+            ("reported state", &self.reported),
+            ("list of bring-up", &self.bring_up_list),
             ("plan", &self.plan),
             ("fresh", &self.fresh),
             ("resources", &self.description.resources),
@@ -158,6 +187,7 @@ impl Cases {
         self.lend_request();
         self.lend_list_and_step();
         self.lend_buffers();
+        self.lend_bring_up();
         self.lend_description();
         &self.case
     }
@@ -224,18 +254,12 @@ impl Cases {
     /// Plans the request for the sake of its list, and walks on if all was undamaged.
     fn lend_list_and_step(&mut self) {
         let (rng, case) = (&mut self.rng, &mut self.case);
-        let mut state = [0; STATE_BYTES];
-        let mut buffer = [0; PLAN_BYTES];
-        case.list.clear();
-        let accepted = case.state.len() == STATE_BYTES && {
-            state.copy_from_slice(&case.state);
-            let answer = plan(&case.table, &mut state, case.request, &mut buffer);
-            let length = 4 * usize::from(answer.count);
-            case.list.extend_from_slice(&buffer[..length]);
-            answer.is_done()
-        };
+        let mut state = case.state.clone();
+        let accepted = set_planned(&mut case.list, |buffer| {
+            plan(&case.table, &mut state, case.request, buffer)
+        });
         if accepted && case.table == self.table && !rng.one_in(8) {
-            self.state.copy_from_slice(&state);
+            self.state = state;
         }
         let planned = case.list.clone();
         vary_list(rng, &case.table, &self.earlier_list, &mut case.list);
@@ -263,6 +287,26 @@ impl Cases {
         };
     }
 
+    /// What bring-up and its checker are lent, which the walk does not depend on.
+    fn lend_bring_up(&mut self) {
+        let (rng, case) = (&mut self.rng, &mut self.case);
+        case.reported.clone_from(&self.state);
+        report_any_on(rng, &self.table, &mut case.reported);
+        // With two, the lower one is named.
+        for _ in 0..rng.pick(&[0, 0, 0, 0, 1, 2]) {
+            put_fault(rng, &self.table, &mut case.reported);
+        }
+        if rng.one_in(8) {
+            damage_state(rng, self.table[6].into(), &mut case.reported);
+        }
+        let mut state = case.reported.clone();
+        set_planned(&mut case.bring_up_list, |buffer| {
+            bring_up(&case.table, &mut state, buffer)
+        });
+        let (earlier, list) = (&self.earlier_list, &mut case.bring_up_list);
+        vary_bring_up_list(rng, &case.table, &case.reported, earlier, list);
+    }
+
     /// What writer and describer are lent, which the walk does not depend on.
     fn lend_description(&mut self) {
         let (rng, case) = (&mut self.rng, &mut self.case);
@@ -286,6 +330,15 @@ impl Cases {
     }
 }
 
+/// Makes `list` what a planner writes, and says whether it does.
+fn set_planned(list: &mut Vec<u8>, plan: impl FnOnce(&mut [u8]) -> Answer) -> bool {
+    let mut buffer = [0; PLAN_BYTES];
+    let answer = plan(&mut buffer);
+    list.clear();
+    list.extend_from_slice(&buffer[..4 * usize::from(answer.count)]);
+    answer.is_done()
+}
+
 /// A room for so many bytes: in most cases exactly that, else less or more.
 fn room(rng: &mut Rng, needed: usize) -> usize {
     match rng.below(32) {
@@ -296,12 +349,14 @@ fn room(rng: &mut Rng, needed: usize) -> usize {
     }
 }
 
-/// Switches resources on that nothing needs.
-fn switch_more_on(rng: &mut Rng, table: &[u8], state: &mut [u8]) {
-    let resources = table[3];
-    let more = rng.next() as u32 & rng.next() as u32;
-    let all = ((1u64 << resources) - 1) as u32;
-    for (byte, more) in state[128..].iter_mut().zip((more & all).to_le_bytes()) {
-        *byte |= more;
+/// Says which thing is not as it must be.
+fn equal<T: PartialEq + fmt::Debug + ?Sized>(
+    what: &str,
+    is: &T,
+    expected: &T,
+) -> Result<(), String> {
+    match is == expected {
+        true => Ok(()),
+        false => Err(format!("{what} is\n{is:02x?}, not\n{expected:02x?}")),
     }
 }

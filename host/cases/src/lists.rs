@@ -1,6 +1,6 @@
 //! Variations of a list of calls.
 
-use reference::{Call, Table};
+use reference::{numbers, Call, State, Table};
 
 use crate::rng::Rng;
 
@@ -13,7 +13,7 @@ pub fn vary_list(rng: &mut Rng, table: &[u8], earlier: &[u8], list: &mut Vec<u8>
         9 | 10 => exchange(rng, list),
         11 => cut(rng, list),
         12 => double(rng, list),
-        13 | 14 => insert(rng, list),
+        13 | 14 => insert(rng, list, any_call),
         15 | 16 => change_byte(rng, list),
         17 => odd_length(rng, list),
         18 => {
@@ -29,6 +29,40 @@ pub fn vary_list(rng: &mut Rng, table: &[u8], earlier: &[u8], list: &mut Vec<u8>
             rng.fill(list, length);
         }
     }
+}
+
+/// Changes the planned list of a bring-up, also in ways that are of interest
+/// there. `state` is the one before it.
+pub fn vary_bring_up_list(
+    rng: &mut Rng,
+    table: &[u8],
+    state: &[u8],
+    earlier: &[u8],
+    list: &mut Vec<u8>,
+) {
+    match rng.below(12) {
+        0 | 1 => turn_on_all_needed(table, state, list),
+        // `_OFF`s before `_ON`s, each kind in its order, as the sort is stable.
+        2 => list.as_chunks_mut::<4>().0.sort_by_key(|word| !word[0]),
+        3 => insert(rng, list, any_method),
+        _ => vary_list(rng, table, earlier, list),
+    }
+}
+
+/// Turns on all that is needed by rising order, on or not, before the other calls.
+pub fn turn_on_all_needed(table: &[u8], state: &[u8], list: &mut Vec<u8>) {
+    let Ok(table) = Table::read(table) else {
+        return;
+    };
+    let Ok(state) = State::read_for_bring_up(&table, state) else {
+        return;
+    };
+    let mut needed: Vec<usize> = numbers(state.needed(&table)).collect();
+    needed.sort_by_key(|&r| table.resource_order(r));
+    let words = list.as_chunks().0.iter().copied();
+    let others = words.filter(|word| word[0] != 1);
+    let turn_on = needed.iter().map(|&r| [1, r as u8, 0, 0]);
+    *list = turn_on.chain(others).flatten().collect();
 }
 
 /// Brings the calls of equal resource order, of one kind, into any sequence.
@@ -103,9 +137,9 @@ fn double(rng: &mut Rng, list: &mut Vec<u8>) {
     }
 }
 
-fn insert(rng: &mut Rng, list: &mut Vec<u8>) {
+fn insert(rng: &mut Rng, list: &mut Vec<u8>, call: fn(&mut Rng) -> [u8; 4]) {
     let start = 4 * rng.below(list.len() / 4 + 1);
-    let word = any_call(rng);
+    let word = call(rng);
     list.splice(start..start, word).for_each(drop);
 }
 
@@ -156,10 +190,17 @@ fn any_calls(rng: &mut Rng, list: &mut Vec<u8>) {
 
 fn any_call(rng: &mut Rng) -> [u8; 4] {
     let number = rng.byte_below(32);
-    match rng.below(6) {
-        0 | 1 => [1, number, 0, 0],
-        2 | 3 => [2, number, 0, 0],
-        4 => [3, number, rng.byte_below(4), 0],
+    match rng.below(3) {
+        0 => [1, number, 0, 0],
+        1 => [2, number, 0, 0],
+        _ => any_method(rng),
+    }
+}
+
+fn any_method(rng: &mut Rng) -> [u8; 4] {
+    let number = rng.byte_below(32);
+    match rng.below(2) {
+        0 => [3, number, rng.byte_below(4), 0],
         _ => [4, number, rng.byte_below(5), 128 + rng.byte_below(5)],
     }
 }

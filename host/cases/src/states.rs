@@ -1,4 +1,4 @@
-//! Random consistent states.
+//! Random consistent states, and random sets of resources that are on.
 
 use reference::{wake_range, Device, Entry, State, Table, STATE_BYTES};
 
@@ -55,4 +55,42 @@ fn draw_wake_pair(rng: &mut Rng, device: Device, state: u8) -> Option<(u8, u8)> 
     let first = first.max(state);
     let d = (first <= last).then(|| rng.byte_within(first, last))?;
     (device.has_prw() && device.supports(d)).then_some((s, d))
+}
+
+/// The set of all resources of a table that is good.
+fn all_resources(table: &[u8]) -> u32 {
+    ((1u64 << table[3]) - 1) as u32
+}
+
+/// Changes which resources are on in a state.
+fn change_on(state: &mut [u8], change: impl FnOnce(u32) -> u32) {
+    let on = state[128..].as_chunks_mut().0;
+    on[0] = change(u32::from_le_bytes(on[0])).to_le_bytes();
+}
+
+/// Switches resources on that nothing needs.
+pub(crate) fn switch_more_on(rng: &mut Rng, table: &[u8], state: &mut [u8]) {
+    let more = rng.next() as u32 & rng.next() as u32;
+    change_on(state, |on| on | more & all_resources(table));
+}
+
+/// Gives a state of a good table any set of resources that are on: as it was,
+/// none, all, the others, one more or less, or any.
+pub fn report_any_on(rng: &mut Rng, table: &[u8], state: &mut [u8]) {
+    let all = all_resources(table);
+    let (any, few) = (rng.next() as u32, rng.next() as u32);
+    let one = 1 << rng.below(32);
+    let which = rng.below(16);
+    change_on(state, |on| {
+        all & match which {
+            0 => on,
+            1 => 0,
+            2 => u32::MAX,
+            3 => !on,
+            4..=6 => on ^ one,
+            7 | 8 => any & few,
+            9 | 10 => any | few,
+            _ => any,
+        }
+    });
 }

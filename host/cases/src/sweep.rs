@@ -1,5 +1,7 @@
 //! Small sets of inputs, gone through completely.
 
+pub mod bring_up;
+
 use reference::Request;
 
 use crate::station::{Record, Resource, Station, SHAPES};
@@ -11,6 +13,16 @@ pub fn each_length(bytes: &[u8], extra: usize, mut each: impl FnMut(&[u8])) {
     longer.resize(bytes.len() + extra, 0);
     for length in 0..=longer.len() {
         each(&longer[..length]);
+    }
+}
+
+/// Longer by 256 and by 65,536 bytes, so that the length is the same in its
+/// lowest byte or its lowest two. Bytes past the end are zero.
+pub fn each_wide_length(bytes: &[u8], mut each: impl FnMut(&[u8])) {
+    for extra in [1 << 8, 1 << 16] {
+        let mut longer = bytes.to_vec();
+        longer.resize(bytes.len() + extra, 0);
+        each(&longer);
     }
 }
 
@@ -95,8 +107,8 @@ pub fn each_request(mut each: impl FnMut(Request)) {
 }
 
 /// Each way to exchange two calls of a list, to leave one out, to make one
-/// twice, beside itself or at the end, or to put `_ON` or `_OFF` of any
-/// resource at the start or the end.
+/// twice, beside itself or at the end, to rotate the list, or to put in `_ON` or
+/// `_OFF` of any resource or a method of some devices.
 pub fn each_list(list: &[u8], mut each: impl FnMut(&[u8])) {
     let words = list.as_chunks::<4>().0;
     for first in 0..words.len() {
@@ -109,12 +121,16 @@ pub fn each_list(list: &[u8], mut each: impl FnMut(&[u8])) {
         each([before, after].concat().as_flattened());
         each([before, &[word, word], after].concat().as_flattened());
         each([words, &[word]].concat().as_flattened());
+        if first > 0 {
+            each([&[word], after, before].concat().as_flattened());
+        }
     }
-    for resource in 0..=32 {
-        for kind in [1, 2] {
-            let word = [[kind, resource, 0, 0]];
-            each([&word[..], words].concat().as_flattened());
-            each([words, &word[..]].concat().as_flattened());
+    let switches = (0..=32).flat_map(|r| [[1, r, 0, 0], [2, r, 0, 0]]);
+    let methods = [0, 1, 31].map(|d| [[3, d, 0, 0], [3, d, 3, 0], [4, d, 3, 0x82], [4, d, 0, 0]]);
+    for word in switches.chain(methods.into_iter().flatten()) {
+        for place in 0..=words.len() {
+            let (before, after) = words.split_at(place);
+            each([before, &[word], after].concat().as_flattened());
         }
     }
 }
@@ -159,7 +175,7 @@ pub fn each_move(mut each: impl FnMut(&[u8], &[u8], Request)) {
             let [parent, device, child] = [states / 25, states / 5 % 5, states % 5];
             let state = image(
                 &[[parent, 0, 0, 0], [device, 0, 0, 0], [child, 0, 0, 0]],
-                0xff,
+                0x1f,
             );
             for target in 0..5 {
                 each(&table, &state, Request::move_to(1, target));
@@ -193,7 +209,7 @@ fn family((ps, pr): (u8, u8)) -> Station {
         ..Record::default()
     };
     Station {
-        resources: (0..8)
+        resources: (0..5)
             .map(|r| Resource {
                 level: 4,
                 order: r / 2,

@@ -4,8 +4,8 @@
 use reference::{fresh, plan, Request, PLAN_BYTES, STATE_BYTES};
 
 use crate::station::{Record, Resource, Station};
-use crate::sweep::bench_station;
-use crate::Case;
+use crate::sweep::{bench_station, image};
+use crate::{set_planned, Case};
 
 /// An input to measure, with the answers it must get.
 pub struct Workload {
@@ -21,6 +21,10 @@ pub struct Workload {
     pub writer: Option<u8>,
     /// The describer's answer number, or `None` if the describer is not measured.
     pub describer: Option<u8>,
+    /// The answer number of bring-up, or `None` if it is not measured.
+    pub bring_up: Option<u8>,
+    /// That of the checker of bring-up, or `None` if it is not measured.
+    pub bring_up_checker: Option<u8>,
 }
 
 impl Workload {
@@ -32,6 +36,8 @@ impl Workload {
             checker: None,
             writer: None,
             describer: None,
+            bring_up: None,
+            bring_up_checker: None,
         }
     }
 
@@ -58,6 +64,29 @@ impl Workload {
         }
     }
 
+    /// For bring-up and its checker.
+    fn both_of_bring_up(name: &'static str, number: u8, case: Case) -> Self {
+        Self {
+            bring_up: Some(number),
+            bring_up_checker: Some(number),
+            ..Self::new(name, case)
+        }
+    }
+
+    fn bring_up(name: &'static str, number: u8, case: Case) -> Self {
+        Self {
+            bring_up: Some(number),
+            ..Self::new(name, case)
+        }
+    }
+
+    fn bring_up_checker(name: &'static str, number: u8, case: Case) -> Self {
+        Self {
+            bring_up_checker: Some(number),
+            ..Self::new(name, case)
+        }
+    }
+
     fn writer(name: &'static str, number: u8, case: Case) -> Self {
         Self {
             writer: Some(number),
@@ -78,6 +107,7 @@ pub fn workloads() -> Vec<Workload> {
     let mut all = accepted();
     all.extend(refused_bytes());
     all.extend(refused_requests());
+    all.extend(bring_ups());
     all.extend(descriptions());
     all
 }
@@ -159,6 +189,38 @@ fn refused_requests() -> Vec<Workload> {
             19,
             with_list(|list| list.resize(8000, 0)),
         ),
+    ]
+}
+
+/// Bring-up of the bench station, with the camera in D3hot and r2 alone on, and
+/// of the full one, where every resource is to be switched; and its refusals.
+fn bring_ups() -> Vec<Workload> {
+    let bench = bench_station().table();
+    let full = full_station().table();
+    // In D0, and armed for S3 and D3cold.
+    let in_use = image(&[[0, 1, 3, 4]; 32], 0);
+    let unused = image(&[[4, 0, 0, 0]; 32], u32::MAX);
+    let changed = |change: fn(&mut Case)| {
+        let mut case = Case::of_bring_up(&full, &in_use);
+        change(&mut case);
+        case
+    };
+    vec![
+        Workload::both_of_bring_up("bench, 2 ONs and 1 OFF", 0, {
+            Case::of_bring_up(&bench, &image(&[[0; 4], [3, 0, 0, 0]], 0b100))
+        }),
+        Workload::both_of_bring_up("full, 32 ONs", 0, changed(|_| {})),
+        Workload::both_of_bring_up("full, 32 OFFs", 0, Case::of_bring_up(&full, &unused)),
+        Workload::both_of_bring_up("wake pair, last device", 8, {
+            // D0, which its _S3D forbids.
+            changed(|case| case.reported[4 * LAST as usize + 3] = 0)
+        }),
+        Workload::bring_up("room", 9, {
+            changed(|case| case.plan.truncate(PLAN_BYTES - 1))
+        }),
+        Workload::bring_up_checker("list, last word", 19, {
+            changed(|case| *case.bring_up_list.last_mut().expect("not empty") ^= 1)
+        }),
     ]
 }
 
@@ -265,11 +327,13 @@ fn walk(table: &[u8], requests: &[Request]) -> Vec<u8> {
 
 /// A case with the planner's own list, if the request is accepted.
 fn case(table: &[u8], state: Vec<u8>, request: Request) -> Case {
-    let mut buffer = vec![0; PLAN_BYTES];
-    let answer = plan(table, &mut state.clone(), request, &mut buffer);
+    let mut list = Vec::new();
+    set_planned(&mut list, |buffer| {
+        plan(table, &mut state.clone(), request, buffer)
+    });
     Case {
         table: table.to_vec(),
-        list: buffer[..4 * usize::from(answer.count)].to_vec(),
+        list,
         state,
         request,
         plan: vec![0; PLAN_BYTES],

@@ -1,8 +1,12 @@
 //! The cases reach every answer and every rule. The reference alone is run.
 
-use cases::{sweep, workloads, Case, Cases, Counts, Coverage, Description, Rng, Station, SHAPES};
+use cases::{
+    faults, sweep, workloads, Case, Cases, Counts, Coverage, Description, Rng, Station, FAULTS,
+    SHAPES,
+};
 use reference::{
-    check, describe, effect, fresh, plan, wake_range, write, Answer, Call, Effect, Table,
+    bring_up, check, check_bring_up, describe, effect, fresh, plan, wake_range, write, Answer,
+    Call, Effect, Entry, State, Table,
 };
 
 const CASES: usize = 200_000;
@@ -14,6 +18,8 @@ struct Answers {
     fresh: Answer,
     writer: Answer,
     describer: Answer,
+    bring_up: Answer,
+    bring_up_checker: Answer,
 }
 
 impl Answers {
@@ -24,6 +30,8 @@ impl Answers {
         let described = &mut lent.described;
         Self {
             planner: plan(table, &mut lent.state, request, &mut lent.plan),
+            bring_up: bring_up(table, &mut lent.reported, &mut lent.plan),
+            bring_up_checker: check_bring_up(table, &case.reported, &case.bring_up_list),
             checker: check(table, &case.state, request, &case.list),
             fresh: fresh(table, &mut lent.fresh),
             writer: write(case.version, resources, devices, &mut lent.written),
@@ -38,12 +46,13 @@ fn every_answer_is_given() {
     let mut cases = Cases::new(1);
     for _ in 0..CASES {
         let answers = Answers::of(cases.next_case());
-        coverage.planner.add(answers.planner.number);
-        coverage.checker.add(answers.checker.number);
-        coverage.fresh.add(answers.fresh.number);
-        coverage.writer.add(answers.writer.number);
-        coverage.places.add(answers.writer);
-        coverage.describer.add(answers.describer.number);
+        coverage.planner.add(answers.planner);
+        coverage.checker.add(answers.checker);
+        coverage.fresh.add(answers.fresh);
+        coverage.writer.add(answers.writer);
+        coverage.describer.add(answers.describer);
+        coverage.bring_up.add(answers.bring_up);
+        coverage.bring_up_checker.add(answers.bring_up_checker);
     }
     println!("{coverage}");
     coverage.must_be_whole(100);
@@ -165,10 +174,101 @@ fn every_rule_is_met() {
             *count += usize::from(met);
         }
     }
-    for (rule, count) in RULES.iter().zip(counts) {
+    must_be_met(&RULES, &counts);
+}
+
+fn must_be_met(rules: &[&str], counts: &[usize]) {
+    for (rule, &count) in rules.iter().zip(counts) {
         println!("{count:6} {rule}");
         assert!(count >= 10, "{rule}: {count}");
     }
+}
+
+/// What the list of a bring-up can have.
+const BRING_UP_LISTS: [&str; 8] = [
+    "turn-on calls alone",
+    "turn-off calls alone",
+    "both",
+    "no calls",
+    "32 calls",
+    "equal orders among turn-on calls",
+    "equal orders among turn-off calls",
+    "a device in use without its supply that has methods",
+];
+
+fn bring_up_list_has(table: &Table, reported: &[u8], list: &[[u8; 4]]) -> [bool; 8] {
+    let orders = resource_orders(table, list);
+    let has_kind = |kind| list.iter().any(|word| word[0] == kind);
+    let has_equal = |kind| {
+        let mut pairs = orders.windows(2);
+        pairs.any(|pair| pair[0] == pair[1] && pair[0].0 == kind)
+    };
+    let state = State::read_for_bring_up(table, reported).expect("accepted");
+    let in_use = |d: &usize| {
+        let (device, entry) = (table.device(*d), state.entry(*d));
+        entry.state == 0 && device.ps_mask() != 0 && device.needs(entry) & !state.on() != 0
+    };
+    [
+        has_kind(1) && !has_kind(2),
+        has_kind(2) && !has_kind(1),
+        has_kind(1) && has_kind(2),
+        list.is_empty(),
+        list.len() == 32,
+        has_equal(1),
+        has_equal(2),
+        (0..table.device_count()).any(|d| in_use(&d)),
+    ]
+}
+
+#[test]
+fn every_kind_of_bring_up_is_met() {
+    let mut lists = [0; BRING_UP_LISTS.len()];
+    // Each fault of one device alone, with all that is needed on, and without.
+    let mut alone = [[0; FAULTS.len()]; 2];
+    let mut cases = Cases::new(3);
+    for _ in 0..CASES {
+        let case = cases.next_case();
+        let mut buffer = [0; 132];
+        let answer = bring_up(&case.table, &mut case.reported.clone(), &mut buffer);
+        let Ok(table) = Table::read(&case.table) else {
+            continue;
+        };
+        if answer.is_done() {
+            let list = &buffer.as_chunks().0[..answer.count.into()];
+            let has = bring_up_list_has(&table, &case.reported, list);
+            for (count, has) in lists.iter_mut().zip(has) {
+                *count += usize::from(has);
+            }
+        } else if answer.number == 8 {
+            if let Some((fault, supplied)) = fault_alone(&table, &case.reported) {
+                alone[usize::from(supplied)][fault] += 1;
+            }
+        }
+    }
+    must_be_met(&BRING_UP_LISTS, &lists);
+    must_be_met(&FAULTS, &alone[0]);
+    must_be_met(&FAULTS, &alone[1]);
+}
+
+/// The fault of a state with good values that has but one, and whether all that
+/// it needs is on.
+fn fault_alone(table: &Table, reported: &[u8]) -> Option<(usize, bool)> {
+    let entries = reported.as_chunks().0;
+    let on = u32::from_le_bytes(entries[32]);
+    let mut found = Vec::new();
+    let mut needed = 0;
+    for (d, &entry) in entries[..table.device_count()].iter().enumerate() {
+        let faults = faults(table, reported, d, entry);
+        found.extend((0..FAULTS.len()).filter(|&fault| faults[fault]));
+        let [state, armed, wake_s, wake_d] = entry;
+        needed |= table.device(d).needs(Entry {
+            state,
+            armed: armed == 1,
+            wake_s,
+            wake_d,
+        });
+    }
+    (found.len() == 1).then(|| (found[0], needed & !on == 0))
 }
 
 #[test]
@@ -207,6 +307,9 @@ fn sweeps_have_their_sizes() {
     sweep::each_wild_byte(&[0, 7, 255], |_| count += 1);
     assert_eq!(count, 15 + 16 + 15);
     let mut lengths = Vec::new();
+    sweep::each_wide_length(&[1, 2], |bytes| lengths.push(bytes.len()));
+    assert_eq!(lengths, [258, 65_538]);
+    lengths.clear();
     sweep::each_record_limit(&[0; 8], 4, |bytes| lengths.push(bytes.len()));
     assert_eq!(lengths, [0, 1, 3, 4, 5, 7, 8, 9, 11, 12, 13, 15, 16, 17]);
     count = 0;
@@ -215,17 +318,54 @@ fn sweeps_have_their_sizes() {
 }
 
 #[test]
+fn sweeps_of_bring_up_have_their_sizes() {
+    let mut count = 0;
+    sweep::bring_up::each_reported(|_, _| count += 1);
+    // Per shape of masks, with 130 entries; then the bench station.
+    let per_shape = 3 * 130 * 16 + 3 * 130 * 16 + 125 * 32;
+    assert_eq!(count, 21 * per_shape + 125 * 6 * 8);
+    count = 0;
+    sweep::bring_up::each_on_and_needed(&[1, 2, 1], |_, _| count += 1);
+    assert_eq!(count, 8 * 8);
+    count = 0;
+    sweep::bring_up::each_short_list(|_| count += 1);
+    assert_eq!(count, 1 + 8 + 64 + 512 + 4096);
+    let mut sequences = Vec::new();
+    let list: Vec<u8> = (0..4).flat_map(|r| [1, r, 0, 0]).collect();
+    sweep::bring_up::each_sequence(&list, |list| sequences.push(list.to_vec()));
+    sequences.sort_unstable();
+    sequences.dedup();
+    assert_eq!(sequences.len(), 24);
+}
+
+#[test]
+fn sweeps_of_bring_up_reach_their_answers() {
+    let mut counts = Counts::default();
+    sweep::bring_up::each_reported(|table, state| {
+        counts.add(bring_up(table, &mut state.to_vec(), &mut [0; 132]));
+    });
+    counts.must_be("bring-up", &[0, 8], 10_000);
+    let mut counts = Counts::default();
+    sweep::bring_up::each_fault(|table, state, d| {
+        let answer = bring_up(table, &mut state.to_vec(), &mut [0; 132]);
+        assert_eq!(answer, Answer::refused(8, d as u64));
+        counts.add(answer);
+    });
+    counts.must_reach_places("bring-up", &[8]);
+}
+
+#[test]
 fn sweeps_reach_their_answers() {
     let mut moves = Counts::default();
     sweep::each_move(|table, state, request| {
         let mut state = state.to_vec();
-        moves.add(plan(table, &mut state, request, &mut [0; 132]).number);
+        moves.add(plan(table, &mut state, request, &mut [0; 132]));
     });
     moves.must_be("moves", &[0, 8, 11, 12, 13, 14], 100);
     let mut armings = Counts::default();
     sweep::each_arming(|table, state, request| {
         let mut state = state.to_vec();
-        armings.add(plan(table, &mut state, request, &mut [0; 132]).number);
+        armings.add(plan(table, &mut state, request, &mut [0; 132]));
     });
     armings.must_be("armings", &[0, 5, 8, 16, 17, 18], 100);
 }
@@ -244,12 +384,15 @@ fn changed_lists_conform_only_within_equal_orders() {
         }
     });
     // Of 24 resources to switch off, eight pairs have equal orders.
-    assert_eq!((passed, refused), (8, 300 - 8 + 3 * 25 + 4 * 33));
+    assert_eq!(
+        (passed, refused),
+        (8, 300 - 8 + 3 * 25 + 24 + 26 * (66 + 12))
+    );
 }
 
 #[test]
 fn workloads_get_their_answers() {
-    let mut numbers: [Vec<u8>; 4] = Default::default();
+    let mut numbers: [Vec<u8>; 6] = Default::default();
     for workload in workloads() {
         let answers = Answers::of(&workload.case);
         let pairs = [
@@ -257,6 +400,8 @@ fn workloads_get_their_answers() {
             (workload.checker, answers.checker),
             (workload.writer, answers.writer),
             (workload.describer, answers.describer),
+            (workload.bring_up, answers.bring_up),
+            (workload.bring_up_checker, answers.bring_up_checker),
         ];
         for ((expected, answer), numbers) in pairs.into_iter().zip(&mut numbers) {
             let same = expected.is_none_or(|number| number == answer.number);
@@ -265,9 +410,11 @@ fn workloads_get_their_answers() {
         }
     }
     // Accepted, and refused at each stage: table, state, consistency, room, request, list.
-    let [planner, checker, writer, describer] = numbers;
+    let [planner, checker, writer, describer, bring_up, bring_up_checker] = numbers;
     assert!([0, 1, 5, 7, 8, 9, 10].iter().all(|n| planner.contains(n)));
     assert!([0, 1, 5, 7, 8, 10, 19].iter().all(|n| checker.contains(n)));
     assert_eq!(writer, [0, 0, 5]);
     assert_eq!(describer, [0, 0, 9]);
+    assert_eq!(bring_up, [0, 0, 0, 8, 9]);
+    assert_eq!(bring_up_checker, [0, 0, 0, 8, 19]);
 }

@@ -1,10 +1,12 @@
 //! What must hold of the reference on every case, checked without its own code
 //! where that is possible.
 
-use cases::{inverse_holds, permute_equal_orders, sweep, Case, Cases, Rng, Station};
+use cases::{
+    faults, inverse_holds, permute_equal_orders, sweep, BringUp, Case, Cases, Rng, Station, FAULTS,
+};
 use reference::{
-    check, check_table, check_words, demand3, demand3_words, describe, effect, execution, fresh,
-    plan, plan_words, record, write, Answer, Call, Effect, Table,
+    bring_up, check, check_bring_up, check_table, check_words, demand3, demand3_words, describe,
+    effect, execution, fresh, plan, plan_words, record, write, Answer, Call, Effect, State, Table,
 };
 
 const CASES: usize = 100_000;
@@ -153,41 +155,59 @@ fn bytes_and_words_agree() {
     });
 }
 
-/// Whether a list conforms, by the words of RULES.md 7: as a set it has exactly
-/// the calls, each once, and no call comes before one that must precede it.
-fn list_conforms(table: &Table, effect: &Effect, list: &[u8]) -> bool {
-    let list_words = words(list);
-    let mut found = list_words.clone();
-    let mut due: Vec<u32> = effect.own_call.map(Call::word).into_iter().collect();
-    for resource in 0..32u8 {
-        let needed = effect.needed_after >> resource & 1 != 0;
-        let on = effect.on_before >> resource & 1 != 0;
-        match (needed, on) {
-            (true, false) => due.push(Call::On { resource }.word()),
-            (false, true) => due.push(Call::Off { resource }.word()),
-            _ => {}
-        }
-    }
-    found.sort_unstable();
-    due.sort_unstable();
-    let ranks: Vec<(u8, i32)> = list_words.iter().map(|w| rank(table, effect, *w)).collect();
-    list.len().is_multiple_of(4) && found == due && ranks.is_sorted()
+/// What a list must do.
+struct Due {
+    on: u32,
+    target: u32,
+    own_call: Option<Call>,
+    own_call_last: bool,
 }
 
-/// Where a call that is due belongs: own call first or last, turn-on calls, then
-/// turn-off calls.
-fn rank(table: &Table, effect: &Effect, word: u32) -> (u8, i32) {
-    let order = |r: u8| match usize::from(r) < table.resource_count() {
-        true => i32::from(table.resource_order(r.into())),
-        false => 0,
-    };
-    let (before, after) = (effect.entry_before, effect.entry_after);
-    let armed_now = after.armed && before.state == after.state;
-    let own_call_last = (after.state == 0 && before.state != 0) || armed_now;
-    match Call::from_word(word) {
-        Some(Call::On { resource }) => (1, order(resource)),
-        Some(Call::Off { resource }) => (2, -order(resource)),
-        _ => (if own_call_last { 3 } else { 0 }, 0),
+impl Due {
+    fn of_request(effect: &Effect) -> Self {
+        let (before, after) = (effect.entry_before, effect.entry_after);
+        let armed_now = after.armed && before.state == after.state;
+        Self {
+            on: effect.on_before,
+            target: effect.needed_after,
+            own_call: effect.own_call,
+            own_call_last: (after.state == 0 && before.state != 0) || armed_now,
+        }
+    }
+
+    /// Whether a list conforms, by the words of RULES.md 7: as a set it has exactly
+    /// the calls, each once, and no call comes before one that must precede it.
+    fn list_conforms(&self, table: &Table, list: &[u8]) -> bool {
+        let list_words = words(list);
+        let mut found = list_words.clone();
+        let mut due: Vec<u32> = self.own_call.map(Call::word).into_iter().collect();
+        for resource in 0..32u8 {
+            let needed = self.target >> resource & 1 != 0;
+            let on = self.on >> resource & 1 != 0;
+            match (needed, on) {
+                (true, false) => due.push(Call::On { resource }.word()),
+                (false, true) => due.push(Call::Off { resource }.word()),
+                _ => {}
+            }
+        }
+        found.sort_unstable();
+        due.sort_unstable();
+        let ranks: Vec<(u8, i32)> = list_words.iter().map(|w| self.rank(table, *w)).collect();
+        list.len().is_multiple_of(4) && found == due && ranks.is_sorted()
+    }
+
+    /// Where a call that is due belongs: own call first or last, turn-on calls, then
+    /// turn-off calls.
+    fn rank(&self, table: &Table, word: u32) -> (u8, i32) {
+        let order = |r: u8| match usize::from(r) < table.resource_count() {
+            true => i32::from(table.resource_order(r.into())),
+            false => 0,
+        };
+        match Call::from_word(word) {
+            Some(Call::On { resource }) => (1, order(resource)),
+            Some(Call::Off { resource }) => (2, -order(resource)),
+            _ => (if self.own_call_last { 3 } else { 0 }, 0),
+        }
     }
 }
 
@@ -200,7 +220,7 @@ fn the_checker_passes_exactly_the_lists_that_conform() {
         };
         let table = Table::read(&case.table).expect("accepted");
         let answer = check(&case.table, &case.state, case.request, &case.list);
-        let conforms = list_conforms(&table, &effect, &case.list);
+        let conforms = Due::of_request(&effect).list_conforms(&table, &case.list);
         let expected = if conforms { 0 } else { 19 };
         assert_eq!(answer.number, expected, "{case:?}");
         passed += usize::from(conforms);
@@ -231,6 +251,94 @@ fn a_record_is_handed_out_exactly_for_a_device_of_a_good_table() {
             assert!(std::ptr::eq(part, &case.table[start..start + 40]));
         } else {
             assert!(part.is_empty());
+        }
+    });
+}
+
+/// The reference's functions that bring-up is checked with.
+const REFERENCE: BringUp = BringUp {
+    bring_up: |table, state, plan| bring_up(table, state, plan).pack(),
+    check_bring_up: |table, state, list| check_bring_up(table, state, list).pack(),
+    check: |table, state, request, list| check(table, state, request, list).pack(),
+};
+
+#[test]
+fn bring_up_leaves_what_is_needed_on_and_its_list_passes() {
+    for_each_case(23, |case| {
+        assert_eq!(REFERENCE.holds(case), Ok(()), "{case:?}");
+    });
+    sweep::bring_up::each_reported(|table, state| {
+        let case = Case::of_bring_up(table, state);
+        assert_eq!(REFERENCE.holds(&case), Ok(()), "{case:?}");
+    });
+}
+
+/// The lowest device that has a fault, whatever is on.
+fn lowest_fault(table: &Table, state: &[u8]) -> Option<usize> {
+    let entries = state.as_chunks().0;
+    let has_fault = |&d: &usize| faults(table, state, d, entries[d]).contains(&true);
+    (0..table.device_count()).find(has_fault)
+}
+
+#[test]
+fn bring_up_refuses_with_8_exactly_the_lowest_fault() {
+    let mut found = [0; FAULTS.len()];
+    for_each_case(24, |case| {
+        let answer = check_bring_up(&case.table, &case.reported, &case.bring_up_list);
+        let Ok(table) = Table::read(&case.table) else {
+            assert_eq!(answer, check_table(&case.table));
+            return;
+        };
+        if answer.number != 7 {
+            let fault = lowest_fault(&table, &case.reported);
+            let place = (answer.number == 8).then_some(answer.place as usize);
+            assert_eq!(place, fault, "{case:?}");
+            if let Some(d) = fault {
+                let entry = case.reported.as_chunks().0[d];
+                let faults = faults(&table, &case.reported, d, entry);
+                for (count, fault) in found.iter_mut().zip(faults) {
+                    *count += usize::from(fault);
+                }
+            }
+        }
+    });
+    for (fault, count) in FAULTS.iter().zip(found) {
+        assert!(count > CASES / 100, "{fault}: {count}");
+    }
+}
+
+#[test]
+fn the_checker_of_bring_up_passes_exactly_the_lists_that_conform() {
+    let mut passed = 0;
+    for_each_case(25, |case| {
+        let answer = check_bring_up(&case.table, &case.reported, &case.bring_up_list);
+        let (0 | 19) = answer.number else {
+            return;
+        };
+        let table = Table::read(&case.table).expect("accepted");
+        let state = State::read_for_bring_up(&table, &case.reported).expect("accepted");
+        let due = Due {
+            on: state.on(),
+            target: state.needed(&table),
+            own_call: None,
+            own_call_last: false,
+        };
+        let conforms = due.list_conforms(&table, &case.bring_up_list);
+        assert_eq!(answer.is_done(), conforms, "{case:?}");
+        passed += usize::from(conforms);
+    });
+    assert!(passed > CASES / 10);
+}
+
+#[test]
+fn bring_up_and_its_checker_answer_alike_but_for_9_and_19() {
+    for_each_case(26, |case| {
+        let checked = check_bring_up(&case.table, &case.reported, &case.bring_up_list);
+        let (mut state, mut buffer) = (case.reported.clone(), case.plan.clone());
+        let answer = bring_up(&case.table, &mut state, &mut buffer);
+        match answer.number {
+            0 | 9 => assert!(checked.number == 0 || checked.number == 19),
+            _ => assert_eq!(checked, answer),
         }
     });
 }

@@ -3,6 +3,9 @@
 use std::ffi::{OsStr, OsString};
 use std::path::Path;
 
+/// The option that names the resources that are on. The others name a file.
+pub const ON: &str = "--on";
+
 /// The words after a subcommand, sorted out.
 #[derive(Default)]
 pub struct Args {
@@ -42,30 +45,36 @@ impl Args {
     ) -> Result<(), String> {
         let found = known.iter().find(|name| word == **name);
         let &name = found.ok_or_else(|| format!("unknown option {}", word.to_string_lossy()))?;
-        if self.option(name).is_some() {
+        if self.value(name).is_some() {
             return Err(format!("{name} is given twice"));
         }
-        let value = rest.next().ok_or_else(|| format!("{name} needs a file"))?;
+        let what = if name == ON { "resources" } else { "a file" };
+        let value = rest.next().ok_or_else(|| format!("{name} needs {what}"))?;
         self.options.push((name, value.clone()));
         Ok(())
     }
 
+    /// The word after an option.
+    pub fn value(&self, name: &str) -> Option<&OsStr> {
+        let found = self.options.iter().find(|(option, _)| *option == name);
+        found.map(|(_, value)| value.as_os_str())
+    }
+
     /// The file an option names.
     pub fn option(&self, name: &str) -> Option<&Path> {
-        let found = self.options.iter().find(|(option, _)| *option == name);
-        found.map(|(_, value)| Path::new(value))
+        self.value(name).map(Path::new)
     }
 }
 
 #[cfg(test)]
 mod tests {
-    use super::Args;
+    use super::{Args, ON};
     use std::ffi::OsString;
     use std::path::Path;
 
     fn parse(words: &[&str]) -> Result<Args, String> {
         let words: Vec<OsString> = words.iter().map(OsString::from).collect();
-        Args::parse(&words, &["-o", "--list"])
+        Args::parse(&words, &["-o", "--list", ON])
     }
 
     #[test]
@@ -91,6 +100,7 @@ mod tests {
         let message = |words: &[&str]| parse(words).err().unwrap();
         assert_eq!(message(&["-x"]), "unknown option -x");
         assert_eq!(message(&["-o"]), "-o needs a file");
+        assert_eq!(message(&["--on"]), "--on needs resources");
         assert_eq!(message(&["-o", "a", "-o", "b"]), "-o is given twice");
     }
 }

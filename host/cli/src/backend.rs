@@ -2,10 +2,10 @@
 //! `library`, the reference.
 
 #[cfg(feature = "library")]
-pub use sailgarnet::{check, describe, fresh, plan, write};
+pub use sailgarnet::{bring_up, check, check_bring_up, describe, fresh, plan, write};
 
 #[cfg(not(feature = "library"))]
-pub use stand_in::{check, describe, fresh, plan, write};
+pub use stand_in::{bring_up, check, check_bring_up, describe, fresh, plan, write};
 
 /// Which planner this is.
 pub const NAME: &str = if cfg!(feature = "library") {
@@ -32,6 +32,14 @@ mod stand_in {
     pub fn check(table: &[u8], state: &[u8], request: Request, list: &[u8]) -> Answer {
         let request = reference_request(request);
         answer(reference::check(table, state, request, list))
+    }
+
+    pub fn bring_up(table: &[u8], state: &mut [u8], plan: &mut [u8]) -> Answer {
+        answer(reference::bring_up(table, state, plan))
+    }
+
+    pub fn check_bring_up(table: &[u8], state: &[u8], list: &[u8]) -> Answer {
+        answer(reference::check_bring_up(table, state, list))
     }
 
     pub fn write(version: u32, resources: &[u8], devices: &[u8], table: &mut [u8]) -> Answer {

@@ -3,17 +3,12 @@
 use std::ffi::OsString;
 use std::path::Path;
 
-use reference::Effect;
-use sailgarnet::{
-    Answer, Device, Request, Resource, Verdict, MAX_TABLE_BYTES, PLAN_BYTES, STATE_BYTES,
-};
+use sailgarnet::{Answer, Device, Resource, Verdict, MAX_TABLE_BYTES, STATE_BYTES};
 
-use crate::args::Args;
+use crate::args::{Args, ON};
 use crate::help::{self, Help};
-use crate::trace::Trace;
-use crate::{
-    backend, demo, files, grid, printer, reader, request, show, svg, words, Failure, Report,
-};
+use crate::subject::Subject;
+use crate::{backend, demo, files, grid, printer, reader, show, svg, words, Failure, Report};
 
 type Outcome = Result<Report, Failure>;
 
@@ -30,9 +25,16 @@ pub fn run(line: Vec<OsString>) -> Outcome {
         "describe" => with_args(&help::DESCRIBE, rest, &["-o"], describe_table),
         "write" => with_args(&help::WRITE, rest, &["-o"], write_table),
         "fresh" => with_args(&help::FRESH, rest, &["-o"], write_fresh),
-        "plan" => with_args(&help::PLAN, rest, &["-o", "--list"], plan_request),
+        "plan" => with_args(&help::PLAN, rest, &["-o", "--list"], plan_list),
         "check" => with_args(&help::CHECK, rest, &[], check_list),
         "trace" => with_args(&help::TRACE, rest, &["--svg"], trace_list),
+        "bring-up" => with_args(
+            &help::BRING_UP,
+            rest,
+            &[ON, "-o", "--list", "--svg"],
+            plan_list,
+        ),
+        "check-bring-up" => with_args(&help::CHECK_BRING_UP, rest, &[ON], check_list),
         "demo" => with_args(&help::DEMO, rest, &[], run_demo),
         "-h" | "--help" | "help" => Ok(Report::done(help::overview())),
         "-V" | "--version" => Ok(Report::done(version())),
@@ -60,7 +62,8 @@ fn with_args(
     run(help, &args)
 }
 
-fn usage(help: &Help, message: &str) -> Failure {
+/// What is wrong with the words after a subcommand, and how it is used.
+pub fn usage(help: &Help, message: &str) -> Failure {
     Failure::new(format!(
         "{message}\nUsage: {}\nMore with: sailgarnet {} --help",
         help.usage_line(),
@@ -87,22 +90,15 @@ fn exactly<'a, const N: usize>(
 }
 
 /// The planner and the reference differ, which must not happen.
-pub fn disagreement(number: u8) -> Failure {
+pub fn disagreement(refusal: reference::Answer) -> Failure {
     Failure::new(format!(
-        "the planner accepted what the reference refuses with {number}; please report this"
+        "the planner accepted what the reference refuses with {}; please report this",
+        refusal.number
     ))
 }
 
 fn refusal(answer: Answer) -> Report {
-    refusal_with(answer, "")
-}
-
-/// A refusal, with more lines about it.
-fn refusal_with(answer: Answer, more: &str) -> Report {
-    Report {
-        text: words::answer_line(answer) + more,
-        refused: true,
-    }
+    Report::refused(words::answer_line(answer))
 }
 
 /// What was done with a table, and how large it is.
@@ -163,10 +159,7 @@ fn write_table(help: &Help, args: &Args) -> Outcome {
     if !answer.is_done() {
         let line = words::answer_line_with(answer, reader::refusal_sentence(answer));
         let part = position(text.refused_part(answer));
-        return Ok(Report {
-            text: format!("{line}{part}\n"),
-            refused: true,
-        });
+        return Ok(Report::refused(format!("{line}{part}\n")));
     }
     let table = &buffer[..answer.bytes_written()];
     files::write(output, table)?;
@@ -191,80 +184,23 @@ fn write_fresh(help: &Help, args: &Args) -> Outcome {
     )))
 }
 
-/// The operands that plan, check and trace begin with.
-struct Subject<'a> {
-    table_path: &'a Path,
-    state_path: &'a Path,
-    table: Vec<u8>,
-    state: Vec<u8>,
-    request: Request,
-}
-
-/// Reads TABLE STATE REQUEST, and gives the operands after them.
-fn subject<'a>(help: &Help, args: &'a Args) -> Result<(Subject<'a>, &'a [OsString]), Failure> {
-    let [table, state, rest @ ..] = args.operands.as_slice() else {
-        return Err(usage(help, "TABLE, STATE and REQUEST are expected"));
-    };
-    let (request, rest) = request::parse(rest).map_err(|message| usage(help, &message))?;
-    let (table_path, state_path) = (Path::new(table), Path::new(state));
-    let subject = Subject {
-        table_path,
-        state_path,
-        table: files::read(table_path)?,
-        state: files::read(state_path)?,
-        request,
-    };
-    Ok((subject, rest))
-}
-
-impl Subject<'_> {
-    /// Plans the request: the answer, the list and the new state.
-    fn plan(&self) -> (Answer, Vec<u8>, Vec<u8>) {
-        let mut state = self.state.clone();
-        let mut list = vec![0; PLAN_BYTES];
-        let answer = backend::plan(&self.table, &mut state, self.request, &mut list);
-        list.truncate(answer.plan_length());
-        (answer, list, state)
-    }
-
-    /// The list of a file with the checker's answer, or the planner's own.
-    fn answered_list(&self, path: Option<&Path>) -> Result<(Answer, Vec<u8>), Failure> {
-        let Some(path) = path else {
-            let (answer, list, _) = self.plan();
-            return Ok((answer, list));
-        };
-        let list = files::read(path)?;
-        let answer = backend::check(&self.table, &self.state, self.request, &list);
-        Ok((answer, list))
-    }
-
-    /// What the request does, or the number of its refusal.
-    fn effect(&self) -> Result<Effect, u8> {
-        let request = backend::reference_request(self.request);
-        reference::effect(&self.table, &self.state, request).map_err(|answer| answer.number)
-    }
-
-    /// The planner's list, if another one was found not to conform.
-    fn planned_instead(&self, answer: Answer) -> String {
-        if answer.verdict() != Some(Verdict::NotConforming) {
-            return String::new();
-        }
-        let (_, list, _) = self.plan();
-        format!("The planner's list has {}", words::call_lines(&list))
-    }
-}
-
-fn plan_request(help: &Help, args: &Args) -> Outcome {
-    let (subject, rest) = subject(help, args)?;
+fn plan_list(help: &Help, args: &Args) -> Outcome {
+    let (subject, rest) = Subject::read(help, args)?;
     let [] = exactly(help, rest, [])?;
-    let (state_output, list_output) = (args.option("-o"), args.option("--list"));
+    let [state_output, list_output, svg_output] = ["-o", "--list", "--svg"].map(|o| args.option(o));
     let (table_path, state_path) = (Some(subject.table_path), Some(subject.state_path));
     files::must_keep(state_output, &[table_path])?;
     files::must_keep(list_output, &[table_path, state_path, state_output])?;
+    let others = [table_path, state_path, state_output, list_output];
+    files::must_keep(svg_output, &others)?;
 
     let (answer, list, state) = subject.plan();
     if !answer.is_done() {
-        return Ok(refusal(answer));
+        return Ok(subject.refusal(answer));
+    }
+    if let Some(path) = svg_output {
+        let trace = subject.trace(&list).map_err(disagreement)?;
+        files::write(path, svg::draw(&trace, subject.task, answer).as_bytes())?;
     }
     if let Some(path) = list_output {
         files::write(path, &list)?;
@@ -273,31 +209,39 @@ fn plan_request(help: &Help, args: &Args) -> Outcome {
         files::write(path, &state)?;
     }
     Ok(Report::done(format!(
-        "Request: {}\n{}{}On afterwards: {}\n",
-        subject.request,
+        "{}\n{}{}{}On afterwards: {}\n",
+        subject.task.heading(),
         words::answer_line(answer),
+        subject.on_at_the_start(),
         words::call_lines(&list),
         words::resources(words::on_set(&state)),
     )))
 }
 
 fn check_list(help: &Help, args: &Args) -> Outcome {
-    let (subject, rest) = subject(help, args)?;
+    let (subject, rest) = Subject::read(help, args)?;
     let [list] = exactly(help, rest, ["LIST"])?;
     let list = files::read(Path::new(list))?;
-    let answer = backend::check(&subject.table, &subject.state, subject.request, &list);
-    if !answer.is_done() {
-        return Ok(refusal_with(answer, &subject.planned_instead(answer)));
-    }
-    let count = words::count(list.len() / 4, "call");
-    Ok(Report::done(format!(
-        "{}The list of {count} conforms to the request.\n",
-        words::answer_line(answer)
-    )))
+    let answer = subject.check(&list);
+    let line = words::answer_line(answer);
+    Ok(match answer.verdict() {
+        Some(Verdict::Done) => {
+            let (calls, noun) = (words::count(list.len() / 4, "call"), subject.task.noun());
+            Report::done(format!(
+                "{line}The list of {calls} conforms to the {noun}.\n"
+            ))
+        }
+        Some(Verdict::NotConforming) => {
+            let trace = subject.trace(&list).map_err(disagreement)?;
+            let faults = subject.on_at_the_start() + &grid::faults(&trace);
+            Report::refused(line + &faults + &subject.planned_instead(answer))
+        }
+        _ => subject.refusal(answer),
+    })
 }
 
 fn trace_list(help: &Help, args: &Args) -> Outcome {
-    let (subject, rest) = subject(help, args)?;
+    let (subject, rest) = Subject::read(help, args)?;
     let list_path = match rest {
         [] => None,
         rest => {
@@ -309,20 +253,19 @@ fn trace_list(help: &Help, args: &Args) -> Outcome {
     let (table_path, state_path) = (Some(subject.table_path), Some(subject.state_path));
     files::must_keep(svg_output, &[table_path, state_path, list_path])?;
     let (answer, list) = subject.answered_list(list_path)?;
-    let effect = match subject.effect() {
-        Ok(effect) => effect,
+    let trace = match subject.trace(&list) {
+        Ok(trace) => trace,
         // The request itself is refused, so there is nothing to trace.
-        Err(_) if !answer.is_done() => return Ok(refusal(answer)),
-        Err(number) => return Err(disagreement(number)),
+        Err(_) if !answer.is_done() => return Ok(subject.refusal(answer)),
+        Err(refusal) => return Err(disagreement(refusal)),
     };
-    let trace = Trace::new(&subject.table, &effect, &list)?;
     if let Some(path) = svg_output {
-        files::write(path, svg::draw(&trace, subject.request, answer).as_bytes())?;
+        files::write(path, svg::draw(&trace, subject.task, answer).as_bytes())?;
     }
     Ok(Report {
         text: format!(
-            "Request: {}\n{}{}{}",
-            subject.request,
+            "{}\n{}{}{}",
+            subject.task.heading(),
             words::answer_line(answer),
             grid::draw(&trace),
             subject.planned_instead(answer),

@@ -19,10 +19,13 @@ pub fn draw(trace: &Trace) -> String {
     for part in points.chunks(CALLS_ACROSS + 1) {
         text += &block(trace, part);
     }
-    for fault in &trace.faults {
-        let _ = writeln!(text, "Fault: {fault}");
-    }
-    text
+    text + &faults(trace)
+}
+
+/// What went wrong, a line each.
+pub fn faults(trace: &Trace) -> String {
+    let faults = trace.faults.iter();
+    faults.map(|fault| format!("Fault: {fault}\n")).collect()
 }
 
 fn call_line(number: usize, step: &Step) -> String {

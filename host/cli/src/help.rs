@@ -21,7 +21,18 @@ for example: move 1 D2
 ";
 
 /// All subcommands.
-pub const ALL: [Help; 8] = [SHOW, DESCRIBE, WRITE, FRESH, PLAN, CHECK, TRACE, DEMO];
+pub const ALL: [Help; 10] = [
+    SHOW,
+    DESCRIBE,
+    WRITE,
+    FRESH,
+    PLAN,
+    CHECK,
+    TRACE,
+    BRING_UP,
+    CHECK_BRING_UP,
+    DEMO,
+];
 
 /// `show`.
 pub const SHOW: Help = Help {
@@ -111,8 +122,8 @@ pub const CHECK: Help = Help {
     purpose: "check a list of method calls",
     text: "\
 LIST is a file of calls, four bytes each. It conforms if it has exactly the
-calls of the request, each once and in order. STATE is the state before the
-request.
+calls of the request, each once and in order. Else its faults, as trace has them,
+and the planner's list are shown. STATE is the state before the request.
 ",
 };
 
@@ -138,6 +149,45 @@ its place.
 ",
 };
 
+/// `bring-up`.
+pub const BRING_UP: Help = Help {
+    name: "bring-up",
+    usage: "TABLE STATE [--on RESOURCES] [-o STATE] [--list FILE] [--svg FILE]",
+    purpose: "plan the switching at power-on, which makes a state consistent",
+    text: "\
+STATE has the devices as they were kept, and what is on. The calls switch on what
+the devices need and is off, then switch off what is on and not needed; no method
+of a device is called. Afterwards the devices are as before, and exactly what they
+need is on, so that requests can be planned.
+
+That resources are off is no reason to refuse a state. It is refused if a device
+is in a state that it does not have, is shallower than its parent, is armed for a
+wake pair that is not legal, or is deeper than its wake state. Nothing is written
+then, or without an option.
+
+  --on RESOURCES    what is on, as _STA reports it, such as r0,r2; none, or an
+                    empty word, for nothing. Without it, what is on in STATE
+  -o STATE          write the state afterwards; it may be the file that was read
+  --list FILE       write the calls, four bytes each
+  --svg FILE        draw the calls and what is on as a timing diagram, as trace
+                    does; the mark ! stands where a needed resource is off
+",
+};
+
+/// `check-bring-up`.
+pub const CHECK_BRING_UP: Help = Help {
+    name: "check-bring-up",
+    usage: "TABLE STATE LIST [--on RESOURCES]",
+    purpose: "check a list of method calls for a bring-up",
+    text: "\
+LIST is a file of calls, four bytes each. It conforms if it has exactly the calls
+of the bring-up, each once and in order. Else its faults and the planner's list
+are shown. STATE is the state before the bring-up, and refused as by bring-up.
+
+  --on RESOURCES    what is on before the bring-up, as bring-up takes it
+",
+};
+
 /// `demo`.
 pub const DEMO: Help = Help {
     name: "demo",
@@ -156,10 +206,15 @@ impl Help {
             .into()
     }
 
+    /// Whether a request is among the operands.
+    pub fn takes_request(&self) -> bool {
+        self.usage.contains("REQUEST")
+    }
+
     /// The whole help text.
     pub fn page(&self) -> String {
         let Self { purpose, text, .. } = self;
-        let requests = if self.usage.contains("REQUEST") {
+        let requests = if self.takes_request() {
             format!("\n{REQUESTS}")
         } else {
             String::new()

@@ -3,7 +3,7 @@
 use std::fmt;
 use std::str::FromStr;
 
-use crate::words::quoted;
+use crate::words::{number, quoted};
 
 /// A mistake in a text. Lines and columns count from 1, columns in characters, of
 /// which a tab is one.
@@ -69,11 +69,9 @@ impl Word<'_> {
         quoted(self.text)
     }
 
-    /// The number that it says in digits alone, without zeros before it.
+    /// The number that it says.
     pub fn number<T: FromStr>(self) -> Option<T> {
-        let digits = self.text.bytes().all(|byte| byte.is_ascii_digit());
-        let plain = digits && (self.text == "0" || !self.text.starts_with('0'));
-        self.text.parse().ok().filter(|_| plain)
+        number(self.text)
     }
 
     /// The line in which it stands.

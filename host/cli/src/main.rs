@@ -1,12 +1,13 @@
 //! The command `sailgarnet`: shows power tables, describes them as text and
-//! writes them from it, plans requests, and checks and traces lists of method
-//! calls.
+//! writes them from it, plans requests and bring-ups, and checks and traces lists
+//! of method calls.
 
 #![forbid(unsafe_code)]
 
 mod args;
 mod backend;
 mod commands;
+mod consistency;
 mod demo;
 mod files;
 mod grid;
@@ -16,7 +17,9 @@ mod objects;
 mod printer;
 mod reader;
 mod request;
+mod resources;
 mod show;
+mod subject;
 mod svg;
 mod trace;
 mod words;
@@ -46,6 +49,14 @@ impl Report {
         Self {
             text,
             refused: false,
+        }
+    }
+
+    /// A refusal.
+    pub fn refused(text: String) -> Self {
+        Self {
+            text,
+            refused: true,
         }
     }
 }

@@ -10,7 +10,7 @@ use crate::Failure;
 
 /// The text of a table that the planner found good.
 pub fn table(bytes: &[u8]) -> Result<String, Failure> {
-    let table = Table::read(bytes).map_err(|answer| disagreement(answer.number))?;
+    let table = Table::read(bytes).map_err(disagreement)?;
     let mut text = table_size(bytes);
     if table.resource_count() > 0 {
         text += "\nResource  can be on down to  order\n";

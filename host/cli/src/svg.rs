@@ -2,8 +2,9 @@
 
 use std::fmt::Write;
 
-use sailgarnet::{Answer, Request};
+use sailgarnet::Answer;
 
+use crate::subject::Task;
 use crate::trace::{Row, Step, Trace};
 use crate::words;
 
@@ -92,16 +93,16 @@ fn base(top: usize) -> usize {
 }
 
 /// A trace as a drawing that a browser opens.
-pub fn draw(trace: &Trace, request: Request, answer: Answer) -> String {
+pub fn draw(trace: &Trace, task: Task, answer: Answer) -> String {
     let layout = Layout::of(trace, answer);
     let Layout { width, height, .. } = layout;
     let mut out = format!(
         "<svg xmlns=\"http://www.w3.org/2000/svg\" width=\"{width}\" height=\"{height}\" \
          viewBox=\"0 0 {width} {height}\">\n<title>{}</title>\n<style>\n{STYLE}</style>\n\
          <rect width=\"{width}\" height=\"{height}\" fill=\"#fff\"/>\n",
-        escape(&request.to_string())
+        escape(&task.to_string())
     );
-    draw_heading(&mut out, &layout, request);
+    draw_heading(&mut out, &layout, task);
     draw_column_titles(&mut out, &layout);
     for (r, row) in trace.rows.iter().enumerate() {
         draw_row(&mut out, layout.row_top(r), layout.width, row);
@@ -121,9 +122,8 @@ pub fn draw(trace: &Trace, request: Request, answer: Answer) -> String {
     out + "</svg>\n"
 }
 
-fn draw_heading(out: &mut String, layout: &Layout, request: Request) {
-    let title = format!("Request: {request}");
-    text(out, 20, 32, "title", &title);
+fn draw_heading(out: &mut String, layout: &Layout, task: Task) {
+    text(out, 20, 32, "title", &task.heading());
     for (i, line) in layout.heading.iter().enumerate() {
         text(out, 20, 58 + LINE * i, "", line);
     }

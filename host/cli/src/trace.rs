@@ -3,8 +3,42 @@
 use reference::{numbers, Effect, Execution, Table};
 use sailgarnet::{calls, Call};
 
-use crate::commands::disagreement;
-use crate::{words, Failure};
+use crate::words::{self, numbered_beyond};
+
+/// What a trace is measured by: what is on at the start, what is needed, and the
+/// own call.
+pub struct Purpose {
+    on_before: u32,
+    needed_before: u32,
+    needed_after: u32,
+    /// The bytes of the device's own call.
+    own_call: Option<[u8; 4]>,
+    own_call_needs: u32,
+}
+
+impl Purpose {
+    /// That of a permitted request.
+    pub fn of_request(effect: &Effect) -> Self {
+        Self {
+            on_before: effect.on_before,
+            needed_before: effect.needed_before,
+            needed_after: effect.needed_after,
+            own_call: effect.own_call.map(|call| call.word().to_le_bytes()),
+            own_call_needs: effect.own_call_needs,
+        }
+    }
+
+    /// That of a bring-up. It keeps the entries, so what is needed stays.
+    pub fn of_bring_up(on: u32, needed: u32) -> Self {
+        Self {
+            on_before: on,
+            needed_before: needed,
+            needed_after: needed,
+            own_call: None,
+            own_call_needs: 0,
+        }
+    }
+}
 
 /// The execution of a list.
 pub struct Trace {
@@ -48,41 +82,39 @@ impl Row {
 }
 
 impl Trace {
-    /// Carries out a list for a permitted request.
-    pub fn new(table: &[u8], effect: &Effect, list: &[u8]) -> Result<Self, Failure> {
-        let table = Table::read(table).map_err(|answer| disagreement(answer.number))?;
-        let steps = steps(effect, list);
-        let points = points(effect, list);
+    /// Carries out a list.
+    pub fn new(table: &Table, purpose: &Purpose, list: &[u8]) -> Self {
+        let steps = steps(purpose, list);
+        let points = points(purpose, list);
         let rows: Vec<Row> = (0..table.resource_count())
-            .map(|r| row(&table, effect, &points, r))
+            .map(|r| row(table, purpose, &points, r))
             .collect();
         let end = points[points.len() - 1];
-        let mut faults = faults_of_words(&table, &steps);
-        faults.extend(faults_on_the_way(effect, &steps, &rows, &points));
-        faults.extend(faults_at_the_end(effect, end, list.len() % 4));
-        Ok(Self {
+        let mut faults = faults_of_words(table, &steps);
+        faults.extend(faults_on_the_way(purpose, &steps, &rows, &points));
+        faults.extend(faults_at_the_end(purpose, end, list.len() % 4));
+        Self {
             steps,
             rows,
             faults,
-        })
+        }
     }
 }
 
-fn steps(effect: &Effect, list: &[u8]) -> Vec<Step> {
-    let own_call = effect.own_call.map(|call| call.word().to_le_bytes());
+fn steps(purpose: &Purpose, list: &[u8]) -> Vec<Step> {
     let words = list.as_chunks().0.iter().zip(calls(list));
     words
         .map(|(&bytes, call)| Step {
             bytes,
             call,
-            own: own_call == Some(bytes),
+            own: purpose.own_call == Some(bytes),
         })
         .collect()
 }
 
 /// What is on at the start and after each call.
-fn points(effect: &Effect, list: &[u8]) -> Vec<Execution> {
-    let mut execution = Execution::new(effect.on_before);
+fn points(purpose: &Purpose, list: &[u8]) -> Vec<Execution> {
+    let mut execution = Execution::new(purpose.on_before);
     let mut points = vec![execution];
     for &bytes in list.as_chunks().0 {
         execution.carry_out(u32::from_le_bytes(bytes));
@@ -91,13 +123,13 @@ fn points(effect: &Effect, list: &[u8]) -> Vec<Execution> {
     points
 }
 
-fn row(table: &Table, effect: &Effect, points: &[Execution], r: usize) -> Row {
+fn row(table: &Table, purpose: &Purpose, points: &[Execution], r: usize) -> Row {
     let holds = |set: u32| set >> r & 1 != 0;
     Row {
         resource: r,
         order: table.resource_order(r),
-        needed_before: holds(effect.needed_before),
-        needed_after: holds(effect.needed_after),
+        needed_before: holds(purpose.needed_before),
+        needed_after: holds(purpose.needed_after),
         on: points.iter().map(|point| holds(point.on())).collect(),
     }
 }
@@ -115,10 +147,11 @@ fn faults_of_words(table: &Table, steps: &[Step]) -> Vec<String> {
 }
 
 fn fault_of_call(table: &Table, call: Call) -> Option<String> {
-    let fault_of_device = |device| fault_of_number("device", device, table.device_count());
+    let fault_of_device =
+        |device: u8| numbered_beyond("device", device.into(), table.device_count());
     match call {
         Call::On { resource } | Call::Off { resource } => {
-            fault_of_number("resource", resource, table.resource_count())
+            numbered_beyond("resource", resource.into(), table.resource_count())
         }
         Call::SetState { device, method } => fault_of_device(device).or_else(|| {
             let exists = table.device(device.into()).has_set_state_method(method);
@@ -135,25 +168,18 @@ fn fault_of_method(device: u8, method: &str, exists: bool) -> Option<String> {
     (!exists).then(|| format!("is {method} of device {device}, which has no {method}"))
 }
 
-fn fault_of_number(noun: &str, number: u8, count: usize) -> Option<String> {
-    let has = match count {
-        0 => "none".into(),
-        _ => format!("{count}, numbered from 0"),
-    };
-    (usize::from(number) >= count)
-        .then(|| format!("names {noun} {number}, and the table has {has}"))
-}
-
 /// Resources that go off too early, and an own call that finds its needs off.
 fn faults_on_the_way(
-    effect: &Effect,
+    purpose: &Purpose,
     steps: &[Step],
     rows: &[Row],
     points: &[Execution],
 ) -> Vec<String> {
     let mut faults = Vec::new();
     for row in rows {
-        if let Some(point) = (0..points.len()).find(|&point| row.fails_at(point)) {
+        // In a bring-up it may be off at the start.
+        let goes_off = |&point: &usize| row.on[point - 1] && row.fails_at(point);
+        if let Some(point) = (1..points.len()).find(goes_off) {
             let r = row.resource;
             faults.push(format!(
                 "r{r} is off after call {point}, though it is needed before and after."
@@ -161,7 +187,7 @@ fn faults_on_the_way(
         }
     }
     for (i, step) in steps.iter().enumerate() {
-        let missing = effect.own_call_needs & !points[i].on();
+        let missing = purpose.own_call_needs & !points[i].on();
         if step.own && missing != 0 {
             faults.push(format!(
                 "Call {} is the device's own and finds off what it needs: {}.",
@@ -174,9 +200,9 @@ fn faults_on_the_way(
 }
 
 /// Resources that are not as needed, and bytes that are no word.
-fn faults_at_the_end(effect: &Effect, end: Execution, odd_bytes: usize) -> Vec<String> {
-    let off = words::names(numbers(effect.needed_after & !end.on()));
-    let on = words::names(end.on_but_not_in(effect.needed_after));
+fn faults_at_the_end(purpose: &Purpose, end: Execution, odd_bytes: usize) -> Vec<String> {
+    let off = words::names(numbers(purpose.needed_after & !end.on()));
+    let on = words::names(end.on_but_not_in(purpose.needed_after));
     let mut faults = Vec::new();
     for (names, what) in [(off, "off, though needed"), (on, "on, though not needed")] {
         if !names.is_empty() {

@@ -1,6 +1,7 @@
 //! Names of resources, states, calls and answers in texts.
 
 use std::fmt::Write;
+use std::str::FromStr;
 
 use reference::numbers;
 use sailgarnet::{calls, Answer, Call};
@@ -126,6 +127,22 @@ pub fn count(number: usize, noun: &str) -> String {
         1 => format!("1 {noun}"),
         _ => format!("{number} {noun}s"),
     }
+}
+
+/// The number that a word says in digits alone, without zeros before it.
+pub fn number<T: FromStr>(word: &str) -> Option<T> {
+    let digits = word.bytes().all(|byte| byte.is_ascii_digit());
+    let plain = digits && (word == "0" || !word.starts_with('0'));
+    word.parse().ok().filter(|_| plain)
+}
+
+/// That a table with so many resources or devices has none with this number.
+pub fn numbered_beyond(noun: &str, number: usize, count: usize) -> Option<String> {
+    let has = match count {
+        0 => "none".into(),
+        _ => format!("{count}, numbered from 0"),
+    };
+    (number >= count).then(|| format!("names {noun} {number}, and the table has {has}"))
 }
 
 /// How large a table is that the planner found good or wrote.

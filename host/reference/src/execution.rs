@@ -3,6 +3,7 @@
 use crate::call::Call;
 use crate::planner::{effect, Effect};
 use crate::request::Request;
+use crate::switching::words;
 use crate::table::numbers;
 
 /// What is on while a list is carried out: a set of resources that follows the
@@ -83,11 +84,7 @@ pub fn execution(on: u32, words: impl IntoIterator<Item = u32>) -> impl Iterator
 ///
 /// The error names the point that failed.
 pub fn demand3(table: &[u8], state: &[u8], request: Request, list: &[u8]) -> Result<(), String> {
-    let (words, rest) = list.as_chunks::<4>();
-    if !rest.is_empty() {
-        return Err(format!("the list ends with {} odd bytes", rest.len()));
-    }
-    let words = words.iter().map(|&word| u32::from_le_bytes(word));
+    let words = words(list).ok_or("the list ends within a call")?;
     check_demand3(table, state, request, words)
 }
 

@@ -4,24 +4,27 @@
 //! It shares no code with the proved planner. The two are compared input by
 //! input, and the time of this one is the measure for the time of the other.
 //!
-//! [`check_table`], [`fresh`], [`plan`], [`check`], [`write()`] and [`describe`]
-//! take byte buffers as the C functions do. [`plan_words`] and [`check_words`]
-//! take 32-bit words.
+//! [`check_table`], [`fresh`], [`plan`], [`check`], [`bring_up`],
+//! [`check_bring_up`], [`write()`] and [`describe`] take byte buffers as the C
+//! functions do. [`plan_words`] and [`check_words`] take 32-bit words.
 //! [`effect`] gives what a permitted request does, and [`demand3`] carries out
 //! a list that the checker passed.
 
 #![forbid(unsafe_code)]
 
 mod answer;
+mod bring_up;
 mod call;
 mod describe;
 mod execution;
 mod planner;
 mod request;
 mod state;
+mod switching;
 mod table;
 
 pub use answer::Answer;
+pub use bring_up::{bring_up, check_bring_up};
 pub use call::Call;
 pub use describe::{describe, write, DESCRIBED_DEVICE_BYTES, DESCRIBED_RESOURCE_BYTES};
 pub use execution::{demand3, demand3_words, execution, Execution};

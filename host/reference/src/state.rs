@@ -1,7 +1,7 @@
 //! The state image, read in place (answers 7 and 8).
 
 use crate::answer::Answer;
-use crate::table::Table;
+use crate::table::{Device, Table};
 
 /// The length of a state image.
 pub const STATE_BYTES: usize = 132;
@@ -43,7 +43,7 @@ impl Entry {
     }
 }
 
-/// A state that was found consistent for its table.
+/// A state that was found good for its table.
 #[derive(Clone, Copy)]
 pub struct State<'a> {
     /// One entry for each device of the table.
@@ -52,16 +52,39 @@ pub struct State<'a> {
 }
 
 impl<'a> State<'a> {
-    /// Reads a state, or refuses it with 7 or 8.
+    /// Reads a consistent state, or refuses it with 7 or 8.
     pub fn read(table: &Table, bytes: &'a [u8]) -> Result<Self, Answer> {
+        Self::read_where(table, bytes, |state, device, entry| {
+            state.is_consistent_but_for_power(table, device, entry)
+                && device.needs(entry) & !state.on == 0
+        })
+    }
+
+    /// Reads a state for bring-up, where needed resources may be off, or refuses
+    /// it with 7 or 8.
+    pub fn read_for_bring_up(table: &Table, bytes: &'a [u8]) -> Result<Self, Answer> {
+        Self::read_where(table, bytes, |state, device, entry| {
+            state.is_consistent_but_for_power(table, device, entry)
+        })
+    }
+
+    /// Reads a state of which every device is good, or refuses it with 7 or 8.
+    fn read_where(
+        table: &Table,
+        bytes: &'a [u8],
+        is_good: impl Fn(&Self, Device, Entry) -> bool,
+    ) -> Result<Self, Answer> {
         let state = Self::read_values(table, bytes).ok_or(Answer::refused(7, 0))?;
-        match (0..table.device_count()).find(|&d| !state.is_consistent(table, d)) {
+        let is_bad = |&d: &usize| !is_good(&state, table.device(d), state.entry(d));
+        match (0..table.device_count()).find(is_bad) {
             Some(d) => Err(Answer::refused(8, d as u64)),
             None => Ok(state),
         }
     }
 
-    fn read_values(table: &Table, bytes: &'a [u8]) -> Option<Self> {
+    /// Reads a state whose values are good, or gives `None`. Its devices need not be
+    /// consistent.
+    pub fn read_values(table: &Table, bytes: &'a [u8]) -> Option<Self> {
         let bytes: &[u8; STATE_BYTES] = bytes.try_into().ok()?;
         let (entries, on) = bytes.as_chunks::<4>().0.split_at(ON_SET / 4);
         let on = u32::from_le_bytes(on[0]);
@@ -72,9 +95,7 @@ impl<'a> State<'a> {
         good.then_some(Self { entries, on })
     }
 
-    fn is_consistent(&self, table: &Table, d: usize) -> bool {
-        let device = table.device(d);
-        let entry = self.entry(d);
+    fn is_consistent_but_for_power(&self, table: &Table, device: Device, entry: Entry) -> bool {
         device.supports(entry.state)
             && device
                 .parent()
@@ -82,7 +103,6 @@ impl<'a> State<'a> {
             && (!entry.armed
                 || entry.state <= entry.wake_d
                     && table.wake_pair(device, entry.wake_s, entry.wake_d).is_ok())
-            && device.needs(entry) & !self.on == 0
     }
 
     /// The entry of device `d`.
@@ -128,5 +148,10 @@ pub(crate) fn write_fresh(table: &Table, state: &mut [u8; STATE_BYTES]) {
 /// Writes the new entry of device `d` and the set of resources that are on.
 pub(crate) fn write_change(state: &mut [u8], d: usize, entry: Entry, on: u32) {
     state[4 * d..4 * d + 4].copy_from_slice(&entry.to_bytes());
+    write_on_set(state, on);
+}
+
+/// Writes the set of resources that are on.
+pub(crate) fn write_on_set(state: &mut [u8], on: u32) {
     state[ON_SET..STATE_BYTES].copy_from_slice(&on.to_le_bytes());
 }

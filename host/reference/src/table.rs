@@ -143,7 +143,7 @@ impl<'a> Table<'a> {
     }
 
     /// Whether (S, D) is a legal wake pair of `device`; if not, 16, 17 or 18.
-    pub(crate) fn wake_pair(&self, device: Device, s: u8, d: u8) -> Result<(), Answer> {
+    pub fn wake_pair(&self, device: Device, s: u8, d: u8) -> Result<(), Answer> {
         if !device.has_prw() || s > device.deepest_sleep() {
             return Err(Answer::refused(16, 0));
         }

@@ -3,7 +3,10 @@
 mod common;
 
 use common::{bench, state, table, Desk, Record, D0, D1, D2, D3COLD, D3HOT};
-use reference::{check, check_table, describe, fresh, plan, record, Answer, Request, PLAN_BYTES};
+use reference::{
+    bring_up, check, check_bring_up, check_table, describe, fresh, plan, record, Answer, Request,
+    PLAN_BYTES,
+};
 
 const CAMERA: u32 = 1;
 const LAMP: u32 = 2;
@@ -28,6 +31,8 @@ fn refuses_table(table: &[u8], number: u8, place: u64) {
     assert_eq!(fresh(table, &mut []), refusal);
     assert_eq!(plan(table, &mut [], Request::default(), &mut []), refusal);
     assert_eq!(check(table, &[], Request::default(), &[1]), refusal);
+    assert_eq!(bring_up(table, &mut [], &mut []), refusal);
+    assert_eq!(check_bring_up(table, &[], &[1]), refusal);
     assert_eq!(describe(table, &mut [], &mut []), refusal);
     assert!(record(table, 0).is_empty());
 }

@@ -446,7 +446,7 @@ fn demand3_names_the_point_that_fails() {
         "after 4 calls r200 is on",
     );
     let odd = demand3(&bytes, &state, request, &[3]).unwrap_err();
-    assert!(odd.contains("odd bytes"));
+    assert!(odd.contains("ends within a call"));
     let refused = demand3(&bytes, &state, Request::move_to(9, D0), &[]).unwrap_err();
     assert!(refused.contains("refused with 10"));
 }

@@ -18,6 +18,7 @@ const ROUNDS: usize = 400;
 #[derive(Clone, PartialEq)]
 struct Buffers {
     state: Vec<u8>,
+    reported: Vec<u8>,
     plan: Vec<u8>,
     written: Vec<u8>,
     described: Description,
@@ -30,9 +31,19 @@ type Run = fn(&Case, &mut Buffers) -> u64;
 /// the library's and the reference's.
 type Function = (&'static str, fn(&Workload) -> Option<u8>, [Run; 2]);
 
-const FUNCTIONS: [Function; 4] = [
+const FUNCTIONS: [Function; 6] = [
     ("plan", |w| w.planner, [library_plan, reference_plan]),
     ("check", |w| w.checker, [library_check, reference_check]),
+    (
+        "bring_up",
+        |w| w.bring_up,
+        [library_bring_up, reference_bring_up],
+    ),
+    (
+        "check_bring_up",
+        |w| w.bring_up_checker,
+        [library_check_bring_up, reference_check_bring_up],
+    ),
     ("write", |w| w.writer, [library_write, reference_write]),
     (
         "describe",
@@ -81,6 +92,7 @@ impl Row<'_> {
         let case = &self.workload.case;
         Buffers {
             state: case.state.clone(),
+            reported: case.reported.clone(),
             plan: case.plan.clone(),
             written: case.written.clone(),
             described: case.described.clone(),
@@ -181,6 +193,24 @@ fn library_check(case: &Case, buffers: &mut Buffers) -> u64 {
 
 fn reference_check(case: &Case, buffers: &mut Buffers) -> u64 {
     reference::check(&case.table, &buffers.state, case.request, &case.list).pack()
+}
+
+fn library_bring_up(case: &Case, buffers: &mut Buffers) -> u64 {
+    let Buffers { reported, plan, .. } = buffers;
+    sailgarnet::bring_up(&case.table, reported, plan).pack()
+}
+
+fn reference_bring_up(case: &Case, buffers: &mut Buffers) -> u64 {
+    let Buffers { reported, plan, .. } = buffers;
+    reference::bring_up(&case.table, reported, plan).pack()
+}
+
+fn library_check_bring_up(case: &Case, buffers: &mut Buffers) -> u64 {
+    sailgarnet::check_bring_up(&case.table, &buffers.reported, &case.bring_up_list).pack()
+}
+
+fn reference_check_bring_up(case: &Case, buffers: &mut Buffers) -> u64 {
+    reference::check_bring_up(&case.table, &buffers.reported, &case.bring_up_list).pack()
 }
 
 fn library_write(case: &Case, buffers: &mut Buffers) -> u64 {

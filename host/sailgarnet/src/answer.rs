@@ -211,11 +211,12 @@ impl Verdict {
             Verdict::Inconsistent => {
                 "the state is not consistent: this device is in a state it does not have, is \
                  shallower than its parent, is armed for a wake pair that is not legal or \
-                 shallower than its own state, or needs a resource that is off."
+                 shallower than its own state, or, except at bring-up, needs a resource that is \
+                 off."
             }
             Verdict::NoRoom => {
-                "a buffer is too short for what is to be written: for 33 calls whatever the \
-                 request, or for the whole table or list of records."
+                "a buffer is too short for what is to be written: for 33 calls, however few are \
+                 made, or for the whole table or list of records."
             }
             Verdict::BadRequest => {
                 "the kind, the device or a number of the request is out of range, or an unused \

@@ -1,16 +1,20 @@
 //! The proved planner for ACPI power resources, called from Rust.
 //!
-//! The planner is a static library with five C functions. This crate declares
-//! them and offers each as a safe function: `fresh`, `plan`, `check`, `write`
-//! and `describe`. They take the same byte buffers as the C functions and refuse
-//! a buffer of the wrong length by their answer, so no call can go wrong in
-//! another way.
+//! The planner is a static library with seven C functions. This crate declares
+//! them and offers each as a safe function: `fresh`, `plan`, `check`, `bring_up`,
+//! `check_bring_up`, `write` and `describe`. They take the same byte buffers as
+//! the C functions and refuse a buffer of the wrong length by their answer, so no
+//! call can go wrong in another way.
 //!
 //! A table says which resources and devices there are. A state, 132 bytes, says
 //! what is on and in which state each device is. A [`Request`] moves, arms or
 //! disarms one device. The planner gives the method calls that carry it out, a
 //! [`Call`] for each four bytes, and the new state; or it refuses. The [`Answer`]
 //! says which, and its [`Verdict`] has a sentence for each number.
+//!
+//! At power-on a state has the entries that the board kept and the resources that
+//! are on by then. `bring_up` gives the calls that make it consistent, as a request
+//! needs it.
 //!
 //! An editor of tables has them described, works on each [`Resource`] and
 //! [`Device`] and writes the table again.
@@ -29,7 +33,7 @@ pub use answer::{Answer, Place, Verdict};
 pub use call::{calls, Call};
 pub use description::{devices, resources, Device, Resource, NONE};
 #[cfg(feature = "link")]
-pub use library::{check, describe, fresh, plan, write};
+pub use library::{bring_up, check, check_bring_up, describe, fresh, plan, write};
 pub use request::Request;
 
 /// The length of a state.

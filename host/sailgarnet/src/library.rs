@@ -37,6 +37,24 @@ mod c {
             list_len: usize,
         ) -> u64;
 
+        pub fn sailgarnet_bring_up(
+            table: *const u8,
+            table_len: usize,
+            state: *mut u8,
+            state_len: usize,
+            plan: *mut u8,
+            plan_len: usize,
+        ) -> u64;
+
+        pub fn sailgarnet_check_bring_up(
+            table: *const u8,
+            table_len: usize,
+            state: *const u8,
+            state_len: usize,
+            list: *const u8,
+            list_len: usize,
+        ) -> u64;
+
         pub fn sailgarnet_write(
             version: u32,
             resources: *const u8,
@@ -150,6 +168,82 @@ pub fn check(table: &[u8], state: &[u8], request: Request, list: &[u8]) -> Answe
             device,
             a,
             b,
+            list.as_ptr(),
+            list.len(),
+        )
+    };
+    Answer::unpack(packed)
+}
+
+/// Plans the switching at power-on: `state` has the entries that the board kept
+/// and the resources that are on as `_STA` reports them. The calls go to the first
+/// bytes of `plan`, four a call: `_ON` of what is needed and off, then `_OFF` of
+/// what is on and not needed. The state keeps its entries, and exactly what they
+/// need is on in it afterwards.
+///
+/// Gives 0 and the number of calls, or a refusal, which writes nothing: 1 to 7 as
+/// for a request; 8 for the lowest device that is in a state which it does not
+/// have, shallower than its parent, armed for a wake pair that is not legal, or
+/// deeper than its wake state, whatever is on; 9 if `plan` has less than 132 bytes.
+///
+/// ```
+/// use sailgarnet::{bring_up, check_bring_up, Verdict, PLAN_BYTES, STATE_BYTES};
+///
+/// // Two resources, and a device that needs resource 0 in D0 and in D3hot.
+/// let mut table = vec![b'P', b'W', b'T', 2, 1, 0, 1, 0, 4, 0, 0, 0, 4, 0, 0, 0];
+/// table.extend([255, 0, 0b1, 0]);
+/// table.extend([0b1, 0, 0, 0]);
+/// table.extend([0; 16]);
+/// table.extend([255; 9]);
+/// table.extend([0; 7]);
+///
+/// // The device was in D0, and resource 1 alone is on.
+/// let mut reported = [0; STATE_BYTES];
+/// reported[128] = 0b10;
+/// let (mut state, mut buffer) = (reported, [0; PLAN_BYTES]);
+/// let answer = bring_up(&table, &mut state, &mut buffer);
+/// assert_eq!(answer.verdict(), Some(Verdict::Done));
+/// let list = &buffer[..answer.plan_length()];
+/// assert_eq!(list, [1, 0, 0, 0, 2, 1, 0, 0]);
+/// assert_eq!(state[128], 0b01);
+/// assert!(check_bring_up(&table, &reported, list).is_done());
+///
+/// // The device has no D3cold.
+/// state[0] = 4;
+/// let answer = bring_up(&table, &mut state, &mut buffer);
+/// assert_eq!(answer.verdict(), Some(Verdict::Inconsistent));
+/// ```
+#[inline]
+pub fn bring_up(table: &[u8], state: &mut [u8], plan: &mut [u8]) -> Answer {
+    // SAFETY: each pointer is valid for its length, and a mutable borrow
+    // overlaps no other.
+    let packed = unsafe {
+        c::sailgarnet_bring_up(
+            table.as_ptr(),
+            table.len(),
+            state.as_mut_ptr(),
+            state.len(),
+            plan.as_mut_ptr(),
+            plan.len(),
+        )
+    };
+    Answer::unpack(packed)
+}
+
+/// Says whether `list`, four bytes a call, conforms to the bring-up of `state`,
+/// which is the one before it. It writes nothing.
+///
+/// Gives 0, or a refusal: 1 to 8 as [`bring_up`] gives them, 19 if the list does
+/// not conform.
+#[inline]
+pub fn check_bring_up(table: &[u8], state: &[u8], list: &[u8]) -> Answer {
+    // SAFETY: each pointer is valid for its length, and nothing is written.
+    let packed = unsafe {
+        c::sailgarnet_check_bring_up(
+            table.as_ptr(),
+            table.len(),
+            state.as_ptr(),
+            state.len(),
             list.as_ptr(),
             list.len(),
         )

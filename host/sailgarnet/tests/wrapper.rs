@@ -2,8 +2,9 @@
 
 use cases::sweep::bench_station;
 use sailgarnet::{
-    calls, check, describe, devices, fresh, plan, resources, write, Answer, Call, Device, Request,
-    Resource, Verdict, MAX_TABLE_BYTES, NONE, PLAN_BYTES, STATE_BYTES,
+    bring_up, calls, check, check_bring_up, describe, devices, fresh, plan, resources, write,
+    Answer, Call, Device, Request, Resource, Verdict, MAX_TABLE_BYTES, NONE, PLAN_BYTES,
+    STATE_BYTES,
 };
 
 const CAMERA: u32 = 1;
@@ -77,6 +78,56 @@ fn lengths_are_refused_by_the_answer() {
     assert_eq!(no_room.verdict(), Some(Verdict::NoRoom));
     let odd_list = check(&table, &state, request, &[3, 1, 2]);
     assert_eq!(odd_list.verdict(), Some(Verdict::NotConforming));
+    let no_state = bring_up(&table, &mut [], &mut []);
+    assert_eq!(no_state.verdict(), Some(Verdict::BadState));
+    let no_room = bring_up(&table, &mut state, &mut [0; PLAN_BYTES - 1]);
+    assert_eq!(no_room.verdict(), Some(Verdict::NoRoom));
+    let odd_list = check_bring_up(&table, &state, &[3]);
+    assert_eq!(odd_list.verdict(), Some(Verdict::NotConforming));
+}
+
+/// The camera in D3hot and the lamp in D0 at power-on, with r2 alone on.
+#[test]
+fn a_reported_state_is_brought_up() {
+    let (table, mut state) = fresh_bench();
+    state[4] = 3;
+    state[128] = 0b100;
+    let reported = state;
+    let request = Request::move_to(LAMP, D3HOT);
+    let too_early = plan(&table, &mut state, request, &mut [0; PLAN_BYTES]);
+    assert_eq!((too_early.number, too_early.place), (8, 0));
+
+    let mut buffer = [0; PLAN_BYTES];
+    let answer = bring_up(&table, &mut state, &mut buffer);
+    assert_eq!(answer.verdict(), Some(Verdict::Done));
+    let list = &buffer[..answer.plan_length()];
+    let found: Vec<Call> = calls(list).map(|call| call.expect("a call")).collect();
+    assert_eq!(
+        found,
+        [
+            Call::On { resource: 0 },
+            Call::On { resource: 1 },
+            Call::Off { resource: 2 },
+        ]
+    );
+    assert!(check_bring_up(&table, &reported, list).is_done());
+    let shorter = check_bring_up(&table, &reported, &list[..8]);
+    assert_eq!(shorter.verdict(), Some(Verdict::NotConforming));
+    assert_eq!((&state[..128], state[128]), (&reported[..128], 0b011));
+    assert!(plan(&table, &mut state, request, &mut [0; PLAN_BYTES]).is_done());
+}
+
+#[test]
+fn a_state_that_cannot_be_brought_up_is_refused_at_its_place() {
+    let (table, mut state) = fresh_bench();
+    // The camera has no D1.
+    state[4] = 1;
+    let before = state;
+    let answer = bring_up(&table, &mut state, &mut [0; PLAN_BYTES]);
+    assert_eq!((answer.number, answer.place, answer.count), (8, 1, 0));
+    assert_eq!(state, before);
+    let answer = check_bring_up(&table, &state, &[]);
+    assert_eq!((answer.number, answer.place, answer.count), (8, 1, 0));
 }
 
 /// The lists of the bench station: three resources and three devices.

@@ -1,4 +1,4 @@
--- Each refusal is the first rule that is broken; otherwise the answer is that of the consistency check.
+-- A bad image is 7; otherwise the answer is that of the consistency check.
 use Rattle.status.proofs.Chains.{state-laws}
 use borrow.Author.Needs.{needs}
 use Rattle.status.proofs.check_state.Statement.{statement}
@@ -11,9 +11,5 @@ check-state-spec =
     (λ c κs. search needs)
     (λ c. search (needs, state-laws))
     (λ c κs. search (needs, state-laws))
-    (λ c. search (needs, state-laws))
-    (λ c κs. search needs)
-    (λ c κs. search (needs, state-laws))
-    (λ c. search (needs, state-laws))
     (λ c κs. search (needs, state-laws))
     (λ c. search (needs, state-laws)))

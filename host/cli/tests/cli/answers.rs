@@ -17,6 +17,9 @@ fn refuses_table(desk: &Desk, change: impl Fn(&mut Vec<u8>), number: u8, place: 
         "plan table state move 1 D2",
         "check table state move 1 D2 state",
         "trace table state move 1 D2",
+        "bring-up table state -o new",
+        "bring-up table state --on r0 -o new",
+        "check-bring-up table state state --on r31",
     ] {
         let text = desk.run(line).refused(number);
         assert!(text.contains(place), "{text}");
@@ -44,15 +47,25 @@ fn answers_7_and_8_are_for_states() {
         "check table state move 1 D2 table",
         "trace table state move 1 D2 table",
     ];
-    desk.write("state", &[0; 131]);
-    for line in lines {
-        let text = desk.run(line).refused(7);
-        assert!(text.contains("place 0: the state is"));
+    let bring_ups = [
+        "bring-up table state",
+        "bring-up table state --on r0",
+        "check-bring-up table state table",
+    ];
+    for length in [0, 131, 133] {
+        desk.write("state", &vec![0; length]);
+        for line in lines.iter().chain(&bring_ups) {
+            let text = desk.run(line).refused(7);
+            assert!(text.contains("place 0: the state is"));
+        }
     }
     desk.write("state", &[0; 132]);
     for line in lines {
-        let text = desk.run(line).refused(8);
-        assert!(text.contains("device 0: the state is not consistent"));
+        assert_eq!(
+            desk.run(line).refused(8),
+            "Answer 8, device 0: the state is not consistent: this device needs what is off: r0.\n\
+             sailgarnet bring-up would make this state consistent.\n"
+        );
     }
 }
 

@@ -25,9 +25,22 @@ fn an_empty_list_can_conform() {
 fn other_lists_are_refused_and_the_planners_is_shown() {
     let desk = Desk::with_dark_lamp("check_refused");
     let exchanged = [3, 1, 3, 0, 2, 2, 0, 0, 2, 1, 0, 0];
-    for list in [&exchanged, &CONFORMING[..8], &CONFORMING[..11], &[]] {
+    for (list, faults) in [
+        (&exchanged[..], ""),
+        (
+            &CONFORMING[..8],
+            "Fault: At the end on, though not needed: r2.\n",
+        ),
+        (
+            &CONFORMING[..11],
+            "Fault: At the end on, though not needed: r2.\n\
+             Fault: The list ends with 3 odd bytes; a call has four.\n",
+        ),
+        (&[], "Fault: At the end on, though not needed: r1 r2.\n"),
+    ] {
         desk.write("calls", list);
         let text = desk.run("check table state move 1 D3hot calls").refused(19);
+        assert!(text.contains(&format!(" in order.\n{faults}The planner's list")));
         assert!(text.contains("The planner's list has 3 calls:\n"));
         assert!(text.contains("   2  02 01 00 00  switch resource 1 off (_OFF)\n"));
     }

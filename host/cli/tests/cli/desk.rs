@@ -122,3 +122,18 @@ impl Run {
         assert!(self.error.contains(message), "{self:?}");
     }
 }
+
+/// Checks that every element of a drawing is closed.
+pub fn is_well_formed(drawing: &str) {
+    let mut open = Vec::new();
+    for part in drawing.split('<').skip(1) {
+        let (tag, _) = part.split_once('>').expect("a tag ends");
+        let name = tag.split_whitespace().next().expect("a tag has a name");
+        match name.strip_prefix('/') {
+            Some(name) => assert_eq!(open.pop(), Some(name)),
+            None if tag.ends_with('/') => {}
+            None => open.push(name),
+        }
+    }
+    assert_eq!(open, [""; 0]);
+}

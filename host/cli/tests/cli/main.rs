@@ -1,6 +1,7 @@
 //! The command run as a person runs it.
 
 mod answers;
+mod bring_up;
 mod check;
 mod demo;
 mod describe;

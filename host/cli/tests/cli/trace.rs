@@ -1,4 +1,4 @@
-use crate::desk::Desk;
+use crate::desk::{is_well_formed, Desk};
 
 /// The rows of the first grid in a text.
 fn grid(text: &str) -> Vec<Vec<&str>> {
@@ -160,21 +160,6 @@ fn a_long_list_is_traced_in_parts() {
     let titles = text.lines().filter(|line| line.starts_with("resource"));
     assert_eq!(titles.count(), 3);
     assert!(text.lines().all(|line| line.len() <= 120));
-}
-
-/// Checks that every element of a drawing is closed.
-fn is_well_formed(drawing: &str) {
-    let mut open = Vec::new();
-    for part in drawing.split('<').skip(1) {
-        let (tag, _) = part.split_once('>').expect("a tag ends");
-        let name = tag.split_whitespace().next().expect("a tag has a name");
-        match name.strip_prefix('/') {
-            Some(name) => assert_eq!(open.pop(), Some(name)),
-            None if tag.ends_with('/') => {}
-            None => open.push(name),
-        }
-    }
-    assert_eq!(open, [""; 0]);
 }
 
 #[test]

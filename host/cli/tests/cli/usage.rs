@@ -1,7 +1,16 @@
 use crate::desk::Desk;
 
-const SUBCOMMANDS: [&str; 8] = [
-    "show", "describe", "write", "fresh", "plan", "check", "trace", "demo",
+const SUBCOMMANDS: [&str; 10] = [
+    "show",
+    "describe",
+    "write",
+    "fresh",
+    "plan",
+    "check",
+    "trace",
+    "bring-up",
+    "check-bring-up",
+    "demo",
 ];
 
 #[test]

@@ -1,8 +1,17 @@
 //! One case on the library and on the reference.
 
-use cases::{inverse_holds, Case, Coverage, Description, Guarded};
+use cases::{inverse_holds, BringUp, Case, Coverage, Description, Guarded};
 use reference::{demand3, Answer};
 use sailgarnet::Request;
+
+/// The library's functions that bring-up is checked with.
+const LIBRARY: BringUp = BringUp {
+    bring_up: |table, state, plan| sailgarnet::bring_up(table, state, plan).pack(),
+    check_bring_up: |table, state, list| sailgarnet::check_bring_up(table, state, list).pack(),
+    check: |table, state, request, list| {
+        sailgarnet::check(table, state, library_request(request), list).pack()
+    },
+};
 
 /// The buffers of one case, between guard bytes.
 pub struct Lent {
@@ -11,6 +20,10 @@ pub struct Lent {
     plan: Guarded,
     list: Guarded,
     fresh: Guarded,
+    /// What bring-up and its checker are lent.
+    reported: Guarded,
+    bring_up_plan: Guarded,
+    bring_up_list: Guarded,
     /// What the writer reads.
     resources: Guarded,
     devices: Guarded,
@@ -30,6 +43,9 @@ impl Lent {
             plan: empty(),
             list: empty(),
             fresh: empty(),
+            reported: empty(),
+            bring_up_plan: empty(),
+            bring_up_list: empty(),
             resources: empty(),
             devices: empty(),
             written: empty(),
@@ -39,7 +55,7 @@ impl Lent {
     }
 
     fn set(&mut self, case: &Case) {
-        self.table.set(&case.table);
+        self.set_for_bring_up(case);
         self.state.set(&case.state);
         self.plan.set(&case.plan);
         self.list.set(&case.list);
@@ -51,6 +67,13 @@ impl Lent {
         self.described_devices.set(&case.described.devices);
     }
 
+    fn set_for_bring_up(&mut self, case: &Case) {
+        self.table.set(&case.table);
+        self.reported.set(&case.reported);
+        self.bring_up_plan.set(&case.plan);
+        self.bring_up_list.set(&case.bring_up_list);
+    }
+
     /// Runs both on a case, counts the answers, and says what differs or what
     /// does not hold.
     pub fn compare(&mut self, case: &Case, coverage: &mut Coverage) -> Result<(), String> {
@@ -60,17 +83,40 @@ impl Lent {
         let plan = self.compare_plan(case)?;
         let write = self.compare_write(case)?;
         let describe = self.compare_describe(case)?;
+        self.compare_both_of_bring_up(case, coverage)?;
         self.unwritten(case)?;
-        coverage.fresh.add(fresh.number);
-        coverage.checker.add(check.number);
-        coverage.planner.add(plan.number);
-        coverage.writer.add(write.number);
-        coverage.places.add(write);
-        coverage.describer.add(describe.number);
+        coverage.fresh.add(fresh);
+        coverage.checker.add(check);
+        coverage.planner.add(plan);
+        coverage.writer.add(write);
+        coverage.describer.add(describe);
         if plan.is_done() {
             self.check_own_list(case, 4 * usize::from(plan.count))?;
         }
         inverse_holds(case, library_write, library_describe)
+    }
+
+    /// As [`Self::compare`], for bring-up and its checker alone.
+    pub fn compare_bring_up_alone(
+        &mut self,
+        case: &Case,
+        coverage: &mut Coverage,
+    ) -> Result<(), String> {
+        self.set_for_bring_up(case);
+        self.compare_both_of_bring_up(case, coverage)?;
+        self.unwritten_by_bring_up(case)
+    }
+
+    fn compare_both_of_bring_up(
+        &mut self,
+        case: &Case,
+        coverage: &mut Coverage,
+    ) -> Result<(), String> {
+        let check = self.compare_check_bring_up(case)?;
+        let bring_up = self.compare_bring_up(case)?;
+        coverage.bring_up_checker.add(check);
+        coverage.bring_up.add(bring_up);
+        LIBRARY.holds(case)
     }
 
     fn compare_fresh(&mut self, case: &Case) -> Result<Answer, String> {
@@ -85,7 +131,7 @@ impl Lent {
     /// A list that passes is carried out as well.
     fn compare_check(&mut self, case: &Case) -> Result<Answer, String> {
         let (table, state, list) = (self.table.lent(), self.state.lent(), self.list.lent());
-        let answer = sailgarnet::check(table, state, library_request(case), list);
+        let answer = sailgarnet::check(table, state, library_request(case.request), list);
         let expected = reference::check(&case.table, &case.state, case.request, &case.list);
         equal_answers("check", answer, expected)?;
         equal_bytes("the state after check", state, &case.state)?;
@@ -97,12 +143,33 @@ impl Lent {
 
     fn compare_plan(&mut self, case: &Case) -> Result<Answer, String> {
         let (state, plan) = (self.state.lent_mut(), self.plan.lent_mut());
-        let answer = sailgarnet::plan(self.table.lent(), state, library_request(case), plan);
+        let request = library_request(case.request);
+        let answer = sailgarnet::plan(self.table.lent(), state, request, plan);
         let (mut state, mut plan) = (case.state.clone(), case.plan.clone());
         let expected = reference::plan(&case.table, &mut state, case.request, &mut plan);
         equal_answers("plan", answer, expected)?;
         equal_bytes("the state after plan", self.state.lent(), &state)?;
         equal_bytes("the plan", self.plan.lent(), &plan)?;
+        Ok(expected)
+    }
+
+    fn compare_check_bring_up(&mut self, case: &Case) -> Result<Answer, String> {
+        let (table, state) = (self.table.lent(), self.reported.lent());
+        let answer = sailgarnet::check_bring_up(table, state, self.bring_up_list.lent());
+        let expected = reference::check_bring_up(&case.table, &case.reported, &case.bring_up_list);
+        equal_answers("check_bring_up", answer, expected)?;
+        equal_bytes("the state after check_bring_up", state, &case.reported)?;
+        Ok(expected)
+    }
+
+    fn compare_bring_up(&mut self, case: &Case) -> Result<Answer, String> {
+        let (state, plan) = (self.reported.lent_mut(), self.bring_up_plan.lent_mut());
+        let answer = sailgarnet::bring_up(self.table.lent(), state, plan);
+        let (mut state, mut plan) = (case.reported.clone(), case.plan.clone());
+        let expected = reference::bring_up(&case.table, &mut state, &mut plan);
+        equal_answers("bring_up", answer, expected)?;
+        equal_bytes("the state after bring_up", self.reported.lent(), &state)?;
+        equal_bytes("the plan of bring_up", self.bring_up_plan.lent(), &plan)?;
         Ok(expected)
     }
 
@@ -134,20 +201,20 @@ impl Lent {
     /// The planner's own list passes from the state that was lent to the planner.
     fn check_own_list(&self, case: &Case, length: usize) -> Result<(), String> {
         let list = &self.plan.lent()[..length];
-        let answer = sailgarnet::check(&case.table, &case.state, library_request(case), list);
+        let request = library_request(case.request);
+        let answer = sailgarnet::check(&case.table, &case.state, request, list);
         equal_answers("check of the own list", answer, Answer::done(0))?;
         demand3(&case.table, &case.state, case.request, list)
     }
 
     /// What no function may write is as it was.
     fn unwritten(&self, case: &Case) -> Result<(), String> {
-        equal_bytes("the table", self.table.lent(), &case.table)?;
+        self.unwritten_by_bring_up(case)?;
         equal_bytes("the list", self.list.lent(), &case.list)?;
         let Description { resources, devices } = &case.description;
         equal_bytes("the list of resources", self.resources.lent(), resources)?;
         equal_bytes("the list of devices", self.devices.lent(), devices)?;
-        for (name, guarded) in [
-            ("the table", &self.table),
+        all_intact(&[
             ("the state", &self.state),
             ("the plan", &self.plan),
             ("the list", &self.list),
@@ -157,12 +224,27 @@ impl Lent {
             ("the table written", &self.written),
             ("the resources described", &self.described_resources),
             ("the devices described", &self.described_devices),
-        ] {
-            if !guarded.is_intact() {
-                return Err(format!("a byte beside {name} was written"));
-            }
-        }
-        Ok(())
+        ])
+    }
+
+    fn unwritten_by_bring_up(&self, case: &Case) -> Result<(), String> {
+        equal_bytes("the table", self.table.lent(), &case.table)?;
+        let list = self.bring_up_list.lent();
+        equal_bytes("the list of bring-up", list, &case.bring_up_list)?;
+        all_intact(&[
+            ("the table", &self.table),
+            ("the reported state", &self.reported),
+            ("the plan of bring_up", &self.bring_up_plan),
+            ("the list of bring-up", &self.bring_up_list),
+        ])
+    }
+}
+
+/// No byte was written beside these buffers.
+fn all_intact(buffers: &[(&str, &Guarded)]) -> Result<(), String> {
+    match buffers.iter().find(|(_, guarded)| !guarded.is_intact()) {
+        Some((name, _)) => Err(format!("a byte beside {name} was written")),
+        None => Ok(()),
     }
 }
 
@@ -189,7 +271,7 @@ fn library_describe(table: &[u8], lists: &mut Description) -> u64 {
     sailgarnet::describe(table, &mut lists.resources, &mut lists.devices).pack()
 }
 
-fn library_request(case: &Case) -> Request {
-    let reference::Request { kind, device, a, b } = case.request;
+fn library_request(request: reference::Request) -> Request {
+    let reference::Request { kind, device, a, b } = request;
     Request { kind, device, a, b }
 }

@@ -1,7 +1,7 @@
 //! Descriptions gone through completely: versions, numbers of records, lengths,
 //! rooms and fields, on the bench station and on the largest one.
 
-use cases::{filled_station, sweep, Case, Description, Record, Station, VERSIONS};
+use cases::{filled_station, sweep, Case, Description, Record, Station, VERSIONS, WRITER_PLACES};
 
 use super::{Comparison, Part};
 
@@ -122,7 +122,8 @@ fn each_field_of_the_largest_description_agrees() {
         sweep::each_wild_byte(&good, &mut run);
         sweep::each_bit(&good, &mut run);
     }
-    comparison.coverage.places.must_be_whole();
+    let writer = &comparison.coverage.writer;
+    writer.must_reach_places("writer", WRITER_PLACES);
     comparison.report("each byte with several values, each bit, largest description");
 }
 

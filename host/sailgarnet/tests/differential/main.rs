@@ -1,10 +1,12 @@
 //! The library against the reference: the same answer and the same bytes on
 //! every input, no byte changed outside the lent buffers, every list that passes
-//! carried out, and every table that is written described back.
+//! carried out, every state that is brought up accepted by a request, and every
+//! table that is written described back.
 //!
 //! `SAILGARNET_SECONDS` sets how long the random cases run, else
 //! `SAILGARNET_CASES` how many there are. `SAILGARNET_SEED` sets their seed.
 
+mod bring_up;
 mod compare;
 mod descriptions;
 
@@ -17,8 +19,8 @@ use reference::Request;
 
 const CASES: u64 = 300_000;
 const SEED: u64 = 1;
-/// From so many cases on, every answer must have been given.
-const ENOUGH: u64 = 100_000;
+/// From so many cases on, every answer must have been given, some at every place.
+const ENOUGH: u64 = 200_000;
 
 fn number_from(variable: &str) -> Option<u64> {
     let text = env::var(variable).ok()?;
@@ -42,7 +44,23 @@ impl Comparison {
     }
 
     fn run(&mut self, case: &Case, input: impl FnOnce(u64) -> String) {
-        if let Err(what) = self.lent.compare(case, &mut self.coverage) {
+        let result = self.lent.compare(case, &mut self.coverage);
+        self.count(case, input, result);
+    }
+
+    /// Runs bring-up and its checker alone.
+    fn run_bring_up(&mut self, case: &Case, input: impl FnOnce(u64) -> String) {
+        let result = self.lent.compare_bring_up_alone(case, &mut self.coverage);
+        self.count(case, input, result);
+    }
+
+    fn count(
+        &mut self,
+        case: &Case,
+        input: impl FnOnce(u64) -> String,
+        result: Result<(), String>,
+    ) {
+        if let Err(what) = result {
             panic!("{}: {what}\n{case:?}", input(self.cases));
         }
         self.cases += 1;
@@ -84,17 +102,17 @@ fn random_cases_agree() {
     }
 }
 
-/// The bench station with the camera in D3hot and armed, about to go to D0.
+/// The bench station with the camera in D3hot and armed, about to go to D0; or
+/// to be brought up with r1 alone on.
 fn bench_case() -> Case {
-    let mut state = vec![0; 132];
-    state[4..8].copy_from_slice(&[3, 1, 3, 3]);
-    state[8] = 4;
-    state[128] = 0b101;
+    let entries = [[0; 4], [3, 1, 3, 3], [4, 0, 0, 0]];
     Case {
-        state,
+        state: sweep::image(&entries, 0b101),
         request: Request::move_to(1, 0),
         plan: vec![0x5a; 132],
         list: vec![1, 1, 0, 0, 3, 1, 0, 0],
+        reported: sweep::image(&entries, 0b010),
+        bring_up_list: vec![1, 2, 0, 0, 1, 0, 0, 0, 2, 1, 0, 0],
         fresh: vec![0x5a; 132],
         ..Case::of_station(&sweep::bench_station())
     }
@@ -104,6 +122,8 @@ fn bench_case() -> Case {
 fn the_bench_case_is_accepted() {
     let mut case = bench_case();
     let answer = reference::check(&case.table, &case.state, case.request, &case.list);
+    assert!(answer.is_done());
+    let answer = reference::check_bring_up(&case.table, &case.reported, &case.bring_up_list);
     assert!(answer.is_done());
     let Description { resources, devices } = &case.description;
     let answer = reference::write(1, resources, devices, &mut case.written);
@@ -115,12 +135,14 @@ fn the_bench_case_is_accepted() {
 /// A buffer of a case.
 type Part = fn(&mut Case) -> &mut Vec<u8>;
 
-const PARTS: [Part; 10] = [
+const PARTS: [Part; 12] = [
     |case| &mut case.table,
     |case| &mut case.state,
     |case| &mut case.list,
     |case| &mut case.plan,
     |case| &mut case.fresh,
+    |case| &mut case.reported,
+    |case| &mut case.bring_up_list,
     |case| &mut case.description.resources,
     |case| &mut case.description.devices,
     |case| &mut case.written,
@@ -141,6 +163,7 @@ fn each_byte_and_each_length_agree() {
         };
         sweep::each_byte(&good, &mut run);
         sweep::each_length(&good, 48, &mut run);
+        sweep::each_wide_length(&good, &mut run);
     }
     comparison.report("each byte and each length of each buffer, bench station");
 }
@@ -161,6 +184,7 @@ fn each_bit_and_each_length_of_a_workload_agree() {
             };
             sweep::each_bit(&good, &mut run);
             sweep::each_length(&good, 8, &mut run);
+            sweep::each_wide_length(&good, &mut run);
             run(&good);
         }
     }
@@ -171,10 +195,7 @@ fn each_bit_and_each_length_of_a_workload_agree() {
 #[test]
 fn each_request_and_each_list_agree() {
     let mut comparison = Comparison::new();
-    for workload in workloads() {
-        if workload.planner != Some(0) {
-            continue;
-        }
+    for workload in workloads().into_iter().filter(|w| w.planner == Some(0)) {
         let mut case = workload.case;
         let list = case.list.clone();
         sweep::each_list(&list, |list| {

@@ -11,5 +11,5 @@ returns : tie.Need-returns
 returns c = cc
 
 pub list-spec : {M : Type 1} → statement M
-list-spec = tie.close (tie.spec (λ c. search needs) (λ c κs. search needs) (λ c κs. search needs) (λ c. search needs) slice-aggregate-check
-    (λ c κs. search needs) returns)
+list-spec = tie.close (tie.spec (λ c. search needs) (λ c κs. search needs) (λ c. search needs) slice-aggregate-check (λ c κs. search needs)
+    returns)

@@ -9,7 +9,7 @@ use Rattle.bench.proofs.script.fill.Statement.{statement}
 use Rattle.bench.proofs.script.fill.Tie as tie
 
 abbrev Inv-loop : tie.InvT-loop
-Inv-loop bytes₀ at line from period n i₀ bytes i = (i ≤ n) × (length bytes ≡ 1782) × (bytes ≡ filled bytes₀ at line from period i)
+Inv-loop bytes₀ at line from period n i₀ bytes i = (i ≤ n) × (length bytes ≡ length bytes₀) × (bytes ≡ filled bytes₀ at line from period i)
 
 abbrev μ-loop : tie.MeasureT-loop
 μ-loop bytes₀ at line from period n i₀ bytes i = n - i

@@ -1,6 +1,7 @@
 -- A refusal leaves state and plan; otherwise the calls and the state of the request are written.
 use Rattle.request.proofs.Changes.{permitted-by}
-use Rattle.planner.proofs.Whole.{parts, words-demand, room-there, words-refused, words-planned}
+use Rattle.switching.proofs.Answered.{parts}
+use Rattle.planner.proofs.Whole.{words-demand, room-there, words-refused, words-planned}
 use borrow.Author.Needs.{needs}
 use Rattle.planner.proofs.plan.plan_words.Statement.{statement}
 use Rattle.planner.proofs.plan.plan_words.Tie as tie

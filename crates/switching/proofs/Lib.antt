@@ -1,0 +1,6 @@
+pub mod Made
+pub mod Answered
+pub mod Run
+pub mod Switched
+pub mod Phase
+pub mod Walks

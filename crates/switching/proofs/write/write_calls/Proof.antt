@@ -1,0 +1,18 @@
+-- Two runs, the own call last or first; together they have at most R + 1 words.
+use Rattle.switching.proofs.Run.{plan-runs}
+use borrow.Author.Needs.{needs}
+use Rattle.switching.proofs.write.write_calls.Statement.{statement}
+use Rattle.switching.proofs.write.write_calls.Tie as tie
+
+pub write-calls-spec : {M : Type 1} → statement M
+write-calls-spec =
+    tie.close
+    (tie.spec
+    (λ c κs. search (needs, plan-runs))
+    (λ c κs. search (needs, plan-runs))
+    (λ c. search needs)
+    (λ c. search (needs, plan-runs))
+    (λ c κs. search (needs, plan-runs))
+    (λ c κs. search (needs, plan-runs))
+    (λ c. search needs)
+    (λ c. search (needs, plan-runs)))

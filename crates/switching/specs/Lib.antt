@@ -1,0 +1,4 @@
+pub mod Switching
+pub mod Written
+pub mod Decode
+pub mod Phases

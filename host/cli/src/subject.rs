@@ -1,0 +1,215 @@
+//! What plans, checks and traces are made for: a request, or the bring-up.
+
+use std::ffi::{OsStr, OsString};
+use std::fmt;
+use std::path::Path;
+
+use reference::{State, Table};
+use sailgarnet::{Answer, Request, Verdict, PLAN_BYTES};
+
+use crate::args::{Args, ON};
+use crate::commands::usage;
+use crate::help::Help;
+use crate::trace::{Purpose, Trace};
+use crate::{backend, consistency, files, request, resources, words, Failure, Report};
+
+/// What a list of calls is for.
+#[derive(Clone, Copy)]
+pub enum Task {
+    /// A request about one device.
+    Request(Request),
+    /// The bring-up of a state.
+    BringUp,
+}
+
+impl Task {
+    /// Reads the request if the subcommand has one, and gives the operands after it.
+    fn parse<'a>(help: &Help, operands: &'a [OsString]) -> Result<(Self, &'a [OsString]), String> {
+        if !help.takes_request() {
+            return Ok((Task::BringUp, operands));
+        }
+        let (request, rest) = request::parse(operands)?;
+        Ok((Task::Request(request), rest))
+    }
+
+    /// The line above a plan or a trace.
+    pub fn heading(self) -> String {
+        match self {
+            Task::Request(request) => format!("Request: {request}"),
+            Task::BringUp => "Bring-up".into(),
+        }
+    }
+
+    /// What it is, in a word.
+    pub fn noun(self) -> &'static str {
+        match self {
+            Task::Request(_) => "request",
+            Task::BringUp => "bring-up",
+        }
+    }
+}
+
+impl fmt::Display for Task {
+    fn fmt(&self, f: &mut fmt::Formatter) -> fmt::Result {
+        match self {
+            Task::Request(request) => request.fmt(f),
+            Task::BringUp => f.write_str(self.noun()),
+        }
+    }
+}
+
+/// A task, and the table and state that it is for.
+pub struct Subject<'a> {
+    /// The file of the table.
+    pub table_path: &'a Path,
+    /// The file of the state.
+    pub state_path: &'a Path,
+    /// The task.
+    pub task: Task,
+    table: Vec<u8>,
+    state: Vec<u8>,
+}
+
+impl<'a> Subject<'a> {
+    /// Reads the table, the state and the task, and gives the operands after them.
+    pub fn read(help: &Help, args: &'a Args) -> Result<(Self, &'a [OsString]), Failure> {
+        let [table, state, rest @ ..] = args.operands.as_slice() else {
+            let expected = match help.takes_request() {
+                true => "TABLE, STATE and REQUEST are expected",
+                false => "TABLE and STATE are expected",
+            };
+            return Err(usage(help, expected));
+        };
+        let wrong = |message: String| usage(help, &message);
+        let (task, rest) = Task::parse(help, rest).map_err(wrong)?;
+        let (table_path, state_path) = (Path::new(table), Path::new(state));
+        let mut subject = Self {
+            table_path,
+            state_path,
+            task,
+            table: files::read(table_path)?,
+            state: files::read(state_path)?,
+        };
+        if let Some(on) = args.value(ON) {
+            subject.set_on(on).map_err(wrong)?;
+        }
+        Ok((subject, rest))
+    }
+
+    /// Replaces the on-set of the state by the resources that are named.
+    fn set_on(&mut self, names: &OsStr) -> Result<(), String> {
+        let on = resources::parse(&names.to_string_lossy())?;
+        // A table or a state that cannot be read is left to the planner's answer.
+        let (Ok(table), Some(bytes)) = (Table::read(&self.table), self.state.last_chunk_mut())
+        else {
+            return Ok(());
+        };
+        resources::must_be_in(&table, on).map_err(|fault| format!("{ON} {fault}"))?;
+        *bytes = on.to_le_bytes();
+        Ok(())
+    }
+
+    /// What is on as it was reported, as a line of a bring-up.
+    pub fn on_at_the_start(&self) -> String {
+        match self.task {
+            Task::Request(_) => String::new(),
+            Task::BringUp => {
+                let on = words::resources(words::on_set(&self.state));
+                format!("On at the start: {on}\n")
+            }
+        }
+    }
+
+    /// Plans the task: the answer, the list and the new state.
+    pub fn plan(&self) -> (Answer, Vec<u8>, Vec<u8>) {
+        self.plan_task(self.task)
+    }
+
+    fn plan_task(&self, task: Task) -> (Answer, Vec<u8>, Vec<u8>) {
+        let (table, mut state) = (&self.table, self.state.clone());
+        let mut list = vec![0; PLAN_BYTES];
+        let answer = match task {
+            Task::Request(request) => backend::plan(table, &mut state, request, &mut list),
+            Task::BringUp => backend::bring_up(table, &mut state, &mut list),
+        };
+        list.truncate(answer.plan_length());
+        (answer, list, state)
+    }
+
+    /// The checker's answer to a list.
+    pub fn check(&self, list: &[u8]) -> Answer {
+        let Self { table, state, .. } = self;
+        match self.task {
+            Task::Request(request) => backend::check(table, state, request, list),
+            Task::BringUp => backend::check_bring_up(table, state, list),
+        }
+    }
+
+    /// The list of a file with the checker's answer, or the planner's own.
+    pub fn answered_list(&self, path: Option<&Path>) -> Result<(Answer, Vec<u8>), Failure> {
+        let Some(path) = path else {
+            let (answer, list, _) = self.plan();
+            return Ok((answer, list));
+        };
+        let list = files::read(path)?;
+        Ok((self.check(&list), list))
+    }
+
+    /// The execution of a list, or the reference's refusal of the task.
+    pub fn trace(&self, list: &[u8]) -> Result<Trace, reference::Answer> {
+        let table = Table::read(&self.table)?;
+        let purpose = match self.task {
+            Task::Request(request) => {
+                let request = backend::reference_request(request);
+                Purpose::of_request(&reference::effect(&self.table, &self.state, request)?)
+            }
+            Task::BringUp => {
+                let state = State::read_for_bring_up(&table, &self.state)?;
+                Purpose::of_bring_up(state.on(), state.needed(&table))
+            }
+        };
+        Ok(Trace::new(&table, &purpose, list))
+    }
+
+    /// The planner's list, if another one was found not to conform.
+    pub fn planned_instead(&self, answer: Answer) -> String {
+        if answer.verdict() != Some(Verdict::NotConforming) {
+            return String::new();
+        }
+        let (_, list, _) = self.plan();
+        format!("The planner's list has {}", words::call_lines(&list))
+    }
+
+    /// The refusal of the task. For a device that is not consistent it says why.
+    pub fn refusal(&self, answer: Answer) -> Report {
+        let (why, remedy) = match answer.verdict() {
+            Some(Verdict::Inconsistent) => {
+                let device = answer.place as usize;
+                (self.inconsistency(device), self.remedy())
+            }
+            _ => (None, ""),
+        };
+        Report::refused(words::answer_line_with(answer, why.as_deref()) + remedy)
+    }
+
+    /// Why this device is not consistent. That a resource is off is no reason to
+    /// refuse a bring-up.
+    fn inconsistency(&self, device: usize) -> Option<String> {
+        let table = Table::read(&self.table).ok()?;
+        let state = State::read_values(&table, &self.state)?;
+        let mut reasons = consistency::reasons(&table, &state, device);
+        if let Task::Request(_) = self.task {
+            reasons.extend(consistency::missing(&table, &state, device));
+        }
+        consistency::sentence(&reasons)
+    }
+
+    /// What makes the state consistent, if only resources are off in it.
+    fn remedy(&self) -> &'static str {
+        let (answer, ..) = self.plan_task(Task::BringUp);
+        match answer.is_done() {
+            true => "sailgarnet bring-up would make this state consistent.\n",
+            false => "",
+        }
+    }
+}
