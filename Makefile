@@ -53,7 +53,7 @@ uninstall:
 	rm -f '$(INSTALLED)/lib/pkgconfig/sailgarnet.pc'
 
 bench:
-	@cargo run $(HOST) --release -p sailgarnet --example benchmark
+	@python3 tests/times.py
 
 instructions:
 	@cargo build $(HOST) --release -p sailgarnet --example benchmark

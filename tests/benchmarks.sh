@@ -48,12 +48,13 @@ the devices that is one byte too short for the describer. The inputs are in \`ho
 
 $(cat target/bench.md)
 
-Neither side has a hint on what to inline. Requests with 25 calls have the highest ratios of the full table: the planner sorts 24 keys by insertion, with a
-branch for each key that the processor cannot foresee, and the checker looks at each word. On the bench station the table
-is small, and the call itself, the state, the change by value and the decoding of each word weigh more. There a value that
-is stored in parts and read as one soon after shows in the time and not in the instructions: the read waits until the
-parts have been stored. Where a list of words or a slice was handed on so, it is handed on so no longer; the own call in
-a change, two bytes, still is.
+Neither side has a hint on what to inline. Of the requests on the full table those with 25 calls have the highest ratios:
+the planner sorts 24 keys by insertion, with a branch for each key that the processor cannot foresee, and the checker
+looks at each word. Bring-up of 32 armed devices is above them, since it works out what each device needs twice, once for
+answer 8. On the bench station the table is small, and the call itself, the state, the change by value and the decoding of
+each word weigh more. There a value that is stored in parts and read as one soon after shows in the time and not in the
+instructions: the read waits until the parts have been stored. Where a list of words or a slice was handed on so, it is
+handed on so no longer; the own call in a change, two bytes, still is.
 
 ## Instructions
 

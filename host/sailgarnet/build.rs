@@ -8,10 +8,15 @@ const DIRECTORY_VARIABLE: &str = "SAILGARNET_LIB_DIR";
 /// Where the repository builds the library, seen from this crate.
 const USUAL_DIRECTORY: &str = "../../target/staticlib";
 const LIBRARY: &str = "libsailgarnet.a";
+/// By how many bytes the benchmark moves its code.
+const SHIFT_VARIABLE: &str = "SAILGARNET_SHIFT";
 
 fn main() {
     println!("cargo::rerun-if-env-changed={DIRECTORY_VARIABLE}");
+    println!("cargo::rerun-if-env-changed={SHIFT_VARIABLE}");
     println!("cargo::rerun-if-changed=build.rs");
+    let shift = env::var(SHIFT_VARIABLE).unwrap_or_else(|_| "0".to_string());
+    println!("cargo::rustc-env={SHIFT_VARIABLE}={shift}");
     if env::var_os("CARGO_FEATURE_LINK").is_some() {
         link();
     }

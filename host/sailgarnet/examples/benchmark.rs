@@ -1,13 +1,27 @@
 //! Measures the library against the reference on the inputs of `cases::workloads`.
 //!
-//! Without operands it times both and prints a table (`make bench`). With
-//! `instructions` it makes each call twice and prints what it called, for a
-//! program that counts instructions (`make instructions`).
+//! With `times` it times both and prints a line a row, for a program that makes
+//! a table of them (`make bench`). With `instructions` it makes each call twice
+//! and prints what it called, for a program that counts instructions
+//! (`make instructions`).
 
+use std::arch::global_asm;
 use std::hint::black_box;
 use std::time::Instant;
 
 use cases::{workloads, Case, Description, Workload};
+
+// Moves the code after it by so many bytes. Where code lies changes the time of
+// a short call, on either side, so it is timed at several places.
+global_asm!(concat!(
+    ".text\n.p2align 6\n.globl shift\nshift: .space ",
+    env!("SAILGARNET_SHIFT"),
+    "\n"
+));
+
+extern "C" {
+    fn shift();
+}
 
 /// So many calls are timed at once, each with buffers of its own. All of them
 /// stay in the cache, and they are reset between two rounds, outside the time.
@@ -62,13 +76,15 @@ struct Row<'a> {
 }
 
 fn main() {
+    // else the linker leaves it out
+    black_box(shift as unsafe extern "C" fn());
     let workloads = workloads();
     let rows = rows(&workloads);
     rows.iter().for_each(must_agree);
     match std::env::args().nth(1).as_deref() {
-        None => print_times(&rows),
+        Some("times") => print_times(&rows),
         Some("instructions") => call_each_twice(&rows),
-        Some(other) => panic!("unknown operand {other}"),
+        other => panic!("times or instructions, not {other:?}"),
     }
 }
 
@@ -115,20 +131,17 @@ fn must_agree(row: &Row) {
 }
 
 fn print_times(rows: &[Row]) {
-    println!(
-        "Nanoseconds a call, of the fastest of {ROUNDS} rounds of {BUFFERS} calls. Both take turns in one \
-         run.\nAll buffers are in the cache; what is written to is reset before each round, outside the time.\n"
-    );
-    println!("| function | input | answer | Sailgarnet ns | reference ns | ratio |");
-    println!("|---|---|---|---|---|---|");
     for row in rows {
         let [library, reference] = times(row);
+        let Row {
+            function,
+            workload,
+            number,
+            ..
+        } = row;
         println!(
-            "| {} | {} | {} | {library:.0} | {reference:.0} | {:.2} |",
-            row.function,
-            row.workload.name,
-            row.number,
-            library / reference
+            "{function}|{}|{number}|{library:.3}|{reference:.3}",
+            workload.name
         );
     }
 }
