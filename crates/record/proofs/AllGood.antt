@@ -93,6 +93,17 @@ module _ (v : Device) where
   states-test w a b c d p q r s x y z =
       rw (sym p ∙ not-false a x, sym q ∙ not-false b y, sym r ∙ not-false c z, ← s) (sym (and-true d))
 
+  sxd-none : (x s : ℕ) → s ≡ v .sxd x → s ≡ 255 → sxdGood v x ≡ true
+  unfolding sxdGood
+  sxd-none x s e n = rw (← e, n) refl
+
+  -- four bytes as one number, the largest: each is 255
+  pub none-test : (w a b c d : ℕ) → a ≡ v .sxd 1 → b ≡ v .sxd 2 → c ≡ v .sxd 3 → d ≡ v .sxd 4 → a < 256 → b < 256 → c < 256 → d < 256
+      → a + 256 * b + 65536 * c + 16777216 * d ≡ 4294967295 → true ≡ allGood (sxdFields w v)
+  unfolding sxdFields allGood eachFrom
+  none-test w a b c d p q r s h i j k e =
+      rw (sxd-none 1 a p (omega arith), sxd-none 2 b q (omega arith), sxd-none 3 c r (omega arith), sxd-none 4 d s (omega arith)) refl
+
   -- ---- no bit at or above R
   pub fit-test : (resources a b c d e : ℕ) (f : Bool) → a ≡ v .sets 0 → b ≡ v .sets 1 → c ≡ v .sets 2 → d ≡ v .sets 3 → e ≡ v .sets 4
       → f ≡ ltb (bitOr (bitOr (bitOr (bitOr a b) c) d) e) (2 ^ resources) → f ≡ setsFit resources v
@@ -305,6 +316,7 @@ pub ruleset quick-tests = (
   head-test,
   limits-test,
   states-test,
+  none-test,
   present-none,
   absent-same,
   sets-unfit,

@@ -54,11 +54,18 @@ fn sets_good(table: &[u8], at: usize, w: usize, resources: usize) -> bool
     (f | g | h | i | j) == 0
 }
 
-// `_S1D` to `_S4D`.
+// `_S1D` to `_S4D`. Most devices have none of them, and their four bytes are then one number.
 fn states_good(table: &[u8], at: usize, w: usize) -> bool
     requires { ⌜ Wide w × (at + fieldsSize w ≤ length (now table)) ⌝ }
     ensures { λ b. ⌜ b ≡ allGood (sxdFields w (deviceAt w (now (table .entry)) at)) ⌝ }
 {
+    let a = crate::read::sxd(table, at, w, 1) as u32;
+    let b = crate::read::sxd(table, at, w, 2) as u32;
+    let c = crate::read::sxd(table, at, w, 3) as u32;
+    let d = crate::read::sxd(table, at, w, 4) as u32;
+    if a + 0x100 * b + 0x1_0000 * c + 0x100_0000 * d == 0xffff_ffff {
+        return true;
+    }
     if !crate::good::sxd_good(table, at, w, 1) {
         return false;
     }
@@ -114,7 +121,7 @@ pub fn zeros_good(table: &[u8], at: usize, w: usize) -> bool
 }
 
 // Whether the objects agree. Where the states with `_PS` are those with `_PR`, D0 and D3hot among them, only `_DSW` is left to ask;
-// any other device is deviceValue to the whole rule.
+// any other device is put to the whole rule.
 pub fn objects_agree(table: &[u8], at: usize, w: usize) -> bool
     requires { ⌜ Wide w × (at + fieldsSize w ≤ length (now table)) ⌝ }
     ensures { λ b. ⌜ b ≡ objectsGood (deviceAt w (now (table .entry)) at) ⌝ }
