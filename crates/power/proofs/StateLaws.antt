@@ -1,10 +1,11 @@
 -- What a device supports and needs, a law for each way that the code answers: from the tests on the way and what the readers of the table
 -- gave.
 use mathlib.Core.Path.{_≡_, sym, _∙_}
-use mathlib.Core.Bool.{Bool, true, false, or-false}
+use mathlib.Core.Bool.{Bool, true, false, or-false, and-true, and-false}
 use Prim.Native.Nat.{ℕ, zero, suc, _-_, _≤_, _<_}
 use native.Mathlib.Omega.{arith}
 use borrow.Author.Tests.{lt-ltb, le-ltb, eq-eqb, ne-eqb}
+use lib.Dec.{eqb}
 use Rattle.sets.specs.Sets.{member, union}
 use Rattle.rules.specs.declared.Entry.{Entry}
 use Rattle.rules.specs.Station.{Device, Station, hasPS, hasPR, hasPRW}
@@ -33,15 +34,15 @@ module _ (s : Station) (d x : ℕ) where
   by-pr b r n h e t q =
       rw (ne-eqb x 0 n, ne-eqb x 3 (λ q. omega arith), lt-ltb x 3 h, sym e ∙ t, ne-eqb x 4 (λ q. omega arith), or-false) q
 
-  pub by-pr3 : (r : Bool) → x ≡ 4 → r ≡ hasPR (s .device d) 3 → r ≡ supported s d x
+  pub by-pr3 : (b : Bool) → 3 ≤ x → (x ≡ 3 → ⊥) → b ≡ hasPR (s .device d) 3 → b ≡ true → eqb x 4 ≡ supported s d x
   unfolding supported
-  by-pr3 r e q = rw e q
+  by-pr3 b h n e t = rw (ne-eqb x 0 (λ z. omega arith), ne-eqb x 3 n, le-ltb x 3 h, sym e ∙ t, and-true (eqb x 4))
 
-  pub no-state : 3 ≤ x → (x ≡ 3 → ⊥) → (x ≡ 4 → ⊥) → false ≡ supported s d x
+  pub no-pr3 : (b : Bool) → 3 ≤ x → (x ≡ 3 → ⊥) → b ≡ hasPR (s .device d) 3 → b ≡ false → false ≡ supported s d x
   unfolding supported
-  no-state h p q = rw (ne-eqb x 0 (λ z. omega arith), ne-eqb x 3 p, le-ltb x 3 h, ne-eqb x 4 q)
+  no-pr3 b h n e t = rw (ne-eqb x 0 (λ z. omega arith), ne-eqb x 3 n, le-ltb x 3 h, sym e ∙ t, and-false (eqb x 4))
 
-pub ruleset supported-laws = (always-d0, always-d3hot, by-ps, by-pr, by-pr3, no-state)
+pub ruleset supported-laws = (always-d0, always-d3hot, by-ps, by-pr, by-pr3, no-pr3)
 
 -- ---- the sets of `_PR0` to `_PR3`
 module _ (v : Device) where

@@ -56,8 +56,8 @@ pub fn supported(table: &[u8], d: usize, x: u8) -> bool
         }
         return has_pr(table, d, x);
     }
-    if x == 4 {
-        return has_pr(table, d, 3);
+    if has_pr(table, d, 3) {
+        return x == 4;
     }
     false
 }
