@@ -1,9 +1,8 @@
 #!/usr/bin/env python3
 """Nanoseconds a call, of Sailgarnet and of the reference, on the inputs of the benchmark.
 
-Where its code lies changes the time of a short call, on either side: the reference checks a list for the bench station in 76 to 89 ns. So
-the benchmark is built with its code at four places, and the mean of the four counts. Each is run several times, and of these the fastest
-counts: other programs only add time.
+Where its code lies changes the time of a short call, on either side. So the benchmark is built with its code at four places, and the mean
+of the four counts. Each is run several times, and of these the fastest counts: other programs only add time.
 """
 
 import os
@@ -16,9 +15,9 @@ BUILD = "cargo build --quiet --offline --manifest-path host/Cargo.toml --release
 BUILT = "host/target/release/examples/benchmark"
 SHIFTS = (0, 16, 32, 48)
 RUNS = 3
-HEAD = f"""Nanoseconds a call: the mean of {len(SHIFTS)} programs, whose code lies {SHIFTS[1]} bytes apart; of each the fastest of {RUNS} runs of 400
-rounds of 64 calls. Both sides take turns in one run. All buffers are in the cache; what is written to is reset before
-each round, outside the time.
+HEAD = f"""Nanoseconds a call: the mean of {len(SHIFTS)} programs, whose code lies {SHIFTS[1]} bytes apart; of each the fastest round
+of {RUNS} runs. A round is 64 calls, each with buffers of its own. Both sides take turns in one run. All buffers are in the
+cache; what is written to is reset before each round, outside the time.
 """
 
 
@@ -39,6 +38,8 @@ def programs(folder):
 def times(program):
     """Function, input and answer of each row, with its two times."""
     lines = [line.split("|") for line in output([program, "times"]).splitlines()]
+    if not lines or any(len(line) != 5 for line in lines):
+        sys.exit(f"these are no rows: {lines}")
     return {tuple(line[:3]): [float(x) for x in line[3:]] for line in lines}
 
 
@@ -47,6 +48,7 @@ def fastest(runs):
 
 
 def main():
+    os.chdir(os.path.join(os.path.dirname(__file__), ".."))
     with tempfile.TemporaryDirectory() as folder:
         built = list(programs(folder))
         runs = [[times(program) for program in built] for _ in range(RUNS)]

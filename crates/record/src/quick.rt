@@ -54,7 +54,7 @@ fn sets_good(table: &[u8], at: usize, w: usize, resources: usize) -> bool
     (f | g | h | i | j) == 0
 }
 
-// `_S1D` to `_S4D`. Most devices have none of them, and their four bytes are then one number.
+// `_S1D` to `_S4D`. Where a device has none of them, one comparison tests all four.
 fn states_good(table: &[u8], at: usize, w: usize) -> bool
     requires { ⌜ Wide w × (at + fieldsSize w ≤ length (now table)) ⌝ }
     ensures { λ b. ⌜ b ≡ allGood (sxdFields w (deviceAt w (now (table .entry)) at)) ⌝ }
