@@ -4,22 +4,12 @@ pub mod own;
 
 ghost use mathlib.Core.Path.{_≡_};
 ghost use lib.Dec.{eqb};
-ghost use Rattle.rules.specs.Calls.{word4, wordOf, wakeWord, callOf, callOfBytes, wakeOf};
+ghost use Rattle.rules.specs.Calls.{wordOf, wakeWord, callOf, callOfBytes, wakeOf};
 ghost use Rattle.calls.specs.Ranges.{WakeInRange, InRange};
 ghost use Rattle.calls.specs.Switch.{switchWord};
 use rules::Call;
 use rules::OptionalCall;
 use rules::Wake;
-
-// The word with these bytes, lowest first.
-fn word4(a: u8, b: u8, c: u8, d: u8) -> u32
-    ensures { λ r. ⌜ r ≡ word4 a b c d ⌝ }
-{
-    words::wide(a)
-        + 0x100 * words::wide(b)
-        + 0x1_0000 * words::wide(c)
-        + 0x100_0000 * words::wide(d)
-}
 
 // The word of a `_DSW` call.
 fn wake_word(device: u8, wake: Wake) -> u32
@@ -27,8 +17,8 @@ fn wake_word(device: u8, wake: Wake) -> u32
     ensures { λ r. ⌜ r ≡ wakeWord device wake ⌝ }
 {
     match wake {
-        Wake::Enable { sleep, state } => word4(4, device, sleep, 128 + state),
-        Wake::Disable => word4(4, device, 0, 0),
+        Wake::Enable { sleep, state } => words::word4(4, device, sleep, 128 + state),
+        Wake::Disable => words::word4(4, device, 0, 0),
     }
 }
 
@@ -38,9 +28,9 @@ pub fn word_of(call: Call) -> u32
     ensures { λ r. ⌜ r ≡ wordOf call ⌝ }
 {
     match call {
-        Call::ResourceOn(r) => word4(1, r, 0, 0),
-        Call::ResourceOff(r) => word4(2, r, 0, 0),
-        Call::SetState { device, method } => word4(3, device, method, 0),
+        Call::ResourceOn(r) => words::word4(1, r, 0, 0),
+        Call::ResourceOff(r) => words::word4(2, r, 0, 0),
+        Call::SetState { device, method } => words::word4(3, device, method, 0),
         Call::SetWake { device, wake } => wake_word(device, wake),
     }
 }

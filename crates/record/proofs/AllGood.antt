@@ -98,10 +98,10 @@ module _ (v : Device) where
   sxd-none x s e n = rw (← e, n) refl
 
   -- four bytes as one number, the largest: each is 255
-  pub none-test : (w a b c d : ℕ) → a ≡ v .sxd 1 → b ≡ v .sxd 2 → c ≡ v .sxd 3 → d ≡ v .sxd 4 → a < 256 → b < 256 → c < 256 → d < 256
-      → a + 256 * b + 65536 * c + 16777216 * d ≡ 4294967295 → true ≡ allGood (sxdFields w v)
+  pub none-test : (w a b c d n : ℕ) → a ≡ v .sxd 1 → b ≡ v .sxd 2 → c ≡ v .sxd 3 → d ≡ v .sxd 4 → a < 256 → b < 256 → c < 256 → d < 256
+      → n ≡ a + 0x100 * b + 0x1_0000 * c + 0x100_0000 * d → n ≡ 0xffff_ffff → true ≡ allGood (sxdFields w v)
   unfolding sxdFields allGood eachFrom
-  none-test w a b c d p q r s h i j k e =
+  none-test w a b c d n p q r s h i j k e m =
       rw (sxd-none 1 a p (omega arith), sxd-none 2 b q (omega arith), sxd-none 3 c r (omega arith), sxd-none 4 d s (omega arith)) refl
 
   -- ---- no bit at or above R

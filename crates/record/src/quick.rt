@@ -59,11 +59,11 @@ fn states_good(table: &[u8], at: usize, w: usize) -> bool
     requires { ⌜ Wide w × (at + fieldsSize w ≤ length (now table)) ⌝ }
     ensures { λ b. ⌜ b ≡ allGood (sxdFields w (deviceAt w (now (table .entry)) at)) ⌝ }
 {
-    let a = crate::read::sxd(table, at, w, 1) as u32;
-    let b = crate::read::sxd(table, at, w, 2) as u32;
-    let c = crate::read::sxd(table, at, w, 3) as u32;
-    let d = crate::read::sxd(table, at, w, 4) as u32;
-    if a + 0x100 * b + 0x1_0000 * c + 0x100_0000 * d == 0xffff_ffff {
+    let a = crate::read::sxd(table, at, w, 1);
+    let b = crate::read::sxd(table, at, w, 2);
+    let c = crate::read::sxd(table, at, w, 3);
+    let d = crate::read::sxd(table, at, w, 4);
+    if words::word4(a, b, c, d) == 0xffff_ffff {
         return true;
     }
     if !crate::good::sxd_good(table, at, w, 1) {

@@ -12,6 +12,13 @@ pub fn wide(x: u8) -> u32
     x as u32
 }
 
+// The number that four bytes make, lowest first.
+pub fn word4(a: u8, b: u8, c: u8, d: u8) -> u32
+    ensures { λ r. ⌜ r ≡ a + 0x100 * b + 0x1_0000 * c + 0x100_0000 * d ⌝ }
+{
+    wide(a) + 0x100 * wide(b) + 0x1_0000 * wide(c) + 0x100_0000 * wide(d)
+}
+
 // The number that the two bytes from `at` on make.
 pub fn read16(s: &[u8], at: usize) -> u16
     requires { ⌜ at + 2 ≤ length (now s) ⌝ }
