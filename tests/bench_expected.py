@@ -1,6 +1,7 @@
 #!/usr/bin/env python3
 """What the program `bench` must print for the cases of its file `stdin`, worked out by docs/RULES.md alone: it shares the cases with the
-program and nothing else. `bench_expected.py bench > crates/bench/stdout` writes the page anew."""
+program and nothing else. (`wake_verdicts.py` prints the text of an array of the code by `in_range`; the prover holds that array to the
+definition.) `bench_expected.py bench > crates/bench/stdout` writes the page anew."""
 import itertools
 import pathlib
 import sys

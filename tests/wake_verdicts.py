@@ -1,5 +1,5 @@
 #!/usr/bin/env python3
-"""The wake range (RULES.md 3.3) of each `_SxD`, absent or 0 to 3, and `_SxW`, absent or 0 to 4, for D0 to D4: 150 verdicts.
+"""The wake range (RULES.md 3.3) of each `_SxD`, absent or 0 to 3, and `_SxW`, absent or 0 to 4, for D0 to D3cold: 150 verdicts.
 `wake_verdicts.py array` prints the array of crates/power/src/wake.rt, `wake_verdicts.py cases` the cases of crates/bench/stdin that arm a
 device in each."""
 import sys
@@ -31,8 +31,8 @@ def array():
 
 
 def cases():
-    print("# Arming for S3 in D0 to D4: each `_S3D` and `_S3W` in a table of one device, with `_PRW` and with `_PR0` to `_PR3`, all empty. A table with")
-    print("# `_S3D` above `_S3W` is refused")
+    print("# Arming for S3 and each of D0 to D3cold, with each `_S3D` and `_S3W` in a table of one device. Its `_PRW` and `_PR0` to `_PR3` are")
+    print("# empty. A table with `_S3D` above `_S3W` is refused")
     for sxd, sxw in pairs():
         values = [ABSENT, ABSENT, sxd, ABSENT, ABSENT, ABSENT, ABSENT, sxw, ABSENT, 4]  # _S1D to _S4D, _S0W to _S4W, deepest
         record = bytes([0xff, 0x00, 0x0f, 0x01, *bytes(20), *values, *bytes(6)])

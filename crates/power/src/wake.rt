@@ -55,8 +55,8 @@ pub fn wake_powered(table: &[u8], d: usize, x: u8) -> bool
     true
 }
 
-// The wake range of each `_SxD` and `_SxW`: a row for each pair, and in it a digit for each state, from D4 down to D0; 150 verdicts in all.
-// The six rows of an `_SxD` are one number. A pair with `_SxD` above `_SxW`, which no accepted table has, has no 1. Written by
+// The wake range of each `_SxD` and `_SxW`: a row for each pair, and in it a digit for each state, from D3cold down to D0; 150 verdicts in
+// all. The six rows of an `_SxD` are one number. A pair with `_SxD` above `_SxW`, which no accepted table has, has no 1. Written by
 // tests/wake_verdicts.py.
 const VERDICTS: [u32; 5] = [
     0b00000 // no `_SxD`, no `_SxW`
@@ -91,8 +91,8 @@ const VERDICTS: [u32; 5] = [
         | 0b11000 << 25, // `_SxD` 3, `_SxW` 4
 ];
 
-// The index of an `_SxD` or `_SxW` in `VERDICTS`: an absent one, 255, comes first, and then 0, 1, ..
-fn index(n: u8) -> u32
+// The index of an `_SxD` in `VERDICTS`, and of an `_SxW` among its six rows: an absent one, 255, comes first, and then 0, 1, ..
+fn sx_index(n: u8) -> u32
     ensures { λ r. ⌜ r ≡ (n + 1) % 256 ⌝ }
 {
     (n as u32 + 1) % 256
@@ -102,8 +102,8 @@ fn index(n: u8) -> u32
 pub fn wake_range(sxd: u8, sxw: u8, x: u8) -> bool
     ensures { λ r. ⌜ r ≡ wakeRange sxd sxw x ⌝ }
 {
-    let from = index(sxd);
-    let to = index(sxw);
+    let from = sx_index(sxd);
+    let to = sx_index(sxw);
     if from > 4 || to > 5 || x > 4 {
         return false;
     }

@@ -1,4 +1,4 @@
--- What the guard leaves out has no range; what is looked up is the verdict of the table.
+-- What the guard leaves out has no range; what is looked up is the verdict of the array.
 use mathlib.Core.Logic.{⊎-elim}
 use borrow.Author.Needs.{needs}
 use Rattle.rules.specs.Index.{eachFrom}
@@ -14,7 +14,7 @@ returns c =
     (⊎-elim (λ t. search (needs, outside-laws)) (λ t. search (needs, outside-laws)))
     (c .if1 .came)
 
--- the array of the code is the whole table: the prover computes all 150 verdicts here
+-- the prover computes all 150 verdicts by the wake range, and finds them in the array of the code
 returns-2 : tie.Need-returns-2
 unfolding verdicts digits eachFrom wakeRange value
 returns-2 c = search (needs, looked-up)
