@@ -40,6 +40,12 @@ stored_output() {
   python3 tests/bench_expected.py "$1" | diff - "crates/$1/stdout"
 }
 
+# the array of wake verdicts and the cases that arm a device in each of them are as the script prints them, comments too
+wake_verdicts() {
+  python3 tests/wake_verdicts.py array | diff - <(sed -n '/^const VERDICTS/,/^];/p' crates/power/src/wake.rt) &&
+    python3 tests/wake_verdicts.py cases | diff - <(sed -n '/^# Arming for S3 and each/,/^$/p' crates/bench/stdin | sed '/^$/d')
+}
+
 # the host side over the proved library: the wrapper, the comparison with the independent reference, the command
 host() {
   local log status sums
@@ -85,6 +91,7 @@ pictures() {
 
 step rt fmt --check
 step stored_output bench
+step wake_verdicts
 if [ "$quick" = quick ]; then
   step bash tests/prove.sh check
   step bash tests/prove.sh staticlib sailgarnet

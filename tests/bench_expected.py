@@ -1,6 +1,7 @@
 #!/usr/bin/env python3
 """What the program `bench` must print for the cases of its file `stdin`, worked out by docs/RULES.md alone: it shares the cases with the
-program and nothing else. `bench_expected.py bench > crates/bench/stdout` writes the page anew."""
+program and nothing else. (`wake_verdicts.py` prints the text of an array of the code by `in_range`; the prover holds that array to the
+definition.) `bench_expected.py bench > crates/bench/stdout` writes the page anew."""
 import itertools
 import pathlib
 import sys
@@ -11,6 +12,17 @@ BRING_UP = None  # in the place of a request
 
 def le(b):
     return int.from_bytes(b, "little")
+
+
+# ---- RULES.md 3.3, whether state d is in the wake range of an _SxD and an _SxW
+def in_range(sxd, sxw, d):
+    if sxd == ABSENT and sxw == ABSENT:
+        return False
+    if sxw == ABSENT:
+        return d == sxd
+    if sxd == ABSENT:
+        return d <= sxw
+    return sxd <= d <= sxw
 
 
 # a device by the bytes of its record; sets have w bytes, 4 in a table and 8 in a description
@@ -79,23 +91,16 @@ class Device:
                 return self.sets[k]
         return 0
 
-    def in_range(self, s, d):
-        low = self.sxd[s] if s else ABSENT
-        high = self.sxw[s]
-        if low == ABSENT and high == ABSENT:
-            return False
-        if high == ABSENT:
-            return d == low
-        if low == ABSENT:
-            return d <= high
-        return low <= d <= high
+    # for S0 there is no _SxD
+    def may_wake(self, s, d):
+        return in_range(self.sxd[s] if s else ABSENT, self.sxw[s], d)
 
     def pair_legal(self, s, d, levels):
         if not self.prw or s > self.deepest:
             return False
         if any(self.sets[4] >> r & 1 and level < s for r, level in enumerate(levels)):
             return False
-        return self.supported(d) and self.in_range(s, d)
+        return self.supported(d) and self.may_wake(s, d)
 
 
 def split(t):
@@ -245,7 +250,7 @@ def check_request(devices, levels, image, q):
             return 16, 0
         if any(device.sets[4] >> r & 1 and level < a for r, level in enumerate(levels)):
             return 17, 0
-        if not device.supported(b) or not device.in_range(a, b) or b < state:
+        if not device.supported(b) or not device.may_wake(a, b) or b < state:
             return 18, 0
     return 0, 0
 

@@ -39,7 +39,8 @@ pub fn has_prw(table: &[u8], d: usize) -> bool
     has_bit(table::fields::flags(table, d), 0)
 }
 
-// D0 and D3hot always; D1 or D2 with either object for it; D3cold with `_PR3`.
+// D0 and D3hot always; D1 or D2 with either object for it; D3cold with `_PR3`, whose bit is asked before the state: like this the code is
+// small enough for the compiler to put it, and what it is in, into its callers.
 pub fn supported(table: &[u8], d: usize, x: u8) -> bool
     requires { ⌜ WellSized (now table) × (d < countD (now table)) ⌝ }
     ensures { λ r. ⌜ r ≡ supported (station (now (table .entry))) d x ⌝ }

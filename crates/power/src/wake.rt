@@ -1,7 +1,7 @@
 // For which sleep state and from which device state a device may wake the system.
 ghost use mathlib.Core.Path.{_≡_};
 ghost use mathlib.Core.Bool.{_||_, not, true};
-ghost use Prim.Native.Nat.{_<_};
+ghost use Prim.Native.Nat.{_+_, _%_, _<_};
 ghost use lib.Dec.{leb, ltb};
 ghost use Rattle.sets.specs.Sets.{member};
 ghost use Rattle.rules.specs.Index.{least};
@@ -55,29 +55,59 @@ pub fn wake_powered(table: &[u8], d: usize, x: u8) -> bool
     true
 }
 
+// The wake range of each `_SxD` and `_SxW`: a row for each pair, and in it a digit for each state, from D3cold down to D0; 150 verdicts in
+// all. The six rows of an `_SxD` are one number. A pair with `_SxD` above `_SxW`, which no accepted table has, has no 1. Written by
+// tests/wake_verdicts.py.
+const VERDICTS: [u32; 5] = [
+    0b00000 // no `_SxD`, no `_SxW`
+        | 0b00001 << 5 // no `_SxD`, `_SxW` 0
+        | 0b00011 << 10 // no `_SxD`, `_SxW` 1
+        | 0b00111 << 15 // no `_SxD`, `_SxW` 2
+        | 0b01111 << 20 // no `_SxD`, `_SxW` 3
+        | 0b11111 << 25, // no `_SxD`, `_SxW` 4
+    0b00001 // `_SxD` 0, no `_SxW`
+        | 0b00001 << 5 // `_SxD` 0, `_SxW` 0
+        | 0b00011 << 10 // `_SxD` 0, `_SxW` 1
+        | 0b00111 << 15 // `_SxD` 0, `_SxW` 2
+        | 0b01111 << 20 // `_SxD` 0, `_SxW` 3
+        | 0b11111 << 25, // `_SxD` 0, `_SxW` 4
+    0b00010 // `_SxD` 1, no `_SxW`
+        | 0b00000 << 5 // `_SxD` 1, `_SxW` 0
+        | 0b00010 << 10 // `_SxD` 1, `_SxW` 1
+        | 0b00110 << 15 // `_SxD` 1, `_SxW` 2
+        | 0b01110 << 20 // `_SxD` 1, `_SxW` 3
+        | 0b11110 << 25, // `_SxD` 1, `_SxW` 4
+    0b00100 // `_SxD` 2, no `_SxW`
+        | 0b00000 << 5 // `_SxD` 2, `_SxW` 0
+        | 0b00000 << 10 // `_SxD` 2, `_SxW` 1
+        | 0b00100 << 15 // `_SxD` 2, `_SxW` 2
+        | 0b01100 << 20 // `_SxD` 2, `_SxW` 3
+        | 0b11100 << 25, // `_SxD` 2, `_SxW` 4
+    0b01000 // `_SxD` 3, no `_SxW`
+        | 0b00000 << 5 // `_SxD` 3, `_SxW` 0
+        | 0b00000 << 10 // `_SxD` 3, `_SxW` 1
+        | 0b00000 << 15 // `_SxD` 3, `_SxW` 2
+        | 0b01000 << 20 // `_SxD` 3, `_SxW` 3
+        | 0b11000 << 25, // `_SxD` 3, `_SxW` 4
+];
+
+// The index of an `_SxD` in `VERDICTS`, and of an `_SxW` among its six rows: an absent one, 255, comes first, and then 0, 1, ..
+fn sx_index(n: u8) -> u32
+    ensures { λ r. ⌜ r ≡ (n + 1) % 256 ⌝ }
+{
+    (n as u32 + 1) % 256
+}
+
 // Whether x is in the range that `_SxD` and `_SxW` give, 255 for an absent one. Values that no accepted table holds give no range.
 pub fn wake_range(sxd: u8, sxw: u8, x: u8) -> bool
     ensures { λ r. ⌜ r ≡ wakeRange sxd sxw x ⌝ }
 {
-    if sxd == 255 {
-        if sxw > 4 {
-            return false;
-        }
-        return x <= sxw;
-    }
-    if sxd > 3 {
+    let from = sx_index(sxd);
+    let to = sx_index(sxw);
+    if from > 4 || to > 5 || x > 4 {
         return false;
     }
-    if sxw == 255 {
-        return x == sxd;
-    }
-    if sxw > 4 {
-        return false;
-    }
-    if x <= sxw {
-        return sxd <= x;
-    }
-    false
+    sets::has(VERDICTS[from as usize], to * 5 + x as u32)
 }
 
 // State y is supported and in the wake range for x.
