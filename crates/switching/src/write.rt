@@ -10,7 +10,7 @@ ghost use lib.ListN.{length};
 ghost use Rattle.words.specs.Words.{put};
 ghost use Rattle.rules.specs.Station.{width, station};
 ghost use Rattle.rules.specs.Calls.{wordOf, listOf, switchingWords};
-ghost use Rattle.rules.specs.Outcomes.{planRoom};
+ghost use Rattle.rules.specs.Outcomes.{listRoom};
 ghost use Rattle.table.specs.Layout.{WellSized};
 ghost use Rattle.calls.specs.Ranges.{OptionalInRange};
 ghost use Rattle.calls.specs.Phases.{phaseWords};
@@ -18,7 +18,7 @@ ghost use Rattle.switching.specs.Switching.{GoodSwitching};
 
 // The words that a plan must have room for.
 pub fn room(table: &[u8]) -> usize
-    ensures { λ r. ⌜ (r ≡ planRoom (width (now (table .entry)))) × (r ≤ 65) ⌝ }
+    ensures { λ r. ⌜ (r ≡ listRoom (width (now (table .entry)))) × (r ≤ 65) ⌝ }
 {
     table::fields::limit(table) + 1
 }
@@ -50,7 +50,7 @@ pub fn write_switches(table: &[u8], added: u32, removed: u32, plan: &mut [u32], 
 
 // The words of all calls, from the start of the plan. The answer is their count.
 pub fn write_calls(table: &[u8], c: Switching, plan: &mut [u32]) -> usize
-    requires { ⌜ WellSized (now table) × GoodSwitching (now table) c × (planRoom (width (now table)) ≤ length (now plan)) ⌝ }
+    requires { ⌜ WellSized (now table) × GoodSwitching (now table) c × (listRoom (width (now table)) ≤ length (now plan)) ⌝ }
     ensures { λ r. ⌜ (r ≡ length (switchingWords (station (now (table .entry))) c))
         × (now (plan .exit) ≡ put (now (plan .entry)) 0 (switchingWords (station (now (table .entry))) c)) ⌝ }
 {
