@@ -1,0 +1,96 @@
+-- One move of sleep entry: what it asks, and what it leaves in the buffer of one plan, in a plan of words and in one of bytes.
+use mathlib.Core.Path.{_≡_, refl, sym, ap, _∙_}
+use mathlib.Core.Bool.{Bool, true, false}
+use mathlib.Core.List.{List}
+use Prim.Native.Nat.{ℕ, _+_, _*_, _≤_, _<_}
+use native.Mathlib.Nat.{one-mul}
+use native.Mathlib.Omega.{arith}
+use mir.Syntax.{w32}
+use mir.Val.{Fits}
+use lib.ListN.{length, take}
+use Rattle.sets.proofs.Laws.{decide}
+use Rattle.words.specs.Words.{put, wordBytes}
+use Rattle.words.proofs.Put.{put-none, take-put}
+use Rattle.rules.specs.Station.{width}
+use Rattle.rules.specs.Status.{entries, statusOf, status}
+use Rattle.rules.specs.Sleep.{moveTo, stays}
+use Rattle.rules.specs.Outcomes.{listRoom}
+use Rattle.status.specs.Ready.{Ready}
+use Rattle.request.specs.Permitted.{PermittedRequest}
+use Rattle.switching.specs.Written.{WrittenPlan}
+use Rattle.switching.proofs.Answered.{front-bytes}
+use Rattle.sleep.specs.Chosen.{statesIn}
+use Rattle.planner.specs.Plan.{Written}
+use Rattle.planner.specs.Moves.{moveList, stateMoved, Turn, WrittenFrom}
+use Rattle.planner.proofs.Room.{room-33, words-33, request-room}
+
+-- ---- what a turn has shown
+module _ (t b chosen : List ℕ) (d : ℕ) (g : Turn t b chosen d) where
+  pub turn-ready : Ready t b
+  turn-ready = g .ready
+
+  pub device-fits : Fits w32 d
+  device-fits = record { fits = omega (arith, g .device, g .ready .sized .devices, g .ready .sized .wide .high) }
+
+  -- the list fits the buffer of one plan
+  pub move-short : length (moveList t b (statesIn chosen) d) ≤ listRoom (width t)
+  unfolding moveList
+  move-short =
+      decide (stays (status t b .entries) (statesIn chosen) d) (λ e. rw e (omega arith))
+      (λ e. rw e (request-room t b (moveTo d (statesIn chosen d)) (g .permitted e)))
+
+-- ---- s is whether the device stays, as the code has tested it
+module _ (t b chosen : List ℕ) (d : ℕ) (s : Bool) (test : s ≡ stays (entries t b) (statesIn chosen) d) where
+  stays-is : stays (status t b .entries) (statesIn chosen) d ≡ s
+  unfolding statusOf
+  stays-is = sym test
+
+  pub move-none : (calls : List ℕ) → s ≡ true
+      → WrittenPlan (moveList t b (statesIn chosen) d) (stateMoved t b (statesIn chosen) d) calls 0 b calls
+  unfolding moveList stateMoved
+  move-none calls e = rw (stays-is ∙ e) (record { count = refl; state = refl; words = sym (put-none calls 0) })
+
+  -- a is the state that was chosen, as a number of the request
+  module _ (e : s ≡ false) (a : ℕ) (is : a ≡ statesIn chosen d) where
+    pub move-asked : Turn t b chosen d → PermittedRequest t b (moveTo d a)
+    move-asked g = rw is (g .permitted (stays-is ∙ e))
+
+    pub move-some : (n : ℕ) (b′ calls calls′ : List ℕ) → Written t b (moveTo d a) calls n b′ calls′
+        → WrittenPlan (moveList t b (statesIn chosen) d) (stateMoved t b (statesIn chosen) d) calls n b′ calls′
+    unfolding moveList stateMoved
+    move-some n b′ calls calls′ w = rw (stays-is ∙ e, ← is) w
+
+pub ruleset one-move = (turn-ready, device-fits, move-none, move-asked, move-some)
+
+-- ---- from the buffer of one plan into the plan, from word `at` on
+module _ (list after : List ℕ) (n : ℕ) (b′ calls calls′ : List ℕ) (w : WrittenPlan list after calls n b′ calls′) (plan plan′ : List ℕ)
+    (at : ℕ) where
+  pub into-words : plan′ ≡ put plan at (take n calls′) → WrittenFrom 1 (λ ws. ws) list after plan at n b′ plan′
+  into-words e =
+      record {
+        count = w .count;
+        state = w .state;
+        elements = e ∙ rw (one-mul at) (ap (put plan at) (ap (take n) (w .words) ∙ take-put calls list n (sym (w .count))));
+      }
+
+  pub into-bytes : plan′ ≡ put plan (4 * at) (wordBytes (take n calls′)) → WrittenFrom 4 wordBytes list after plan at n b′ plan′
+  into-bytes e =
+      record {
+        count = w .count;
+        state = w .state;
+        elements = e ∙ ap (put plan (4 * at)) (front-bytes list after calls calls′ n b′ w);
+      }
+
+-- what is copied is in the buffer, and as much as the plan has room for
+module _ (t b chosen : List ℕ) (d n : ℕ) (after b′ calls calls′ : List ℕ) (g : Turn t b chosen d)
+    (w : WrittenPlan (moveList t b (statesIn chosen) d) after calls n b′ calls′) where
+  pub copied-inside : length calls ≡ 33 → n ≤ length calls′
+  copied-inside l = words-33 t _ _ (move-short t b chosen d g) n b′ calls calls′ w l
+
+  pub copied-room : (at m : ℕ) → at + length (moveList t b (statesIn chosen) d) ≤ m → at + n ≤ m
+  copied-room at m h = omega (arith, w .count)
+
+  pub copied-bytes : (at m : ℕ) → 4 * (at + length (moveList t b (statesIn chosen) d)) ≤ m → 4 * (at + n) ≤ m
+  copied-bytes at m h = omega (arith, w .count)
+
+pub ruleset copied = (copied-inside, copied-room, copied-bytes, into-words, into-bytes)

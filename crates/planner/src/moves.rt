@@ -1,0 +1,96 @@
+// Sleep entry once its checks have passed: the devices move to the states that were chosen, by falling number, each with the list of its
+// request, through the buffer of one plan; where none moves, what is not needed is turned off.
+use rules::Request;
+ghost use mathlib.Core.Path.{_≡_};
+ghost use Prim.Native.Nat.{_+_, _*_, _≤_};
+ghost use lib.ListN.{length};
+ghost use Rattle.rules.specs.Station.{width, limit};
+ghost use Rattle.rules.specs.Outcomes.{listRoom, plannedEach, stateAfterEach};
+ghost use Rattle.switching.specs.Written.{WrittenPlan};
+ghost use Rattle.sleep.specs.Chosen.{statesIn};
+ghost use Rattle.planner.specs.Moves.{moveList, stateMoved, allMoves, choiceList, choiceState, Turn, Given, WrittenFrom};
+
+// The words that a plan of sleep entry must have room for: a list for each device that there can be.
+pub fn room(table: &[u8]) -> usize
+    ensures { λ r. ⌜ (r ≡ limit (width (now (table .entry))) * listRoom (width (now (table .entry)))) × (r ≤ 4160) ⌝ }
+{
+    table::fields::limit(table) * switching::write::room(table)
+}
+
+// The calls and the state of device d's move to its state in `chosen`; none if it stays.
+pub fn write_move(
+    table: &[u8],
+    state: &mut [u8],
+    chosen: &[u8],
+    d: usize,
+    calls: &mut [u32],
+) -> usize
+    requires { ⌜ Turn (now table) (now state) (now chosen) d × (listRoom (width (now table)) ≤ length (now calls)) ⌝ }
+    ensures { λ r. ⌜ WrittenPlan (moveList (now (table .entry)) (now (state .entry)) (statesIn (now (chosen .entry))) d)
+        (stateMoved (now (table .entry)) (now (state .entry)) (statesIn (now (chosen .entry))) d)
+        (now (calls .entry)) r (now (state .exit)) (now (calls .exit)) ⌝ }
+{
+    if sleep::choice::stays(table, state, chosen, d) {
+        return 0;
+    }
+    let q = Request {
+        kind: 1,
+        device: d as u32,
+        a: words::wide(chosen[d]),
+        b: 0,
+    };
+    crate::plan::write_plan(table, state, q, calls)
+}
+
+// The same, with the calls from word `at` of the plan on.
+fn move_words(
+    table: &[u8],
+    state: &mut [u8],
+    chosen: &[u8],
+    d: usize,
+    plan: &mut [u32],
+    at: usize,
+) -> usize
+    requires { ⌜ Turn (now table) (now state) (now chosen) d
+        × (at + length (moveList (now table) (now state) (statesIn (now chosen)) d) ≤ length (now plan)) ⌝ }
+    ensures { λ r. ⌜ WrittenFrom 1 (λ ws. ws) (moveList (now (table .entry)) (now (state .entry)) (statesIn (now (chosen .entry))) d)
+        (stateMoved (now (table .entry)) (now (state .entry)) (statesIn (now (chosen .entry))) d)
+        (now (plan .entry)) at r (now (state .exit)) (now (plan .exit)) ⌝ }
+{
+    let mut calls = [0u32; 33];
+    let n = write_move(table, state, chosen, d, &mut calls);
+    words::copy_words(&calls, n, plan, at);
+    n
+}
+
+// The calls of all moves, and the state after them.
+fn write_moves(table: &[u8], state: &mut [u8], chosen: &[u8], plan: &mut [u32]) -> usize
+    requires { ⌜ Given (now table) (now state) (now chosen)
+        × (limit (width (now table)) * listRoom (width (now table)) ≤ length (now plan)) ⌝ }
+    ensures { λ r. ⌜ WrittenFrom 1 (λ ws. ws)
+        (plannedEach (now (table .entry)) (now (state .entry)) (allMoves (now (table .entry)) (now (state .entry)) (statesIn (now (chosen .entry)))))
+        (stateAfterEach (now (table .entry)) (now (state .entry)) (allMoves (now (table .entry)) (now (state .entry)) (statesIn (now (chosen .entry)))))
+        (now (plan .entry)) 0 r (now (state .exit)) (now (plan .exit)) ⌝ }
+{
+    let mut n = 0;
+    let mut i = table::fields::devices(table);
+    while 0 < i {
+        i -= 1;
+        n += move_words(table, state, chosen, i, plan, n);
+    }
+    n
+}
+
+// The calls that bring the devices to their states in `chosen`, and the state after them.
+pub fn write_choice(table: &[u8], state: &mut [u8], chosen: &[u8], plan: &mut [u32]) -> usize
+    requires { ⌜ Given (now table) (now state) (now chosen)
+        × (limit (width (now table)) * listRoom (width (now table)) ≤ length (now plan)) ⌝ }
+    ensures { λ r. ⌜ WrittenFrom 1 (λ ws. ws) (choiceList (now (table .entry)) (now (state .entry)) (statesIn (now (chosen .entry))))
+        (choiceState (now (table .entry)) (now (state .entry)) (statesIn (now (chosen .entry))))
+        (now (plan .entry)) 0 r (now (state .exit)) (now (plan .exit)) ⌝ }
+{
+    if sleep::choice::none_moves(table, state, chosen) {
+        return bringup::bring_up::write_bring_up(table, state, plan);
+    }
+    write_moves(table, state, chosen, plan)
+}
