@@ -104,6 +104,8 @@ step example board -O2
 step example board -g -fsanitize=address,undefined
 step example edit -O2
 step example edit -g -fsanitize=address,undefined
+step example sleep -O2
+step example sleep -g -fsanitize=address,undefined
 step bash tests/stack.sh
 step fence
 host

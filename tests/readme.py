@@ -2,6 +2,7 @@
 """What README.md and host/README.md show is true: their programs are the files they name, their commands print what they say, their links
 and those of docs/STATION-TEXT.md and docs/changes lead to a file and a heading of it, and the map has every crate."""
 
+import glob
 import os
 import re
 import shutil
@@ -118,7 +119,5 @@ mapped(readme)
 links("README.md")
 links("host/README.md")
 links("docs/STATION-TEXT.md")
-links("docs/changes/README.md")
-links("docs/changes/CR-1.md")
-links("docs/changes/CR-2.md")
-links("docs/changes/CR-3.md")
+for note in sorted(glob.glob("docs/changes/*.md")):
+    links(note)
