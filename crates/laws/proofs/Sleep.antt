@@ -2,7 +2,7 @@
 -- is the lists of its moves or the turn-off calls alone, and a second time there are no calls.
 use mathlib.Core.Path.{_≡_, refl, sym, ap, _∙_}
 use mathlib.Core.Bool.{Bool, true, false}
-use mathlib.Core.List.{List, [], map-map}
+use mathlib.Core.List.{List, [], map, map-map}
 use mathlib.Core.Logic.{⊎-elim}
 use Prim.Native.Nat.{ℕ, _*_, _≤_, _<_}
 use native.Mathlib.Nat.{one-mul}
@@ -24,6 +24,7 @@ use Rattle.rules.specs.Table.{tableVerdict}
 use Rattle.rules.specs.Power.{isArmed, needed, poweredIn}
 use Rattle.rules.specs.Status.{status, stateVerdict}
 use Rattle.rules.specs.Request.{inState}
+use Rattle.rules.specs.Calls.{wordOf}
 use Rattle.rules.specs.Sleep.{isSleep, armedForOther, wakeDIfArmed, Choice, leastChoice, hasChoice, sleepMoves, noneMoves, offsAlone}
 use Rattle.rules.specs.Outcomes.{Outcome, sleepStages, plannedEach, stateAfterEach, sleepList, stateForSleep, planRoom, planOutcome}
 use Rattle.rules.specs.Outcomes.{planWords, planBytes}
@@ -50,6 +51,13 @@ use Rattle.laws.proofs.SleepMoves.{reachable, Moved, moved, some-moves}
 use Rattle.laws.proofs.SleepStages.{SleepPassed, sleep-of, sleep-pass, none-of, none-is, choice-table}
 
 -- ---- list and state, by whether a device moves
+
+-- of a consistent state bring-up gives the turn-off calls alone
+pub offs-list : (t b : List ℕ) → passes (tableVerdict t) ≡ true → passes (stateVerdict t b) ≡ true
+    → map wordOf (offsAlone (station t) (status t b)) ≡ bringUpList t b
+unfolding offsAlone
+offs-list t b e f = rw (offs-alone t b e f) (simp map-map)
+
 module _ (t b : List ℕ) (x : ℕ) where
   -- no device moves
   abbrev still : Bool
@@ -57,8 +65,8 @@ module _ (t b : List ℕ) (x : ℕ) where
 
   -- where none moves, they are those of bring-up
   pub sleep-offs : still ≡ true → passes (tableVerdict t) ≡ true → passes (stateVerdict t b) ≡ true → sleepList t b x ≡ bringUpList t b
-  unfolding sleepList offsAlone
-  sleep-offs z e f = rw (z, offs-alone t b e f) (simp map-map)
+  unfolding sleepList
+  sleep-offs z e f = rw z (offs-list t b e f)
 
   pub sleep-up : still ≡ true → stateForSleep t b x ≡ stateBroughtUp t b
   unfolding stateForSleep stateBroughtUp

@@ -18,7 +18,7 @@ use Rattle.rules.specs.Index.{every}
 use Rattle.rules.specs.Answers.{passes}
 use Rattle.rules.specs.Station.{absent, versionWidth, width, limit, countD, stationOf, station}
 use Rattle.rules.specs.Table.{parentGood, tableVerdict}
-use Rattle.rules.specs.Status.{entries, statusOf, status, stateVerdict}
+use Rattle.rules.specs.Status.{entriesSize, entries, statusOf, status, stateVerdict}
 use Rattle.rules.specs.Calls.{wordOf}
 use Rattle.rules.specs.Sleep.{isSleep, Choice, leastChoice, stays, moves, noneMoves, offsAlone}
 use Rattle.rules.specs.BringUp.{bringUpList, stateBroughtUp}
@@ -32,12 +32,13 @@ use Rattle.laws.proofs.Accepted.{accepted}
 use Rattle.laws.proofs.Kept.{StationRules}
 use Rattle.laws.proofs.States.{station-rules, consistent-of}
 use Rattle.laws.proofs.Stages.{bring-up-pass}
-use Rattle.laws.proofs.BringUp.{consistent-passes, offs-alone}
+use Rattle.laws.proofs.BringUp.{consistent-passes}
 use Rattle.laws.proofs.Plans.{words-sleep, bytes-sleep}
 use Rattle.laws.proofs.Choice.{least-is-choice}
 use Rattle.laws.proofs.SleepMoves.{reachable}
 use Rattle.laws.proofs.SleepStages.{SleepPassed, sleep-of}
-use Rattle.laws.proofs.Sleep.{sleep-offs, sleep-lists}
+use Rattle.laws.proofs.Sleep.{offs-list, sleep-offs, sleep-lists}
+use Rattle.table.specs.Layout.{WellSized}
 use Rattle.status.specs.Ready.{Ready}
 use Rattle.request.proofs.Chain.{ready-of}
 use Rattle.switching.specs.Written.{WrittenPlan}
@@ -159,11 +160,6 @@ module _ (t b : List ℕ) (q : Request) (plan : List ℕ) (kind : isSleep q ≡ 
         (w .elements ∙ ap (λ (ws : List ℕ). put plan 0 (wordBytes ws)) list)
 
 -- ---- the list, by whether a device moves; s is what the test returned
-offs-list : (t b : List ℕ) → passes (tableVerdict t) ≡ true → passes (stateVerdict t b) ≡ true
-    → map wordOf (offsAlone (station t) (status t b)) ≡ bringUpList t b
-unfolding offsAlone
-offs-list t b e f = rw (offs-alone t b e f) (simp map-map)
-
 -- the room of one list is in that of all
 one-of-all : (t : List ℕ) → listRoom (width t) ≤ limit (width t) * listRoom (width t)
 one-of-all t =
@@ -183,6 +179,16 @@ sleep-short t b q g =
 module _ (t b chosen : List ℕ) (g : Given t b chosen) where
   pub given-ready : Ready t b
   given-ready = g .ready
+
+  pub given-sized : WellSized t
+  given-sized = g .ready .sized
+
+  pub given-long : entriesSize (width t) ≤ length b
+  given-long = g .ready .long
+
+  pub given-32 : (sets : List ℕ) → length sets ≡ 32 → countD t ≤ length sets
+  unfolding versionWidth width
+  given-32 sets l = omega (arith, g .ready .sized .devices)
 
   pub given-up : BringUpState t b
   given-up =
@@ -215,6 +221,8 @@ module _ (t b chosen : List ℕ) (g : Given t b chosen) where
         n b′ plan′ → WrittenFrom size written (choiceList t b (statesIn chosen)) (choiceState t b (statesIn chosen)) plan 0 n b′ plan′
     unfolding choiceList choiceState
     choice-moves e size written n b′ plan plan′ w = rw (still-is ∙ e) w
+
+pub ruleset looking = (given-sized, given-long, given-32)
 
 pub ruleset choosing = (given-ready, given-up, one-list, one-list-bytes)
 

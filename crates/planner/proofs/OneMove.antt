@@ -11,11 +11,16 @@ use lib.ListN.{length, take}
 use Rattle.sets.proofs.Laws.{decide}
 use Rattle.words.specs.Words.{put, wordBytes}
 use Rattle.words.proofs.Put.{put-none, take-put}
-use Rattle.rules.specs.Station.{width}
-use Rattle.rules.specs.Status.{entries, statusOf, status}
+use Rattle.rules.specs.Station.{width, station}
+use Rattle.rules.specs.Status.{entryAt, entries, statusOf, status}
+use Rattle.rules.specs.Power.{needs}
+use Rattle.rules.specs.Request.{inState}
+use Rattle.rules.specs.Calls.{endSet}
 use Rattle.rules.specs.Sleep.{moveTo, stays}
 use Rattle.rules.specs.Outcomes.{listRoom}
+use Rattle.rules.specs.declared.Entry.{Entry}
 use Rattle.status.specs.Ready.{Ready}
+use Rattle.status.proofs.Keeps.{entry-ready}
 use Rattle.request.specs.Permitted.{PermittedRequest}
 use Rattle.switching.specs.Written.{WrittenPlan}
 use Rattle.switching.proofs.Answered.{front-bytes}
@@ -55,12 +60,21 @@ module _ (t b chosen : List ℕ) (d : ℕ) (s : Bool) (test : s ≡ stays (entri
     pub move-asked : Turn t b chosen d → PermittedRequest t b (moveTo d a)
     move-asked g = rw is (g .permitted (stays-is ∙ e))
 
+    pub move-needed : (set : ℕ) → set ≡ endSet (station t) (entries t b) (moveTo d (statesIn chosen d))
+        → set ≡ endSet (station t) (entries t b) (moveTo d a)
+    move-needed set n = rw is n
+
     pub move-some : (n : ℕ) (b′ calls calls′ : List ℕ) → Written t b (moveTo d a) calls n b′ calls′
         → WrittenPlan (moveList t b (statesIn chosen) d) (stateMoved t b (statesIn chosen) d) calls n b′ calls′
     unfolding moveList stateMoved
     move-some n b′ calls calls′ w = rw (stays-is ∙ e, ← is) w
 
-pub ruleset one-move = (turn-ready, device-fits, move-none, move-asked, move-some)
+-- what it needs in the state that was chosen; e is its entry
+pub chosen-needed : (t b chosen : List ℕ) (d : ℕ) (e : Entry) (r : ℕ) → Turn t b chosen d → e ≡ entryAt b (4 * d)
+    → r ≡ needs (station t) d (inState e (statesIn chosen d)) → r ≡ needs (station t) d (inState (entries t b d) (statesIn chosen d))
+chosen-needed t b chosen d e r g read k = k ∙ rw (entry-ready t b d e (g .ready) (g .device) read) refl
+
+pub ruleset one-move = (turn-ready, device-fits, move-none, move-asked, move-needed, move-some)
 
 -- ---- from the buffer of one plan into the plan, from word `at` on
 module _ (list after : List ℕ) (n : ℕ) (b′ calls calls′ : List ℕ) (w : WrittenPlan list after calls n b′ calls′) (plan plan′ : List ℕ)

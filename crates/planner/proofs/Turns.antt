@@ -9,7 +9,8 @@ use native.Mathlib.Omega.{arith}
 use mir.Syntax.{w64}
 use mir.Val.{Fits}
 use borrow.Author.Tests.{eqb-true}
-use lib.ListN.{length, length-append}
+use lib.ListN.{length, getD, length-append}
+use Rattle.sets.specs.Sets.{union}
 use Rattle.sets.proofs.Laws.{decide}
 use Rattle.words.specs.Words.{wordBytes}
 use Rattle.words.proofs.Laws.{word-bytes-length, word-bytes-append}
@@ -17,9 +18,12 @@ use Rattle.words.proofs.Put.{Going, going-start, going-run, going-done}
 use Rattle.rules.specs.declared.Entry.{Entry}
 use Rattle.rules.specs.declared.Request.{Request}
 use Rattle.rules.specs.Answers.{passes}
-use Rattle.rules.specs.Station.{width, limit, countD, stationOf, station}
+use Rattle.rules.specs.Station.{Station, width, limit, countD, stationOf, station}
 use Rattle.rules.specs.Table.{tableVerdict}
-use Rattle.rules.specs.Status.{status, stateVerdict}
+use Rattle.rules.specs.Power.{needs, neededBelow}
+use Rattle.rules.specs.Status.{entries, statusOf, status, stateVerdict}
+use Rattle.rules.specs.Request.{inState, newEntry}
+use Rattle.rules.specs.Calls.{endSet}
 use Rattle.rules.specs.Sleep.{moveTo, stays, moves}
 use Rattle.rules.specs.Outcomes.{listRoom, planned, stateAfter, plannedEach, stateAfterEach}
 use Rattle.laws.specs.Sleep.{InTurn}
@@ -29,6 +33,8 @@ use Rattle.laws.proofs.Lists.{number-passes, one-each, written-none}
 use Rattle.laws.proofs.Moves.{Reachable, Moving, moving-start, moving-stays, moving-moves, move-permitted}
 use Rattle.laws.proofs.SleepMoves.{reachable, moved}
 use Rattle.switching.proofs.Short.{planned-short}
+use Rattle.status.specs.Needs.{neededFrom, BelowIn}
+use Rattle.status.proofs.NeededLaws.{from-same, from-one, with-parts}
 use Rattle.request.proofs.Chain.{ready-of}
 use Rattle.request.proofs.Changes.{permitted-of}
 use Rattle.sleep.specs.Chosen.{statesIn}
@@ -91,6 +97,34 @@ module _ (t b b′ : List ℕ) (states : ℕ → ℕ) (j : ℕ) (same : status t
   step-moving p next m =
       decide (stays (status t b .entries) states j)
       (λ z. rw (same, z) (moving-stays t b states j b′ (eqb-true _ _ z) m)) (λ z. rw (same, z) next)
+
+-- ---- the set needed after a move; `above` is what the devices above j need, `own` what j needs in its state among these
+below-same : (s : Station) (f g : ℕ → Entry) (n : ℕ) → ((k : ℕ) → k < n → f k ≡ g k) → neededBelow s f n ≡ neededBelow s g n
+unfolding neededBelow
+below-same s f g zero h = refl
+below-same s f g (suc n) h = rw (h n (omega arith), below-same s f g n (λ k l. h k (omega arith))) refl
+
+module _ (t b b′ chosen : List ℕ) (j : ℕ) (h : j < countD t) (m : Moving t b (statesIn chosen) (suc j) b′) (own above : ℕ)
+    (o : own ≡ needs (station t) j (inState (entries t b′ j) (statesIn chosen j)))
+    (a : above ≡ neededFrom (station t) (entries t b′) 0 (j + 1) (countD t - (j + 1))) where
+  set-after : (below : List ℕ) → BelowIn t b (countD t) below
+      → union (getD below j 0) (union own above) ≡ endSet (station t) (entries t b′) (moveTo j (statesIn chosen j))
+  unfolding endSet newEntry statusOf
+  set-after below s =
+      with-parts t b′ j (getD below j 0) own above (inState (entries t b′ j) (statesIn chosen j)) h
+      (s .before j h ∙ below-same (station t) (entries t b) (entries t b′) j (λ k l. sym (m .before k (omega arith)))) o a
+
+  above-after : (b″ : List ℕ) → Moving t b (statesIn chosen) j b″
+      → union own above ≡ neededFrom (station t) (entries t b″) 0 j (countD t - j)
+  unfolding statusOf stationOf
+  above-after b″ m″ =
+      let k = countD t - (j + 1) in
+      let same : (i : ℕ) → j + 1 ≤ i → i < j + 1 + k → entries t b′ i ≡ entries t b″ i =
+      λ i l u. m .moved i (omega arith) (omega arith) ∙ sym (m″ .moved i (omega arith) (omega arith)) in
+      let mine : inState (entries t b′ j) (statesIn chosen j) ≡ entries t b″ j =
+      rw (m .before j (omega arith)) (sym (m″ .moved j (omega arith) h)) in
+      let one : countD t - j ≡ suc k = omega arith in
+      rw one (rw (o, a, mine, from-same (station t) (entries t b′) (entries t b″) 0 (j + 1) k same) (sym (from-one (station t) (entries t b″) j k)))
 
 -- ---- the devices from i on have moved; n words are written
 pub record Underway (size : ℕ) (written : List ℕ → List ℕ) (t b chosen plan : List ℕ) (i n : ℕ) (b′ plan′ : List ℕ) : Type 0 where
@@ -198,10 +232,34 @@ module _ (size : ℕ) (written : List ℕ → List ℕ) (long : (ws : List ℕ) 
         let most = product-4160 (limit (width t)) (listRoom (width t)) (omega (arith, wide .high)) (omega (arith, wide .high)) in
         record { fits = omega (arith, counted (i - 1) n b′ plan′ (omega arith) before-last, all-short t b chosen g, most, e) }
 
+    -- the set needed after the next move, and what is carried on
+    module _ (own above above′ : ℕ) (o : own ≡ needs (station t) (i - 1) (inState (entries t b′ (i - 1)) (statesIn chosen (i - 1))))
+        (a : above ≡ neededFrom (station t) (entries t b′) 0 i (countD t - i)) (all : above′ ≡ union own above) where
+      carried : above ≡ neededFrom (station t) (entries t b′) 0 (i - 1 + 1) (countD t - (i - 1 + 1))
+      carried = let e : i - 1 + 1 ≡ i = omega arith in rw e a
+
+      needed-below : (below : List ℕ) (set : ℕ) → BelowIn t b (countD t) below → set ≡ union (getD below (i - 1) 0) above′
+          → set ≡ endSet (station t) (entries t b′) (moveTo (i - 1) (statesIn chosen (i - 1)))
+      needed-below below set s e =
+          e ∙ rw all (set-after t b b′ chosen (i - 1) (omega arith) (before-last .moving) own above o carried below s)
+
+      above-below : (m : ℕ) (b″ plan″ : List ℕ)
+          → WrittenFrom size written (moveList t b′ (statesIn chosen) (i - 1)) (stateMoved t b′ (statesIn chosen) (i - 1)) plan′ n m b″ plan″
+          → size * (limit (width t) * listRoom (width t)) ≤ length plan
+          → above′ ≡ neededFrom (station t) (entries t b″) 0 (i - 1) (countD t - (i - 1))
+      above-below m b″ plan″ w r =
+          all ∙ above-after t b b′ chosen (i - 1) (omega arith) (before-last .moving) own above o carried b″
+          (next (i - 1) n b′ plan′ (omega arith) before-last r m b″ plan″ w .moving)
+
     next-below : size * (limit (width t) * listRoom (width t)) ≤ length plan → (m : ℕ) (b″ plan″ : List ℕ)
         → WrittenFrom size written (moveList t b′ (statesIn chosen) (i - 1)) (stateMoved t b′ (statesIn chosen) (i - 1)) plan′ n m b″ plan″
         → Underway size written t b chosen plan (i - 1) (n + m) b″ plan″
     next-below = next (i - 1) n b′ plan′ (omega arith) before-last
+
+-- no device is above the last
+pub none-above : (s : Station) (f : ℕ → Entry) (n m : ℕ) → n ≡ m → 0 ≡ neededFrom s f 0 n (m - n)
+unfolding neededFrom
+none-above s f n m e = let z : m - n ≡ 0 = omega arith in rw z refl
 
 -- ---- on words
 module _ (t b chosen plan : List ℕ) (g : Given t b chosen) where
@@ -232,6 +290,17 @@ module _ (t b chosen plan : List ℕ) (g : Given t b chosen) where
             → Underway 1 (λ ws. ws) t b chosen plan (i - 1) (n + m) b″ plan″
         words-next = next-below 1 (λ ws. ws) one-each (λ xs ys. refl) t b chosen plan g i n b′ plan′ h k u room-1
 
+        module _ (own above above′ : ℕ) (o : own ≡ needs (station t) (i - 1) (inState (entries t b′ (i - 1)) (statesIn chosen (i - 1))))
+            (a : above ≡ neededFrom (station t) (entries t b′) 0 i (countD t - i)) (all : above′ ≡ union own above) where
+          pub words-needed : (below : List ℕ) (set : ℕ) → BelowIn t b (countD t) below → set ≡ union (getD below (i - 1) 0) above′
+              → set ≡ endSet (station t) (entries t b′) (moveTo (i - 1) (statesIn chosen (i - 1)))
+          words-needed = needed-below 1 (λ ws. ws) one-each (λ xs ys. refl) t b chosen plan g i n b′ plan′ h k u own above above′ o a all
+
+          pub words-above : (m : ℕ) (b″ plan″ : List ℕ)
+              → WrittenFrom 1 (λ ws. ws) (moveList t b′ (statesIn chosen) (i - 1)) (stateMoved t b′ (statesIn chosen) (i - 1)) plan′ n m b″ plan″
+              → above′ ≡ neededFrom (station t) (entries t b″) 0 (i - 1) (countD t - (i - 1))
+          words-above m b″ plan″ w = above-below 1 (λ ws. ws) one-each (λ xs ys. refl) t b chosen plan g i n b′ plan′ h k u own above above′ o a all m b″ plan″ w room-1
+
     pub words-end : i ≤ 0
         → WrittenFrom 1 (λ ws. ws) (plannedEach t b (allMoves t b (statesIn chosen))) (stateAfterEach t b (allMoves t b (statesIn chosen))) plan 0 n
         b′ plan′
@@ -239,7 +308,7 @@ module _ (t b chosen plan : List ℕ) (g : Given t b chosen) where
         let e : i ≡ 0 = omega arith in
         ended 1 (λ ws. ws) one-each (λ xs ys. refl) t b chosen plan g n b′ plan′ (rw e at u)
 
-pub ruleset by-words = (words-start, words-turn, words-sum, words-room, words-next, words-end)
+pub ruleset by-words = (words-start, words-turn, words-sum, words-room, words-needed, words-above, words-next, words-end, none-above)
 
 -- ---- on bytes, four a word
 module _ (t b chosen plan : List ℕ) (g : Given t b chosen) where
@@ -265,6 +334,17 @@ module _ (t b chosen plan : List ℕ) (g : Given t b chosen) where
             → Underway 4 wordBytes t b chosen plan (i - 1) (n + m) b″ plan″
         bytes-next = next-below 4 wordBytes word-bytes-length word-bytes-append t b chosen plan g i n b′ plan′ h k u r
 
+        module _ (own above above′ : ℕ) (o : own ≡ needs (station t) (i - 1) (inState (entries t b′ (i - 1)) (statesIn chosen (i - 1))))
+            (a : above ≡ neededFrom (station t) (entries t b′) 0 i (countD t - i)) (all : above′ ≡ union own above) where
+          pub bytes-needed : (below : List ℕ) (set : ℕ) → BelowIn t b (countD t) below → set ≡ union (getD below (i - 1) 0) above′
+              → set ≡ endSet (station t) (entries t b′) (moveTo (i - 1) (statesIn chosen (i - 1)))
+          bytes-needed = needed-below 4 wordBytes word-bytes-length word-bytes-append t b chosen plan g i n b′ plan′ h k u own above above′ o a all
+
+          pub bytes-above : (m : ℕ) (b″ plan″ : List ℕ)
+              → WrittenFrom 4 wordBytes (moveList t b′ (statesIn chosen) (i - 1)) (stateMoved t b′ (statesIn chosen) (i - 1)) plan′ n m b″ plan″
+              → above′ ≡ neededFrom (station t) (entries t b″) 0 (i - 1) (countD t - (i - 1))
+          bytes-above m b″ plan″ w = above-below 4 wordBytes word-bytes-length word-bytes-append t b chosen plan g i n b′ plan′ h k u own above above′ o a all m b″ plan″ w r
+
     pub bytes-end : i ≤ 0
         → WrittenFrom 4 wordBytes (plannedEach t b (allMoves t b (statesIn chosen))) (stateAfterEach t b (allMoves t b (statesIn chosen))) plan 0 n
         b′ plan′
@@ -272,4 +352,4 @@ module _ (t b chosen plan : List ℕ) (g : Given t b chosen) where
         let e : i ≡ 0 = omega arith in
         ended 4 wordBytes word-bytes-length word-bytes-append t b chosen plan g n b′ plan′ (rw e at u)
 
-pub ruleset by-bytes = (bytes-start, bytes-turn, bytes-sum, bytes-room, bytes-next, bytes-end)
+pub ruleset by-bytes = (bytes-start, bytes-turn, bytes-sum, bytes-room, bytes-needed, bytes-above, bytes-next, bytes-end, none-above)

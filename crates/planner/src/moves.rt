@@ -1,10 +1,16 @@
 // Sleep entry once its checks have passed: the devices move to the states that were chosen, by falling number, each with the list of its
 // request, through the buffer of one plan; where none moves, what is not needed is turned off.
+use rules::Entry;
 use rules::Request;
 ghost use mathlib.Core.Path.{_≡_};
 ghost use Prim.Native.Nat.{_+_, _*_, _≤_};
 ghost use lib.ListN.{length};
-ghost use Rattle.rules.specs.Station.{width, limit};
+ghost use Rattle.rules.specs.Station.{width, limit, station};
+ghost use Rattle.rules.specs.Power.{needs};
+ghost use Rattle.rules.specs.Status.{entries};
+ghost use Rattle.rules.specs.Request.{inState};
+ghost use Rattle.rules.specs.Calls.{endSet};
+ghost use Rattle.rules.specs.Sleep.{moveTo};
 ghost use Rattle.rules.specs.Outcomes.{listRoom, plannedEach, stateAfterEach};
 ghost use Rattle.switching.specs.Written.{WrittenPlan};
 ghost use Rattle.sleep.specs.Chosen.{statesIn};
@@ -17,15 +23,33 @@ pub fn room(table: &[u8]) -> usize
     table::fields::limit(table) * switching::write::room(table)
 }
 
-// The calls and the state of device d's move to its state in `chosen`; none if it stays.
+// What device d needs in its state in `chosen`.
+pub fn chosen_needs(table: &[u8], devices: &[u8], chosen: &[u8], d: usize) -> u32
+    requires { ⌜ Turn (now table) (now devices) (now chosen) d ⌝ }
+    ensures { λ r. ⌜ r ≡ needs (station (now (table .entry))) d
+        (inState (entries (now (table .entry)) (now (devices .entry)) d) (statesIn (now (chosen .entry)) d)) ⌝ }
+{
+    let e = status::image::entry(devices, d);
+    let taken = Entry {
+        state: chosen[d],
+        armed: e.armed,
+        sleep: e.sleep,
+        wake: e.wake,
+    };
+    power::needs(table, d, taken)
+}
+
+// The calls and the state of device d's move to its state in `chosen`, from the set needed after it; none if it stays.
 pub fn write_move(
     table: &[u8],
     state: &mut [u8],
     chosen: &[u8],
     d: usize,
+    needed: u32,
     calls: &mut [u32],
 ) -> usize
-    requires { ⌜ Turn (now table) (now state) (now chosen) d × (listRoom (width (now table)) ≤ length (now calls)) ⌝ }
+    requires { ⌜ Turn (now table) (now state) (now chosen) d × (listRoom (width (now table)) ≤ length (now calls))
+        × (needed ≡ endSet (station (now table)) (entries (now table) (now state)) (moveTo d (statesIn (now chosen) d))) ⌝ }
     ensures { λ r. ⌜ WrittenPlan (moveList (now (table .entry)) (now (state .entry)) (statesIn (now (chosen .entry))) d)
         (stateMoved (now (table .entry)) (now (state .entry)) (statesIn (now (chosen .entry))) d)
         (now (calls .entry)) r (now (state .exit)) (now (calls .exit)) ⌝ }
@@ -39,7 +63,7 @@ pub fn write_move(
         a: words::wide(chosen[d]),
         b: 0,
     };
-    crate::plan::write_plan(table, state, q, calls)
+    crate::plan::write_plan(table, state, q, needed, calls)
 }
 
 // The same, with the calls from word `at` of the plan on.
@@ -48,22 +72,25 @@ fn move_words(
     state: &mut [u8],
     chosen: &[u8],
     d: usize,
+    needed: u32,
     plan: &mut [u32],
     at: usize,
 ) -> usize
     requires { ⌜ Turn (now table) (now state) (now chosen) d
+        × (needed ≡ endSet (station (now table)) (entries (now table) (now state)) (moveTo d (statesIn (now chosen) d)))
         × (at + length (moveList (now table) (now state) (statesIn (now chosen)) d) ≤ length (now plan)) ⌝ }
     ensures { λ r. ⌜ WrittenFrom 1 (λ ws. ws) (moveList (now (table .entry)) (now (state .entry)) (statesIn (now (chosen .entry))) d)
         (stateMoved (now (table .entry)) (now (state .entry)) (statesIn (now (chosen .entry))) d)
         (now (plan .entry)) at r (now (state .exit)) (now (plan .exit)) ⌝ }
 {
     let mut calls = [0u32; 33];
-    let n = write_move(table, state, chosen, d, &mut calls);
+    let n = write_move(table, state, chosen, d, needed, &mut calls);
     words::copy_words(&calls, n, plan, at);
     n
 }
 
-// The calls of all moves, and the state after them.
+// The calls of all moves, and the state after them. What the devices below the one that moves need is worked out once, and what those from
+// it on need is carried on from move to move.
 fn write_moves(table: &[u8], state: &mut [u8], chosen: &[u8], plan: &mut [u32]) -> usize
     requires { ⌜ Given (now table) (now state) (now chosen)
         × (limit (width (now table)) * listRoom (width (now table)) ≤ length (now plan)) ⌝ }
@@ -72,11 +99,16 @@ fn write_moves(table: &[u8], state: &mut [u8], chosen: &[u8], plan: &mut [u32]) 
         (stateAfterEach (now (table .entry)) (now (state .entry)) (allMoves (now (table .entry)) (now (state .entry)) (statesIn (now (chosen .entry)))))
         (now (plan .entry)) 0 r (now (state .exit)) (now (plan .exit)) ⌝ }
 {
+    let mut below = [0u32; 32];
+    status::needed::needed_before(table, state, &mut below);
+    let mut above: u32 = 0;
     let mut n = 0;
     let mut i = table::fields::devices(table);
     while 0 < i {
         i -= 1;
-        n += move_words(table, state, chosen, i, plan, n);
+        above = sets::union(chosen_needs(table, state, chosen, i), above);
+        let needed = sets::union(below[i], above);
+        n += move_words(table, state, chosen, i, needed, plan, n);
     }
     n
 }

@@ -1,6 +1,6 @@
 -- Which states a device may take, the least of them, and answers 10 and 20: a law for each way out of the code that tests them.
 use mathlib.Core.Path.{_≡_, refl, sym, ap, _∙_}
-use mathlib.Core.Bool.{Bool, true, false, not, _&&_, and-false}
+use mathlib.Core.Bool.{Bool, true, false, not, _&&_, and-true, and-false}
 use mathlib.Core.Logic.{⊎-elim}
 use mathlib.Core.List.{List}
 use Prim.Native.Nat.{ℕ, _+_, _*_, _-_, _≤_, _<_}
@@ -26,10 +26,6 @@ use Rattle.laws.proofs.Choice.{least-by}
 use Rattle.status.specs.Ready.{Ready}
 use Rattle.status.proofs.Keeps.{entry-ready}
 use Rattle.sleep.specs.Chosen.{statesIn, LeastIn}
-
-and-whole : (b : Bool) → b && true ≡ b
-and-whole true = refl
-and-whole false = refl
 
 -- ---- 10
 module _ (q : Request) where
@@ -111,7 +107,7 @@ module _ (s : Station) (x d : ℕ) (e : Entry) (y : ℕ) where
             → set ≡ needs s d (inState e y) → r ≡ poweredIn s x set → r ≡ mayTake s x d e y
         unfolding mayTake
         take-powered h nw nl nk set r a p =
-            p ∙ rw (a, ← o, ← j, ← i, le-leb (e .state) y h, not-false w nw, not-false l nl, not-false k nk) (sym (and-whole _))
+            p ∙ rw (a, ← o, ← j, ← i, le-leb (e .state) y h, not-false w nw, not-false l nl, not-false k nk) (sym (and-true _))
 
 pub ruleset taking = (take-shallower, take-wake, take-sxd, take-unsupported, take-powered)
 
@@ -138,7 +134,7 @@ module _ (s : Station) (states : ℕ → ℕ) (x d : ℕ) (e : Entry) (y : ℕ) 
   both-not n = rw (← i, not-true u n) (sym (and-false (mayTake s x d e y)))
 
   pub both-rest : not u ≡ false → (r : Bool) → r ≡ mayTake s x d e y → r ≡ mayTake s x d e y && underParent s states d y
-  both-rest n r j = j ∙ rw (← i, not-false u n) (sym (and-whole (mayTake s x d e y)))
+  both-rest n r j = j ∙ rw (← i, not-false u n) (sym (and-true (mayTake s x d e y)))
 
 pub ruleset both-laws = (both-not, both-rest)
 

@@ -8,7 +8,7 @@ ghost use Rattle.rules.specs.Power.{needed};
 ghost use Rattle.rules.specs.Status.{entriesSize, entries};
 ghost use Rattle.rules.specs.Request.{replaceEntry};
 ghost use Rattle.table.specs.Layout.{WellSized};
-ghost use Rattle.status.specs.Needs.{neededFrom};
+ghost use Rattle.status.specs.Needs.{neededFrom, BelowIn};
 
 // A set with what the devices from one number up to another need.
 fn needed_from(table: &[u8], devices: &[u8], set: u32, from: usize, end: usize) -> u32
@@ -34,7 +34,24 @@ pub fn needed(table: &[u8], devices: &[u8]) -> u32
     needed_from(table, devices, 0, 0, table::fields::devices(table))
 }
 
-// The same with e for device d's entry: so no caller writes an entry to learn what it would need. The devices before d and after it go by
+// For each device what those before it need, from the start of `out`.
+pub fn needed_before(table: &[u8], devices: &[u8], out: &mut [u32])
+    requires { ⌜ WellSized (now table) × (entriesSize (width (now table)) ≤ length (now devices)) × (countD (now table) ≤ length (now out)) ⌝ }
+    ensures { λ _. ⌜ BelowIn (now (table .entry)) (now (devices .entry)) (countD (now (table .entry))) (now (out .exit))
+        × (length (now (out .exit)) ≡ length (now (out .entry))) ⌝ }
+{
+    let n = table::fields::devices(table);
+    let mut all: u32 = 0;
+    let mut i = 0;
+    while i < n {
+        out[i] = all;
+        let e = crate::image::entry(devices, i);
+        all = sets::union(all, power::needs(table, i, e));
+        i += 1;
+    }
+}
+
+// The needed set with e for device d's entry: so no caller writes an entry to learn what it would need. The devices before d and after it go by
 // turns of their own, so that no turn asks which device it is at.
 pub fn needed_with(table: &[u8], devices: &[u8], d: usize, e: Entry) -> u32
     requires { ⌜ WellSized (now table) × (entriesSize (width (now table)) ≤ length (now devices)) × (d < countD (now table)) ⌝ }

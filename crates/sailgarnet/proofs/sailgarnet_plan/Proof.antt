@@ -10,8 +10,7 @@ pack-requires c κs = fits _ _ (c .before .before .before .before .plan-bytes .e
 returns : tie.Need-returns
 returns c =
     let planned = c .before .before .before .before .before .plan-bytes .ensures in
-    let answer = packs _ _ _ (planned .0) (c .pack .ensures) in
-    (
+    let answer = packs _ _ _ (planned .0) (c .pack .ensures) in (
       answer,
       (
         search needs,

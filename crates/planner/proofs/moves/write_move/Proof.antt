@@ -5,7 +5,7 @@ use Rattle.planner.proofs.moves.write_move.Statement.{statement}
 use Rattle.planner.proofs.moves.write_move.Tie as tie
 
 write-plan-requires : tie.Need-write-plan-requires
-write-plan-requires c κs = (search (needs, one-move), search needs)
+write-plan-requires c κs = (search (needs, one-move), search needs, search (needs, one-move))
 
 pub write-move-spec : {M : Type 1} → statement M
 write-move-spec =

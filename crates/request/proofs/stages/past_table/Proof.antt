@@ -1,5 +1,5 @@
--- A refusal before the request is the answer; what has passed gives what the request's checks ask.
-use Rattle.request.proofs.Chain.{to-last}
+-- Each return is the first answer that refuses; what has passed gives what the next stage asks.
+use Rattle.request.proofs.Chain.{to-request}
 use borrow.Author.Needs.{needs}
 use Rattle.request.proofs.stages.past_table.Statement.{statement}
 use Rattle.request.proofs.stages.past_table.Tie as tie
@@ -10,6 +10,7 @@ past-table-spec =
     (tie.spec
     (λ c κs. search needs)
     (λ c κs. search needs)
-    (λ c. search (needs, to-last))
-    (λ c κs. search (needs, to-last))
-    (λ c. search (needs, to-last)))
+    (λ c. search (needs, to-request))
+    (λ c. search (needs, to-request))
+    (λ c κs. search (needs, to-request))
+    (λ c. search (needs, to-request)))

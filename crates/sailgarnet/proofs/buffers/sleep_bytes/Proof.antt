@@ -54,10 +54,9 @@ write-choice-requires c κs =
     let room = table .before .before .before in
     let good = table-passed _ _ _ (table .check-past-header .ensures) (checked .passes .ensures) (made .if2 .left) in
     let e = asked .past-table .ensures in
-    let f = answer .passes2 .ensures in
-    (
+    let f = answer .passes2 .ensures in (
       choice-given _ _ _ _ _ _ (room .room .ensures .0) _ _ f _ (e .0) (e .1) (left .if3 .left)
-      (search (needs, states-32, good)),
+          (search (needs, states-32, good)),
       sleep-room-bytes _ _ _ _ _ _ (room .room .ensures .0) _ _ f _ (e .0) (e .1) (left .if3 .left) _ refl,
     )
 

@@ -1,8 +1,8 @@
 -- Each return is the first answer that refuses, or done.
 use Rattle.request.proofs.Chain.{in-turn}
 use borrow.Author.Needs.{needs}
-use Rattle.request.proofs.stages.ready.Statement.{statement}
-use Rattle.request.proofs.stages.ready.Tie as tie
+use Rattle.sleep.proofs.stages.ready.Statement.{statement}
+use Rattle.sleep.proofs.stages.ready.Tie as tie
 
 pub ready-spec : {M : Type 1} → statement M
 ready-spec =
