@@ -11,28 +11,39 @@ use lib.ListN.{length, take}
 use Rattle.sets.proofs.Laws.{decide}
 use Rattle.words.specs.Words.{put, wordBytes}
 use Rattle.words.proofs.Put.{put-none, take-put}
-use Rattle.rules.specs.Station.{width, station}
-use Rattle.rules.specs.Status.{entryAt, entries, statusOf, status}
+use Rattle.rules.specs.Station.{width, limit, station}
+use Rattle.rules.specs.Status.{entryAt, entries, statusOf, status, imageSize, imageOf}
 use Rattle.rules.specs.Power.{needs}
-use Rattle.rules.specs.Request.{inState}
-use Rattle.rules.specs.Calls.{endSet}
+use Rattle.rules.specs.Request.{inState, newEntry}
+use Rattle.rules.specs.Calls.{endSet, statusAfter, switchingWords, changeOf}
 use Rattle.rules.specs.Sleep.{moveTo, stays}
-use Rattle.rules.specs.Outcomes.{listRoom}
+use Rattle.rules.specs.Outcomes.{listRoom, stateAfter}
+use Rattle.rules.specs.declared.Change.{Change}
 use Rattle.rules.specs.declared.Entry.{Entry}
-use Rattle.status.specs.Ready.{Ready}
+use Rattle.table.specs.Layout.{WellSized}
+use Rattle.status.specs.Ready.{Ready, statusWith, inStateWith}
 use Rattle.status.proofs.Keeps.{entry-ready}
 use Rattle.request.specs.Permitted.{PermittedRequest}
 use Rattle.switching.specs.Written.{WrittenPlan}
 use Rattle.switching.proofs.Answered.{front-bytes}
 use Rattle.sleep.specs.Chosen.{statesIn}
-use Rattle.planner.specs.Plan.{Written}
 use Rattle.planner.specs.Moves.{moveList, stateMoved, Turn, WrittenFrom}
+use Rattle.planner.proofs.Whole.{list-is}
 use Rattle.planner.proofs.Room.{room-33, words-33, request-room}
 
 -- ---- what a turn has shown
 module _ (t b chosen : List ℕ) (d : ℕ) (g : Turn t b chosen d) where
   pub turn-ready : Ready t b
   turn-ready = g .ready
+
+  pub turn-sized : WellSized t
+  turn-sized = g .ready .sized
+
+  pub turn-long : length b ≡ imageSize (width t)
+  turn-long = g .long
+
+  pub turn-limit : d < limit (width t)
+  turn-limit = omega (arith, g .device, g .ready .sized .devices)
 
   pub device-fits : Fits w32 d
   device-fits = record { fits = omega (arith, g .device, g .ready .sized .devices, g .ready .sized .wide .high) }
@@ -64,17 +75,27 @@ module _ (t b chosen : List ℕ) (d : ℕ) (s : Bool) (test : s ≡ stays (entri
         → set ≡ endSet (station t) (entries t b) (moveTo d a)
     move-needed set n = rw is n
 
-    pub move-some : (n : ℕ) (b′ calls calls′ : List ℕ) → Written t b (moveTo d a) calls n b′ calls′
+    -- the words and the state, from the values as the code has them
+    pub move-some : (on : ℕ) (c : Change) (set n : ℕ) (b′ calls calls′ : List ℕ) → on ≡ status t b .on
+        → c ≡ changeOf (station t) (statusWith t b on) (moveTo d a) → set ≡ endSet (station t) (entries t b) (moveTo d (statesIn chosen d))
+        → n ≡ length (switchingWords (station t) (c .switching)) → calls′ ≡ put calls 0 (switchingWords (station t) (c .switching))
+        → b′ ≡ imageOf (width t) (inStateWith t b d (statesIn chosen d) set)
         → WrittenPlan (moveList t b (statesIn chosen) d) (stateMoved t b (statesIn chosen) d) calls n b′ calls′
-    unfolding moveList stateMoved
-    move-some n b′ calls calls′ w = rw (stays-is ∙ e, ← is) w
+    unfolding moveList stateMoved stateAfter statusAfter newEntry statusOf
+    move-some on c set n b′ calls calls′ o i s count written image =
+        let list = list-is t b (moveTo d a) on c o i in
+        rw (stays-is ∙ e, ← is) (record {
+          count = count ∙ ap length list;
+          state = image ∙ rw (s, ← is) refl;
+          words = written ∙ ap (put calls 0) list;
+        })
 
 -- what it needs in the state that was chosen; e is its entry
 pub chosen-needed : (t b chosen : List ℕ) (d : ℕ) (e : Entry) (r : ℕ) → Turn t b chosen d → e ≡ entryAt b (4 * d)
     → r ≡ needs (station t) d (inState e (statesIn chosen d)) → r ≡ needs (station t) d (inState (entries t b d) (statesIn chosen d))
 chosen-needed t b chosen d e r g read k = k ∙ rw (entry-ready t b d e (g .ready) (g .device) read) refl
 
-pub ruleset one-move = (turn-ready, device-fits, move-none, move-asked, move-needed, move-some)
+pub ruleset one-move = (turn-ready, turn-sized, turn-long, turn-limit, device-fits, move-none)
 
 -- ---- from the buffer of one plan into the plan, from word `at` on
 module _ (list after : List ℕ) (n : ℕ) (b′ calls calls′ : List ℕ) (w : WrittenPlan list after calls n b′ calls′) (plan plan′ : List ℕ)

@@ -28,6 +28,7 @@ use Rattle.rules.specs.Sleep.{moveTo, stays, moves}
 use Rattle.rules.specs.Outcomes.{listRoom, planned, stateAfter, plannedEach, stateAfterEach}
 use Rattle.laws.specs.Sleep.{InTurn}
 use Rattle.laws.proofs.Accepted.{accepted}
+use Rattle.laws.proofs.States.{consistent-of}
 use Rattle.laws.proofs.Stages.{Stages, stages-of}
 use Rattle.laws.proofs.Lists.{number-passes, one-each, written-none}
 use Rattle.laws.proofs.Moves.{Reachable, Moving, moving-start, moving-stays, moving-moves, move-permitted}
@@ -163,6 +164,7 @@ module _ (size : ℕ) (written : List ℕ → List ℕ) (long : (ws : List ℕ) 
     turn =
         record {
           ready = ready-of t b′ (g .table) (u .moving .state);
+          long = consistent-of t b′ (u .moving .state) .0;
           states = g .states;
           device = h;
           permitted = λ e. permitted-of t b′ (moveTo j (statesIn chosen j)) permitted;

@@ -44,10 +44,10 @@ changed-is st entered d c e = rw e refl
 -- ---- the words and the state of a permitted request, from the values as the code has them
 module _ (t b : List ℕ) (q : Request) (on : ℕ) (c : Change) (h : on ≡ status t b .on)
     (i : c ≡ changeOf (station t) (statusWith t b on) q) where
-  change-is : c ≡ changeOf (station t) (status t b) q
+  pub change-is : c ≡ changeOf (station t) (status t b) q
   change-is = i ∙ ap (λ (st : Status). changeOf (station t) st q) (status-with t b on h)
 
-  list-is : switchingWords (station t) (c .switching) ≡ planned t b q
+  pub list-is : switchingWords (station t) (c .switching) ≡ planned t b q
   unfolding planned calls
   list-is = rw change-is (words-are (ownCall (station t) (status t b .entries (q .device)) q) (ownLast q) (status t b .on) _ (station t))
 

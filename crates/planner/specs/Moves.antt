@@ -10,7 +10,7 @@ use Rattle.rules.specs.Index.{every}
 use Rattle.rules.specs.Answers.{passes}
 use Rattle.rules.specs.Station.{width, countD, station}
 use Rattle.rules.specs.Table.{tableVerdict}
-use Rattle.rules.specs.Status.{status, imageOf, stateVerdict}
+use Rattle.rules.specs.Status.{status, imageSize, imageOf, stateVerdict}
 use Rattle.rules.specs.Calls.{wordOf, statusNeeded}
 use Rattle.rules.specs.Sleep.{Choice, moveTo, stays, moves, offsAlone}
 use Rattle.rules.specs.Outcomes.{planned, stateAfter, plannedEach, stateAfterEach}
@@ -44,6 +44,7 @@ choiceState t b states =
 -- device d's turn has come: unless it stays, its move is permitted
 pub record Turn (t b chosen : List ℕ) (d : ℕ) : Type 0 where
   pub ready : Ready t b
+  pub long : length b ≡ imageSize (width t)
   pub states : countD t ≤ length chosen
   pub device : d < countD t
   pub permitted : stays (status t b .entries) (statesIn chosen) d ≡ false → PermittedRequest t b (moveTo d (statesIn chosen d))

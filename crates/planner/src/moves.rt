@@ -39,7 +39,8 @@ pub fn chosen_needs(table: &[u8], devices: &[u8], chosen: &[u8], d: usize) -> u3
     power::needs(table, d, taken)
 }
 
-// The calls and the state of device d's move to its state in `chosen`, from the set needed after it; none if it stays.
+// The calls and the state of device d's move to its state in `chosen`, from the set needed after it; none if it stays. The state is written
+// in the image itself, since 32 moves would copy it 64 times.
 pub fn write_move(
     table: &[u8],
     state: &mut [u8],
@@ -57,13 +58,18 @@ pub fn write_move(
     if sleep::choice::stays(table, state, chosen, d) {
         return 0;
     }
+    let y = chosen[d];
     let q = Request {
         kind: 1,
         device: d as u32,
-        a: words::wide(chosen[d]),
+        a: words::wide(y),
         b: 0,
     };
-    crate::plan::write_plan(table, state, q, needed, calls)
+    let on = status::image::on_set(table, state);
+    let c = request::change::change(table, state, on, needed, q);
+    let n = switching::write::write_calls(table, c.switching, calls);
+    status::image::set_state(table, state, d, y, needed);
+    n
 }
 
 // The same, with the calls from word `at` of the plan on.
