@@ -21,7 +21,10 @@
 extern "C" {
 #endif
 
-/* Sizes. A state image has 132 bytes, a plan at most 33 calls of four bytes, at most 32 resources and 32 devices. */
+/*
+ * Sizes. A state image has 132 bytes; a plan at most 33 calls of four bytes, that of a sleep entry at most 1,056; there
+ * are at most 32 resources and 32 devices.
+ */
 #define SAILGARNET_STATE_SIZE 132u
 #define SAILGARNET_ENTRIES_SIZE 128u /* the device entries of a state; its on-set is after them */
 #define SAILGARNET_PLAN_SIZE 132u

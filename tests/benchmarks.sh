@@ -33,7 +33,7 @@ switch; *arming again* gives an armed device another wake pair. The other rows a
 the last place that can be bad
 where there is one: the answer number says at which stage.
 
-Sleep entry to S3, which the planner alone has, is on the bench station with the camera armed for S3 and D2, and on a full
+Sleep entry for S3, which the planner alone has, is on the bench station with the camera armed for S3 and D2, and on a full
 table with other needs: device d needs resource d in D0 to D2 and the next one in D3hot, after the last resource the first;
 \`_S3D\` is D3hot for all; seven devices are armed for S3 and D3hot. From D0 every device moves, most of them with an own
 call, one \`_ON\` and one \`_OFF\`; from the state afterwards none moves. Its two refusals are of this table, at the last

@@ -74,13 +74,15 @@ def plans(page):
         sys.exit(f"not in examples/demo.out:\n{shown}")
 
 
-def power_on(page):
-    """The command brings the bench station up as shown, after the commands that leave it so; in a folder that is removed again."""
-    line, *expected = block(page, "sailgarnet bring-up")
+def command(page, heading, start):
+    """The first command of this section that begins so prints what is shown below it, after the commands that leave the state so; in a folder
+    that is removed again."""
+    section = page[page.index(f"\n## {heading}\n"):]
+    line, *expected = block(section, start)
     cargo = f"cargo run --quiet --offline --manifest-path '{os.getcwd()}/host/Cargo.toml' -p sailgarnet-cli --"
     with tempfile.TemporaryDirectory() as folder:
         os.symlink(os.path.abspath("examples"), os.path.join(folder, "examples"))
-        before = [f'sailgarnet() {{ {cargo} "$@"; }}', f"cd '{folder}'", *block(page, "sailgarnet fresh")]
+        before = [f'sailgarnet() {{ {cargo} "$@"; }}', f"cd '{folder}'", *block(section, "sailgarnet fresh examples/")]
         printed = run("\n".join([*before, "echo --", line]))
     if printed[printed.index("--") + 1:] != expected:
         sys.exit("\n".join([line, "prints", *printed]))
@@ -114,7 +116,8 @@ program(host, "rust", "host/sailgarnet/examples/first.rs", "cargo run --quiet --
 installed(readme, program(readme, "c", "examples/first.c", "gcc -Iinclude"))
 proving(readme)
 plans(readme)
-power_on(readme)
+command(readme, "At power-on", "sailgarnet bring-up")
+command(readme, "Sleep entry", "sailgarnet plan examples/station.pwt state sleep")
 mapped(readme)
 links("README.md")
 links("host/README.md")

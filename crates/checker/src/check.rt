@@ -17,8 +17,7 @@ pub fn conforming(table: &[u8], state: &[u8], q: Request, list: &[u32]) -> bool
         (now (list .entry)) ⌝ }
 {
     let on = status::image::on_set(table, state);
-    let needed = request::change::needed_after(table, state, q);
-    let c = request::change::change(table, state, on, needed, q);
+    let c = request::change::change(table, state, on, q);
     switching::walk::walk(table, c.switching, list)
 }
 

@@ -44,7 +44,9 @@ use Rattle.request.proofs.Chain.{ready-of}
 use Rattle.switching.specs.Written.{WrittenPlan}
 use Rattle.switching.proofs.Answered.{Answered}
 use Rattle.switching.proofs.Short.{up-short}
-use Rattle.sleep.specs.Chosen.{statesIn, LeastIn, Chosen}
+use Rattle.status.proofs.Filled.{filled-long, filled-at}
+use Rattle.sleep.specs.Chosen.{statesIn, leastEach, stagesLeft}
+use Rattle.sleep.proofs.Verdicts.{passed-least}
 use Rattle.bringup.specs.Passed.{BringUpState}
 use Rattle.planner.specs.Moves.{allMoves, choiceList, choiceState, Given, WrittenFrom}
 use Rattle.planner.proofs.Whole.{outcome-stops, outcome-done}
@@ -56,10 +58,10 @@ unfolding moves
 moves-same entries f g zero h = refl
 moves-same entries f g (suc n) h = rw (h n (omega arith), moves-same entries f g n (λ d l. h d (omega arith))) refl
 
-module _ (t b chosen : List ℕ) (x : ℕ) (c : LeastIn t b x (countD t) chosen) where
+module _ (t b chosen₀ chosen : List ℕ) (x : ℕ) (c : chosen ≡ leastEach t b x chosen₀) where
   chosen-at : (d : ℕ) → d < station t .devices → statesIn chosen d ≡ leastChoice (station t) (status t b .entries) x d
   unfolding stationOf statusOf
-  chosen-at d h = c .states d h
+  chosen-at d h = filled-at _ chosen₀ chosen (countD t) d c h
 
   all-same : every (stays (status t b .entries) (statesIn chosen)) (station t .devices) ≡ noneMoves (station t) (status t b .entries) x
   unfolding noneMoves
@@ -106,15 +108,18 @@ module _ (t b chosen : List ℕ) (x : ℕ) (c : LeastIn t b x (countD t) chosen)
 
 -- ---- v is the answer of the checks, p whether it passes; n is the room that a plan must have, in words, as the code has it
 module _ (t b : List ℕ) (q : Request) (chosen chosen′ : List ℕ) (n : ℕ) (i : n ≡ limit (width t) * listRoom (width t)) (v : Verdict)
-    (p : Bool) (f : p ≡ passes v) (room : Bool) (e : v ≡ sleepStages room t b q) (c : Chosen t b q v chosen chosen′) (k : not p ≡ false) where
-  passed : SleepPassed t b q × (room ≡ true)
-  passed = sleep-of room t b q (sym (ap passes e) ∙ sym f ∙ not-false p k)
+    (p : Bool) (f : p ≡ passes v) (room : Bool) (e : v ≡ sleepStages room t b q) (c : chosen′ ≡ stagesLeft room t b q chosen)
+    (k : not p ≡ false) where
+  passes-all : passes (sleepStages room t b q) ≡ true
+  passes-all = sym (ap passes e) ∙ sym f ∙ not-false p k
 
-  least-in : LeastIn t b (q .a) (countD t) chosen′
-  least-in = c .least (sym f ∙ not-false p k)
+  passed : SleepPassed t b q × (room ≡ true)
+  passed = sleep-of room t b q passes-all
 
   pub choice-given : countD t ≤ length chosen → Given t b chosen′
-  choice-given h = given t b chosen′ (q .a) least-in q (passed .0) refl (omega (arith, c .long))
+  choice-given h =
+      let least = passed-least t b q room chosen chosen′ passes-all c in
+      given t b chosen chosen′ (q .a) least q (passed .0) refl (omega (arith, filled-long _ chosen chosen′ (countD t) least h))
 
   pub sleep-room : (m : ℕ) → room ≡ leb n m → limit (width t) * listRoom (width t) ≤ m
   sleep-room m r = rw i at (leb-true n m (sym r ∙ passed .1))
@@ -134,14 +139,15 @@ module _ (t b : List ℕ) (q : Request) (plan : List ℕ) (kind : isSleep q ≡ 
     pub sleep-words-refused : not p ≡ true → Answered v b plan (planWords t b q plan)
     sleep-words-refused k = outcome-stops _ (λ r. sleepStages r t b q) _ b plan _ _ _ (words-sleep t b q plan kind) n i v p f e k
 
-    pub sleep-words-planned : not p ≡ false → (chosen chosen′ : List ℕ) → Chosen t b q v chosen chosen′ → (k : ℕ) (b′ plan′ : List ℕ)
+    pub sleep-words-planned : not p ≡ false → (chosen chosen′ : List ℕ) → chosen′ ≡ stagesLeft (leb n (length plan)) t b q chosen
+        → (k : ℕ) (b′ plan′ : List ℕ)
         → WrittenFrom 1 (λ ws. ws) (choiceList t b (statesIn chosen′)) (choiceState t b (statesIn chosen′)) plan 0 k b′ plan′
         → Answered (Done k) b′ plan′ (planWords t b q plan)
     sleep-words-planned h chosen chosen′ c k b′ plan′ w =
-        let l = c .least (sym f ∙ not-false p h) in
-        let list = least-list t b chosen′ (q .a) l in
+        let l = passed-least t b q _ chosen chosen′ (sym (ap passes e) ∙ sym f ∙ not-false p h) c in
+        let list = least-list t b chosen chosen′ (q .a) l in
         outcome-done _ (λ r. sleepStages r t b q) _ b plan _ _ _ (words-sleep t b q plan kind) n i v p f e h k b′ plan′
-        (w .count ∙ ap length list) (w .state ∙ least-state t b chosen′ (q .a) l) (w .elements ∙ ap (put plan 0) list)
+        (w .count ∙ ap length list) (w .state ∙ least-state t b chosen chosen′ (q .a) l) (w .elements ∙ ap (put plan 0) list)
 
   -- a plan of bytes
   module _ (e : v ≡ sleepStages (leb (4 * n) (length plan)) t b q) where
@@ -149,14 +155,15 @@ module _ (t b : List ℕ) (q : Request) (plan : List ℕ) (kind : isSleep q ≡ 
     sleep-bytes-refused k =
         outcome-stops _ (λ r. sleepStages r t b q) _ b plan _ _ _ (bytes-sleep t b q plan kind) (4 * n) (ap (λ (k : ℕ). 4 * k) i) v p f e k
 
-    pub sleep-bytes-planned : not p ≡ false → (chosen chosen′ : List ℕ) → Chosen t b q v chosen chosen′ → (k : ℕ) (b′ plan′ : List ℕ)
+    pub sleep-bytes-planned : not p ≡ false → (chosen chosen′ : List ℕ) → chosen′ ≡ stagesLeft (leb (4 * n) (length plan)) t b q chosen
+        → (k : ℕ) (b′ plan′ : List ℕ)
         → WrittenFrom 4 wordBytes (choiceList t b (statesIn chosen′)) (choiceState t b (statesIn chosen′)) plan 0 k b′ plan′
         → Answered (Done k) b′ plan′ (planBytes t b q plan)
     sleep-bytes-planned h chosen chosen′ c k b′ plan′ w =
-        let l = c .least (sym f ∙ not-false p h) in
-        let list = least-list t b chosen′ (q .a) l in
+        let l = passed-least t b q _ chosen chosen′ (sym (ap passes e) ∙ sym f ∙ not-false p h) c in
+        let list = least-list t b chosen chosen′ (q .a) l in
         outcome-done _ (λ r. sleepStages r t b q) _ b plan _ _ _ (bytes-sleep t b q plan kind) (4 * n) (ap (λ (k : ℕ). 4 * k) i) v p f e h
-        k b′ plan′ (w .count ∙ ap length list) (w .state ∙ least-state t b chosen′ (q .a) l)
+        k b′ plan′ (w .count ∙ ap length list) (w .state ∙ least-state t b chosen chosen′ (q .a) l)
         (w .elements ∙ ap (λ (ws : List ℕ). put plan 0 (wordBytes ws)) list)
 
 -- ---- the list, by whether a device moves; s is what the test returned
@@ -224,7 +231,7 @@ module _ (t b chosen : List ℕ) (g : Given t b chosen) where
 
 pub ruleset looking = (given-sized, given-long, given-32)
 
-pub ruleset choosing = (given-ready, given-up, one-list, one-list-bytes)
+pub ruleset entering = (given-ready, given-up, one-list, one-list-bytes)
 
 -- a list that is written into a plan of words in its place
 pub in-place : (list after plan : List ℕ) (n : ℕ) (b′ plan′ : List ℕ) → WrittenPlan list after plan n b′ plan′

@@ -7,6 +7,7 @@ use native.Mathlib.Nat.{one-mul}
 use native.Mathlib.Omega.{arith}
 use mir.Syntax.{w32}
 use mir.Val.{Fits}
+use borrow.Author.Tests.{eqb-false, ne-eqb}
 use lib.ListN.{length, take}
 use Rattle.sets.proofs.Laws.{decide}
 use Rattle.words.specs.Words.{put, wordBytes}
@@ -15,21 +16,24 @@ use Rattle.rules.specs.Station.{width, limit, station}
 use Rattle.rules.specs.Status.{entryAt, entries, statusOf, status, imageSize, imageOf}
 use Rattle.rules.specs.Power.{needs}
 use Rattle.rules.specs.Request.{inState, newEntry}
-use Rattle.rules.specs.Calls.{endSet, statusAfter, switchingWords, changeOf}
+use Rattle.rules.specs.Calls.{ownCall, ownLast, endSet, statusAfter, switchingOf, switchingWords}
 use Rattle.rules.specs.Sleep.{moveTo, stays}
 use Rattle.rules.specs.Outcomes.{listRoom, stateAfter}
-use Rattle.rules.specs.declared.Change.{Change}
+use Rattle.rules.specs.declared.OptionalCall.{OptionalCall}
+use Rattle.rules.specs.declared.Switching.{Switching}
 use Rattle.rules.specs.declared.Entry.{Entry}
 use Rattle.table.specs.Layout.{WellSized}
-use Rattle.status.specs.Ready.{Ready, statusWith, inStateWith}
+use Rattle.status.specs.Ready.{Ready, inStateWith}
 use Rattle.status.proofs.Keeps.{entry-ready}
 use Rattle.request.specs.Permitted.{PermittedRequest}
+use Rattle.request.proofs.Changes.{on-small, change-is, change-good}
+use Rattle.switching.specs.Switching.{GoodSwitching}
 use Rattle.switching.specs.Written.{WrittenPlan}
 use Rattle.switching.proofs.Answered.{front-bytes}
 use Rattle.sleep.specs.Chosen.{statesIn}
 use Rattle.planner.specs.Moves.{moveList, stateMoved, Turn, WrittenFrom}
 use Rattle.planner.proofs.Whole.{list-is}
-use Rattle.planner.proofs.Room.{room-33, words-33, request-room}
+use Rattle.planner.proofs.Room.{words-33, request-room}
 
 -- ---- what a turn has shown
 module _ (t b chosen : List ℕ) (d : ℕ) (g : Turn t b chosen d) where
@@ -55,6 +59,10 @@ module _ (t b chosen : List ℕ) (d : ℕ) (g : Turn t b chosen d) where
       decide (stays (status t b .entries) (statesIn chosen) d) (λ e. rw e (omega arith))
       (λ e. rw e (request-room t b (moveTo d (statesIn chosen d)) (g .permitted e)))
 
+-- a switching whose own call comes first
+pub switched-first : (w : Switching) (o : OptionalCall) (on set : ℕ) → w ≡ switchingOf o false on set → w .last ≡ false
+switched-first w o on set e = ap (λ (c : Switching). c .last) e
+
 -- ---- s is whether the device stays, as the code has tested it
 module _ (t b chosen : List ℕ) (d : ℕ) (s : Bool) (test : s ≡ stays (entries t b) (statesIn chosen) d) where
   stays-is : stays (status t b .entries) (statesIn chosen) d ≡ s
@@ -71,24 +79,38 @@ module _ (t b chosen : List ℕ) (d : ℕ) (s : Bool) (test : s ≡ stays (entri
     pub move-asked : Turn t b chosen d → PermittedRequest t b (moveTo d a)
     move-asked g = rw is (g .permitted (stays-is ∙ e))
 
-    pub move-needed : (set : ℕ) → set ≡ endSet (station t) (entries t b) (moveTo d (statesIn chosen d))
-        → set ≡ endSet (station t) (entries t b) (moveTo d a)
-    move-needed set n = rw is n
+    -- the own call of a deeper move comes first
+    own-first : Turn t b chosen d → false ≡ ownLast (moveTo d a)
+    unfolding ownLast
+    own-first g =
+        let other = eqb-false (statesIn chosen d) (status t b .entries d .state) (stays-is ∙ e) in
+        rw (ne-eqb a 0 (λ z. other (omega (arith, z, is, g .deeper)))) refl
 
-    -- the words and the state, from the values as the code has them
-    pub move-some : (on : ℕ) (c : Change) (set n : ℕ) (b′ calls calls′ : List ℕ) → on ≡ status t b .on
-        → c ≡ changeOf (station t) (statusWith t b on) (moveTo d a) → set ≡ endSet (station t) (entries t b) (moveTo d (statesIn chosen d))
-        → n ≡ length (switchingWords (station t) (c .switching)) → calls′ ≡ put calls 0 (switchingWords (station t) (c .switching))
-        → b′ ≡ imageOf (width t) (inStateWith t b d (statesIn chosen d) set)
-        → WrittenPlan (moveList t b (statesIn chosen) d) (stateMoved t b (statesIn chosen) d) calls n b′ calls′
-    unfolding moveList stateMoved stateAfter statusAfter newEntry statusOf
-    move-some on c set n b′ calls calls′ o i s count written image =
-        let list = list-is t b (moveTo d a) on c o i in
-        rw (stays-is ∙ e, ← is) (record {
-          count = count ∙ ap length list;
-          state = image ∙ rw (s, ← is) refl;
-          words = written ∙ ap (put calls 0) list;
-        })
+    -- the switching of the move, from the values as the code has them
+    module _ (g : Turn t b chosen d) (on set : ℕ) (u : Entry) (o : OptionalCall) (w : Switching) (h : on ≡ status t b .on)
+        (read : u ≡ entryAt b (4 * d)) (own : o ≡ ownCall (station t) u (moveTo d a)) (w-is : w ≡ switchingOf o false on set)
+        (n-is : set ≡ endSet (station t) (entries t b) (moveTo d (statesIn chosen d))) where
+      needed-is : set ≡ endSet (station t) (entries t b) (moveTo d a)
+      needed-is = rw is n-is
+
+      pub move-switches : GoodSwitching t w
+      move-switches =
+          let asked = move-asked g in
+          change-good t b (moveTo d a) asked on set u _ o false w w-is read refl needed-is own (on-small t b (moveTo d a) on asked h)
+
+      -- the words and the state
+      pub move-some : (n : ℕ) (b′ calls calls′ : List ℕ) → n ≡ length (switchingWords (station t) w)
+          → calls′ ≡ put calls 0 (switchingWords (station t) w) → b′ ≡ imageOf (width t) (inStateWith t b d (statesIn chosen d) set)
+          → WrittenPlan (moveList t b (statesIn chosen) d) (stateMoved t b (statesIn chosen) d) calls n b′ calls′
+      unfolding moveList stateMoved stateAfter statusAfter newEntry statusOf
+      move-some n b′ calls calls′ count written image =
+          let made = change-is t b (moveTo d a) (move-asked g) on set u _ o false w w-is read refl needed-is own (own-first g) in
+          let list = list-is t b (moveTo d a) on _ h made in
+          rw (stays-is ∙ e, ← is) (record {
+            count = count ∙ ap length list;
+            state = image ∙ rw (n-is, ← is) refl;
+            words = written ∙ ap (put calls 0) list;
+          })
 
 -- what it needs in the state that was chosen; e is its entry
 pub chosen-needed : (t b chosen : List ℕ) (d : ℕ) (e : Entry) (r : ℕ) → Turn t b chosen d → e ≡ entryAt b (4 * d)

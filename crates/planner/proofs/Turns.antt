@@ -34,7 +34,8 @@ use Rattle.laws.proofs.Lists.{number-passes, one-each, written-none}
 use Rattle.laws.proofs.Moves.{Reachable, Moving, moving-start, moving-stays, moving-moves, move-permitted}
 use Rattle.laws.proofs.SleepMoves.{reachable, moved}
 use Rattle.switching.proofs.Short.{planned-short}
-use Rattle.status.specs.Needs.{neededFrom, BelowIn}
+use Rattle.status.specs.Needs.{neededFrom, belowEach}
+use Rattle.status.proofs.Filled.{filled-at}
 use Rattle.status.proofs.NeededLaws.{from-same, from-one, with-parts}
 use Rattle.request.proofs.Chain.{ready-of}
 use Rattle.request.proofs.Changes.{permitted-of}
@@ -92,10 +93,10 @@ module _ (t b b′ : List ℕ) (states : ℕ → ℕ) (j : ℕ) (same : status t
   unfolding moves stateAfterEach stateMoved
   step-state = decide (stays (status t b .entries) states j) (λ z. rw (z, same, z) refl) (λ z. rw (z, same, z) refl)
 
-  step-moving : Stages t b′ (moveTo j (states j)) → Moving t b states j (stateAfter t b′ (moveTo j (states j))) → Moving t b states (suc j) b′
+  step-moving : Moving t b states j (stateAfter t b′ (moveTo j (states j))) → Moving t b states (suc j) b′
       → Moving t b states j (stateMoved t b′ states j)
   unfolding stateMoved
-  step-moving p next m =
+  step-moving next m =
       decide (stays (status t b .entries) states j)
       (λ z. rw (same, z) (moving-stays t b states j b′ (eqb-true _ _ z) m)) (λ z. rw (same, z) next)
 
@@ -108,12 +109,12 @@ below-same s f g (suc n) h = rw (h n (omega arith), below-same s f g n (λ k l. 
 module _ (t b b′ chosen : List ℕ) (j : ℕ) (h : j < countD t) (m : Moving t b (statesIn chosen) (suc j) b′) (own above : ℕ)
     (o : own ≡ needs (station t) j (inState (entries t b′ j) (statesIn chosen j)))
     (a : above ≡ neededFrom (station t) (entries t b′) 0 (j + 1) (countD t - (j + 1))) where
-  set-after : (below : List ℕ) → BelowIn t b (countD t) below
+  set-after : (none below : List ℕ) → below ≡ belowEach t b none
       → union (getD below j 0) (union own above) ≡ endSet (station t) (entries t b′) (moveTo j (statesIn chosen j))
   unfolding endSet newEntry statusOf
-  set-after below s =
+  set-after none below s =
       with-parts t b′ j (getD below j 0) own above (inState (entries t b′ j) (statesIn chosen j)) h
-      (s .before j h ∙ below-same (station t) (entries t b) (entries t b′) j (λ k l. sym (m .before k (omega arith)))) o a
+      (filled-at _ none below (countD t) j s h ∙ below-same (station t) (entries t b) (entries t b′) j (λ k l. sym (m .before k (omega arith)))) o a
 
   above-after : (b″ : List ℕ) → Moving t b (statesIn chosen) j b″
       → union own above ≡ neededFrom (station t) (entries t b″) 0 j (countD t - j)
@@ -126,6 +127,58 @@ module _ (t b b′ chosen : List ℕ) (j : ℕ) (h : j < countD t) (m : Moving t
       rw (m .before j (omega arith)) (sym (m″ .moved j (omega arith) h)) in
       let one : countD t - j ≡ suc k = omega arith in
       rw one (rw (o, a, mine, from-same (station t) (entries t b′) (entries t b″) 0 (j + 1) k same) (sym (from-one (station t) (entries t b″) j k)))
+
+-- ---- the turn of device j, whatever is written
+module _ (t b chosen : List ℕ) (g : Given t b chosen) (j : ℕ) (b′ : List ℕ) (h : j < countD t) (m : Moving t b (statesIn chosen) (suc j) b′) where
+  inside : j < station t .devices
+  unfolding stationOf
+  inside = h
+
+  same : status t b′ .entries j ≡ status t b .entries j
+  same = m .before j (omega arith)
+
+  turn : Turn t b′ chosen j
+  turn =
+      record {
+        ready = ready-of t b′ (g .table) (m .state);
+        long = consistent-of t b′ (m .state) .0;
+        states = g .states;
+        device = h;
+        deeper = rw same (can-reach t b chosen g .deeper j inside);
+        permitted = λ e. permitted-of t b′ (moveTo j (statesIn chosen j))
+            (move-permitted t b (statesIn chosen) (g .table) (can-reach t b chosen g) j inside b′ m);
+      }
+
+  moved-one : Moving t b (statesIn chosen) j (stateMoved t b′ (statesIn chosen) j)
+  moved-one =
+      step-moving t b b′ (statesIn chosen) j same
+      (moving-moves t b (statesIn chosen) (g .table) (can-reach t b chosen g) j inside b′ m) m
+
+-- the same at device i - 1, as a loop from the last device down has it
+module _ (t b chosen : List ℕ) (g : Given t b chosen) (i : ℕ) (b′ : List ℕ) (h : 0 < i) (k : i ≤ countD t)
+    (m : Moving t b (statesIn chosen) i b′) where
+  last-one : Moving t b (statesIn chosen) (suc (i - 1)) b′
+  last-one = let e : i ≡ suc (i - 1) = omega arith in rw e at m
+
+  pub turn-now : Turn t b′ chosen (i - 1)
+  turn-now = turn t b chosen g (i - 1) b′ (omega arith) last-one
+
+  -- the set needed after the move, and what is carried on
+  module _ (own above above′ : ℕ) (o : own ≡ needs (station t) (i - 1) (inState (entries t b′ (i - 1)) (statesIn chosen (i - 1))))
+      (a : above ≡ neededFrom (station t) (entries t b′) 0 i (countD t - i)) (all : above′ ≡ union own above) where
+    carried : above ≡ neededFrom (station t) (entries t b′) 0 (i - 1 + 1) (countD t - (i - 1 + 1))
+    carried = let e : i - 1 + 1 ≡ i = omega arith in rw e a
+
+    pub needed-now : (none below : List ℕ) (set : ℕ) → below ≡ belowEach t b none → set ≡ union (getD below (i - 1) 0) above′
+        → set ≡ endSet (station t) (entries t b′) (moveTo (i - 1) (statesIn chosen (i - 1)))
+    needed-now none below set s e =
+        e ∙ rw all (set-after t b b′ chosen (i - 1) (omega arith) last-one own above o carried none below s)
+
+    pub above-now : (b″ : List ℕ) → b″ ≡ stateMoved t b′ (statesIn chosen) (i - 1)
+        → above′ ≡ neededFrom (station t) (entries t b″) 0 (i - 1) (countD t - (i - 1))
+    above-now b″ e =
+        all ∙ above-after t b b′ chosen (i - 1) (omega arith) last-one own above o carried b″
+        (rw e (moved-one t b chosen g (i - 1) b′ (omega arith) last-one))
 
 -- ---- the devices from i on have moved; n words are written
 pub record Underway (size : ℕ) (written : List ℕ → List ℕ) (t b chosen plan : List ℕ) (i n : ℕ) (b′ plan′ : List ℕ) : Type 0 where
@@ -150,29 +203,9 @@ module _ (size : ℕ) (written : List ℕ → List ℕ) (long : (ws : List ℕ) 
 
   -- what a turn of the loop finds, at device j
   module _ (j n : ℕ) (b′ plan′ : List ℕ) (h : j < countD t) (u : Underway size written t b chosen plan (suc j) n b′ plan′) where
-    inside : j < station t .devices
-    unfolding stationOf
-    inside = h
-
-    permitted : Stages t b′ (moveTo j (statesIn chosen j))
-    permitted = move-permitted t b (statesIn chosen) (g .table) (can-reach t b chosen g) j inside b′ (u .moving)
-
-    same : status t b′ .entries j ≡ status t b .entries j
-    same = u .moving .before j (omega arith)
-
-    turn : Turn t b′ chosen j
-    turn =
-        record {
-          ready = ready-of t b′ (g .table) (u .moving .state);
-          long = consistent-of t b′ (u .moving .state) .0;
-          states = g .states;
-          device = h;
-          permitted = λ e. permitted-of t b′ (moveTo j (statesIn chosen j)) permitted;
-        }
-
     whole : plannedEach t b′ (moves (status t b .entries) (statesIn chosen) (suc j)) ≡ moveList t b′ (statesIn chosen) j
         ++ plannedEach t (stateMoved t b′ (statesIn chosen) j) (moves (status t b .entries) (statesIn chosen) j)
-    whole = step-list t b b′ (statesIn chosen) j same
+    whole = step-list t b b′ (statesIn chosen) j (u .moving .before j (omega arith))
 
     counted : n + length (moveList t b′ (statesIn chosen) j) ≤ length (plannedEach t b (allMoves t b (statesIn chosen)))
     counted = omega (arith, u .count, ap length whole ∙ length-append (moveList t b′ (statesIn chosen) j) _)
@@ -198,9 +231,8 @@ module _ (size : ℕ) (written : List ℕ → List ℕ) (long : (ws : List ℕ) 
         let all : 0 + length (written (plannedEach t b (allMoves t b (statesIn chosen)))) ≤ length plan =
         omega (arith, long (plannedEach t b (allMoves t b (statesIn chosen))), mul-le-mul-left size (all-short t b chosen g)) in
         rw (w .state) (record {
-          moving = step-moving t b b′ (statesIn chosen) j same permitted
-              (moving-moves t b (statesIn chosen) (g .table) (can-reach t b chosen g) j inside b′ (u .moving)) (u .moving);
-          ends = sym (step-state t b b′ (statesIn chosen) j same) ∙ u .ends;
+          moving = moved-one t b chosen g j b′ h (u .moving);
+          ends = sym (step-state t b b′ (statesIn chosen) j (u .moving .before j (omega arith))) ∙ u .ends;
           count = omega (arith, u .count, w .count, ap length whole ∙ length-append list _);
           going = going-run (written list) _ (u .going) lists (end, w .elements) all;
         })
@@ -221,9 +253,6 @@ module _ (size : ℕ) (written : List ℕ → List ℕ) (long : (ws : List ℕ) 
     before-last : Underway size written t b chosen plan (suc (i - 1)) n b′ plan′
     before-last = let e : i ≡ suc (i - 1) = omega arith in rw e at u
 
-    turn-below : Turn t b′ chosen (i - 1)
-    turn-below = turn (i - 1) n b′ plan′ (omega arith) before-last
-
     room-below : size * (limit (width t) * listRoom (width t)) ≤ length plan
         → size * (n + length (moveList t b′ (statesIn chosen) (i - 1))) ≤ length plan′
     room-below = has-room (i - 1) n b′ plan′ (omega arith) before-last
@@ -233,25 +262,6 @@ module _ (size : ℕ) (written : List ℕ → List ℕ) (long : (ws : List ℕ) 
         let wide = g .ready .sized .wide in
         let most = product-4160 (limit (width t)) (listRoom (width t)) (omega (arith, wide .high)) (omega (arith, wide .high)) in
         record { fits = omega (arith, counted (i - 1) n b′ plan′ (omega arith) before-last, all-short t b chosen g, most, e) }
-
-    -- the set needed after the next move, and what is carried on
-    module _ (own above above′ : ℕ) (o : own ≡ needs (station t) (i - 1) (inState (entries t b′ (i - 1)) (statesIn chosen (i - 1))))
-        (a : above ≡ neededFrom (station t) (entries t b′) 0 i (countD t - i)) (all : above′ ≡ union own above) where
-      carried : above ≡ neededFrom (station t) (entries t b′) 0 (i - 1 + 1) (countD t - (i - 1 + 1))
-      carried = let e : i - 1 + 1 ≡ i = omega arith in rw e a
-
-      needed-below : (below : List ℕ) (set : ℕ) → BelowIn t b (countD t) below → set ≡ union (getD below (i - 1) 0) above′
-          → set ≡ endSet (station t) (entries t b′) (moveTo (i - 1) (statesIn chosen (i - 1)))
-      needed-below below set s e =
-          e ∙ rw all (set-after t b b′ chosen (i - 1) (omega arith) (before-last .moving) own above o carried below s)
-
-      above-below : (m : ℕ) (b″ plan″ : List ℕ)
-          → WrittenFrom size written (moveList t b′ (statesIn chosen) (i - 1)) (stateMoved t b′ (statesIn chosen) (i - 1)) plan′ n m b″ plan″
-          → size * (limit (width t) * listRoom (width t)) ≤ length plan
-          → above′ ≡ neededFrom (station t) (entries t b″) 0 (i - 1) (countD t - (i - 1))
-      above-below m b″ plan″ w r =
-          all ∙ above-after t b b′ chosen (i - 1) (omega arith) (before-last .moving) own above o carried b″
-          (next (i - 1) n b′ plan′ (omega arith) before-last r m b″ plan″ w .moving)
 
     next-below : size * (limit (width t) * listRoom (width t)) ≤ length plan → (m : ℕ) (b″ plan″ : List ℕ)
         → WrittenFrom size written (moveList t b′ (statesIn chosen) (i - 1)) (stateMoved t b′ (statesIn chosen) (i - 1)) plan′ n m b″ plan″
@@ -270,9 +280,6 @@ module _ (t b chosen plan : List ℕ) (g : Given t b chosen) where
 
   module _ (i n : ℕ) (b′ plan′ : List ℕ) (u : Underway 1 (λ ws. ws) t b chosen plan i n b′ plan′) where
     module _ (h : 0 < i) (k : i ≤ countD t) where
-      pub words-turn : Turn t b′ chosen (i - 1)
-      words-turn = turn-below 1 (λ ws. ws) one-each (λ xs ys. refl) t b chosen plan g i n b′ plan′ h k u
-
       pub words-sum : (m : ℕ) (b″ plan″ : List ℕ)
           → WrittenFrom 1 (λ ws. ws) (moveList t b′ (statesIn chosen) (i - 1)) (stateMoved t b′ (statesIn chosen) (i - 1)) plan′ n m b″ plan″
           → Fits w64 (n + m)
@@ -292,17 +299,6 @@ module _ (t b chosen plan : List ℕ) (g : Given t b chosen) where
             → Underway 1 (λ ws. ws) t b chosen plan (i - 1) (n + m) b″ plan″
         words-next = next-below 1 (λ ws. ws) one-each (λ xs ys. refl) t b chosen plan g i n b′ plan′ h k u room-1
 
-        module _ (own above above′ : ℕ) (o : own ≡ needs (station t) (i - 1) (inState (entries t b′ (i - 1)) (statesIn chosen (i - 1))))
-            (a : above ≡ neededFrom (station t) (entries t b′) 0 i (countD t - i)) (all : above′ ≡ union own above) where
-          pub words-needed : (below : List ℕ) (set : ℕ) → BelowIn t b (countD t) below → set ≡ union (getD below (i - 1) 0) above′
-              → set ≡ endSet (station t) (entries t b′) (moveTo (i - 1) (statesIn chosen (i - 1)))
-          words-needed = needed-below 1 (λ ws. ws) one-each (λ xs ys. refl) t b chosen plan g i n b′ plan′ h k u own above above′ o a all
-
-          pub words-above : (m : ℕ) (b″ plan″ : List ℕ)
-              → WrittenFrom 1 (λ ws. ws) (moveList t b′ (statesIn chosen) (i - 1)) (stateMoved t b′ (statesIn chosen) (i - 1)) plan′ n m b″ plan″
-              → above′ ≡ neededFrom (station t) (entries t b″) 0 (i - 1) (countD t - (i - 1))
-          words-above m b″ plan″ w = above-below 1 (λ ws. ws) one-each (λ xs ys. refl) t b chosen plan g i n b′ plan′ h k u own above above′ o a all m b″ plan″ w room-1
-
     pub words-end : i ≤ 0
         → WrittenFrom 1 (λ ws. ws) (plannedEach t b (allMoves t b (statesIn chosen))) (stateAfterEach t b (allMoves t b (statesIn chosen))) plan 0 n
         b′ plan′
@@ -310,7 +306,7 @@ module _ (t b chosen plan : List ℕ) (g : Given t b chosen) where
         let e : i ≡ 0 = omega arith in
         ended 1 (λ ws. ws) one-each (λ xs ys. refl) t b chosen plan g n b′ plan′ (rw e at u)
 
-pub ruleset by-words = (words-start, words-turn, words-sum, words-room, words-needed, words-above, words-next, words-end, none-above)
+pub ruleset by-words = (words-start, turn-now, words-sum, words-room, words-next, words-end, none-above)
 
 -- ---- on bytes, four a word
 module _ (t b chosen plan : List ℕ) (g : Given t b chosen) where
@@ -319,9 +315,6 @@ module _ (t b chosen plan : List ℕ) (g : Given t b chosen) where
 
   module _ (i n : ℕ) (b′ plan′ : List ℕ) (u : Underway 4 wordBytes t b chosen plan i n b′ plan′) where
     module _ (h : 0 < i) (k : i ≤ countD t) where
-      pub bytes-turn : Turn t b′ chosen (i - 1)
-      bytes-turn = turn-below 4 wordBytes word-bytes-length word-bytes-append t b chosen plan g i n b′ plan′ h k u
-
       pub bytes-sum : (m : ℕ) (b″ plan″ : List ℕ)
           → WrittenFrom 4 wordBytes (moveList t b′ (statesIn chosen) (i - 1)) (stateMoved t b′ (statesIn chosen) (i - 1)) plan′ n m b″ plan″
           → Fits w64 (n + m)
@@ -336,17 +329,6 @@ module _ (t b chosen plan : List ℕ) (g : Given t b chosen) where
             → Underway 4 wordBytes t b chosen plan (i - 1) (n + m) b″ plan″
         bytes-next = next-below 4 wordBytes word-bytes-length word-bytes-append t b chosen plan g i n b′ plan′ h k u r
 
-        module _ (own above above′ : ℕ) (o : own ≡ needs (station t) (i - 1) (inState (entries t b′ (i - 1)) (statesIn chosen (i - 1))))
-            (a : above ≡ neededFrom (station t) (entries t b′) 0 i (countD t - i)) (all : above′ ≡ union own above) where
-          pub bytes-needed : (below : List ℕ) (set : ℕ) → BelowIn t b (countD t) below → set ≡ union (getD below (i - 1) 0) above′
-              → set ≡ endSet (station t) (entries t b′) (moveTo (i - 1) (statesIn chosen (i - 1)))
-          bytes-needed = needed-below 4 wordBytes word-bytes-length word-bytes-append t b chosen plan g i n b′ plan′ h k u own above above′ o a all
-
-          pub bytes-above : (m : ℕ) (b″ plan″ : List ℕ)
-              → WrittenFrom 4 wordBytes (moveList t b′ (statesIn chosen) (i - 1)) (stateMoved t b′ (statesIn chosen) (i - 1)) plan′ n m b″ plan″
-              → above′ ≡ neededFrom (station t) (entries t b″) 0 (i - 1) (countD t - (i - 1))
-          bytes-above m b″ plan″ w = above-below 4 wordBytes word-bytes-length word-bytes-append t b chosen plan g i n b′ plan′ h k u own above above′ o a all m b″ plan″ w r
-
     pub bytes-end : i ≤ 0
         → WrittenFrom 4 wordBytes (plannedEach t b (allMoves t b (statesIn chosen))) (stateAfterEach t b (allMoves t b (statesIn chosen))) plan 0 n
         b′ plan′
@@ -354,4 +336,4 @@ module _ (t b chosen plan : List ℕ) (g : Given t b chosen) where
         let e : i ≡ 0 = omega arith in
         ended 4 wordBytes word-bytes-length word-bytes-append t b chosen plan g n b′ plan′ (rw e at u)
 
-pub ruleset by-bytes = (bytes-start, bytes-turn, bytes-sum, bytes-room, bytes-needed, bytes-above, bytes-next, bytes-end, none-above)
+pub ruleset by-bytes = (bytes-start, turn-now, bytes-sum, bytes-room, bytes-next, bytes-end, none-above)

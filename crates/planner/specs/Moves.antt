@@ -47,6 +47,7 @@ pub record Turn (t b chosen : List ℕ) (d : ℕ) : Type 0 where
   pub long : length b ≡ imageSize (width t)
   pub states : countD t ≤ length chosen
   pub device : d < countD t
+  pub deeper : status t b .entries d .state ≤ statesIn chosen d
   pub permitted : stays (status t b .entries) (statesIn chosen) d ≡ false → PermittedRequest t b (moveTo d (statesIn chosen d))
 
 -- a table and a consistent state are given, and a choice for some sleep state

@@ -39,21 +39,21 @@ pub fn chosen_needs(table: &[u8], devices: &[u8], chosen: &[u8], d: usize) -> u3
     power::needs(table, d, taken)
 }
 
-// The calls and the state of device d's move to its state in `chosen`, from the set needed after it; none if it stays. The state is written
-// in the image itself, since 32 moves would copy it 64 times.
+// The calls and the state of device d's move to its state in `chosen`, from the set needed after it; none if it stays. The move is deeper, so
+// its own call comes first. The state is written in the image itself, since 32 moves would copy it 64 times.
 pub fn write_move(
     table: &[u8],
     state: &mut [u8],
     chosen: &[u8],
     d: usize,
     needed: u32,
-    calls: &mut [u32],
+    buffer: &mut [u32],
 ) -> usize
-    requires { ⌜ Turn (now table) (now state) (now chosen) d × (listRoom (width (now table)) ≤ length (now calls))
+    requires { ⌜ Turn (now table) (now state) (now chosen) d × (listRoom (width (now table)) ≤ length (now buffer))
         × (needed ≡ endSet (station (now table)) (entries (now table) (now state)) (moveTo d (statesIn (now chosen) d))) ⌝ }
     ensures { λ r. ⌜ WrittenPlan (moveList (now (table .entry)) (now (state .entry)) (statesIn (now (chosen .entry))) d)
         (stateMoved (now (table .entry)) (now (state .entry)) (statesIn (now (chosen .entry))) d)
-        (now (calls .entry)) r (now (state .exit)) (now (calls .exit)) ⌝ }
+        (now (buffer .entry)) r (now (state .exit)) (now (buffer .exit)) ⌝ }
 {
     if sleep::choice::stays(table, state, chosen, d) {
         return 0;
@@ -65,9 +65,11 @@ pub fn write_move(
         a: words::wide(y),
         b: 0,
     };
+    let e = status::image::entry(state, d);
+    let own = calls::own::own_call(table, e, q);
     let on = status::image::on_set(table, state);
-    let c = request::change::change(table, state, on, needed, q);
-    let n = switching::write::write_calls(table, c.switching, calls);
+    let c = switching::switching(own, false, on, needed);
+    let n = switching::write::write_own_first(table, c, buffer);
     status::image::set_state(table, state, d, y, needed);
     n
 }
@@ -106,7 +108,7 @@ fn write_moves(table: &[u8], state: &mut [u8], chosen: &[u8], plan: &mut [u32]) 
         (now (plan .entry)) 0 r (now (state .exit)) (now (plan .exit)) ⌝ }
 {
     let mut below = [0u32; 32];
-    status::needed::needed_before(table, state, &mut below);
+    status::needed::needed_below(table, state, &mut below);
     let mut above: u32 = 0;
     let mut n = 0;
     let mut i = table::fields::devices(table);

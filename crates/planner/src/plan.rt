@@ -8,9 +8,7 @@ ghost use mathlib.Core.Bool.{true, false};
 ghost use Prim.Native.Nat.{_<_, _≤_};
 ghost use lib.ListN.{length};
 ghost use Rattle.rules.specs.Answers.{numberOf, countOf};
-ghost use Rattle.rules.specs.Station.{width, station};
-ghost use Rattle.rules.specs.Status.{entries};
-ghost use Rattle.rules.specs.Calls.{endSet};
+ghost use Rattle.rules.specs.Station.{width};
 ghost use Rattle.rules.specs.Sleep.{isSleep};
 ghost use Rattle.rules.specs.Outcomes.{listRoom, planWords};
 ghost use Rattle.laws.specs.Demand2.{Demand2Words};
@@ -31,20 +29,13 @@ fn changed_state(before: State, d: usize, c: Change) -> State
     }
 }
 
-// The calls and the state of a request that has passed every check, from the set needed after it.
-pub fn write_plan(
-    table: &[u8],
-    state: &mut [u8],
-    q: Request,
-    needed: u32,
-    plan: &mut [u32],
-) -> usize
-    requires { ⌜ PermittedRequest (now table) (now state) q × (listRoom (width (now table)) ≤ length (now plan))
-        × (needed ≡ endSet (station (now table)) (entries (now table) (now state)) q) ⌝ }
+// The calls and the state of a request that has passed every check.
+pub fn write_plan(table: &[u8], state: &mut [u8], q: Request, plan: &mut [u32]) -> usize
+    requires { ⌜ PermittedRequest (now table) (now state) q × (listRoom (width (now table)) ≤ length (now plan)) ⌝ }
     ensures { λ r. ⌜ Written (now (table .entry)) (now (state .entry)) q (now (plan .entry)) r (now (state .exit)) (now (plan .exit)) ⌝ }
 {
     let on = status::image::on_set(table, state);
-    let c = request::change::change(table, state, on, needed, q);
+    let c = request::change::change(table, state, on, q);
     let before = status::image::load(state);
     let after = changed_state(before, q.device as usize, c);
     let count = switching::write::write_calls(table, c.switching, plan);
@@ -64,8 +55,7 @@ fn request_words(table: &[u8], state: &mut [u8], q: Request, plan: &mut [u32]) -
     if !rules::passes(v) {
         return v;
     }
-    let needed = request::change::needed_after(table, state, q);
-    Verdict::Done(write_plan(table, state, q, needed, plan))
+    Verdict::Done(write_plan(table, state, q, plan))
 }
 
 // Plans sleep entry on a plan of words.

@@ -5,32 +5,20 @@ use rules::Request;
 ghost use mathlib.Core.Path.{_≡_};
 ghost use Prim.Native.Nat.{_^_, _<_};
 ghost use Rattle.rules.specs.Station.{countR, station};
-ghost use Rattle.rules.specs.Status.{entries};
-ghost use Rattle.rules.specs.Calls.{endSet, changeOf};
+ghost use Rattle.rules.specs.Calls.{changeOf};
 ghost use Rattle.status.specs.Ready.{statusWith};
 ghost use Rattle.switching.specs.Switching.{GoodSwitching};
 ghost use Rattle.request.specs.Permitted.{PermittedRequest};
 
-// The set needed after a permitted request.
-pub fn needed_after(table: &[u8], devices: &[u8], q: Request) -> u32
-    requires { ⌜ PermittedRequest (now table) (now devices) q ⌝ }
-    ensures { λ r. ⌜ r ≡ endSet (station (now (table .entry))) (entries (now (table .entry)) (now (devices .entry))) q ⌝ }
-{
-    let d = q.device as usize;
-    let e = status::image::entry(devices, d);
-    status::needed::needed_with(table, devices, d, crate::new_entry(e, q))
-}
-
-// What the request does, from the set needed after it: sleep entry knows that set without looking at every device.
-pub fn change(table: &[u8], devices: &[u8], on: u32, needed: u32, q: Request) -> Change
-    requires { ⌜ PermittedRequest (now table) (now devices) q × (on < 2 ^ countR (now table))
-        × (needed ≡ endSet (station (now table)) (entries (now table) (now devices)) q) ⌝ }
+pub fn change(table: &[u8], devices: &[u8], on: u32, q: Request) -> Change
+    requires { ⌜ PermittedRequest (now table) (now devices) q × (on < 2 ^ countR (now table)) ⌝ }
     ensures { λ r. ⌜ (r ≡ changeOf (station (now (table .entry))) (statusWith (now (table .entry)) (now (devices .entry)) on) q)
         × GoodSwitching (now (table .entry)) (r .switching) ⌝ }
 {
     let d = q.device as usize;
     let e = status::image::entry(devices, d);
     let entry = crate::new_entry(e, q);
+    let needed = status::needed::needed_with(table, devices, d, entry);
     let own = calls::own::own_call(table, e, q);
     let last = calls::own::own_last(q);
     let switching = switching::switching(own, last, on, needed);

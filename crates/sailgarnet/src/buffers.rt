@@ -37,8 +37,7 @@ fn request_bytes(table: &[u8], state: &mut [u8], q: Request, plan: &mut [u8]) ->
         return v;
     }
     let mut calls = [0u32; 33];
-    let needed = request::change::needed_after(table, state, q);
-    let n = planner::plan::write_plan(table, state, q, needed, &mut calls);
+    let n = planner::plan::write_plan(table, state, q, &mut calls);
     words::write_words(&calls, n, plan, 0);
     Verdict::Done(n)
 }

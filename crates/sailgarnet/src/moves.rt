@@ -48,7 +48,7 @@ fn write_moves(table: &[u8], state: &mut [u8], chosen: &[u8], plan: &mut [u8]) -
         (now (plan .entry)) 0 r (now (state .exit)) (now (plan .exit)) ⌝ }
 {
     let mut below = [0u32; 32];
-    status::needed::needed_before(table, state, &mut below);
+    status::needed::needed_below(table, state, &mut below);
     let mut above: u32 = 0;
     let mut n = 0;
     let mut i = table::fields::devices(table);

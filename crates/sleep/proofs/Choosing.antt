@@ -5,11 +5,10 @@ use mathlib.Core.Logic.{⊎-elim}
 use mathlib.Core.List.{List}
 use Prim.Native.Nat.{ℕ, _+_, _*_, _-_, _≤_, _<_}
 use native.Mathlib.Omega.{arith}
-use borrow.Author.Tests.{eqb-true, eqb-false, eq-eqb, ne-eqb, ltb-true, le-leb, lt-leb, not-true, not-false}
+use borrow.Author.Tests.{eqb-true, eq-eqb, ne-eqb, ltb-true, le-leb, lt-leb, not-true, not-false}
 use lib.Dec.{eqb, leb, ltb}
 use lib.ListN.{length, set}
-use lib.Seq.{getD-set-same, getD-set-other}
-use Rattle.sets.proofs.Laws.{decide}
+use Rattle.words.specs.Words.{put}
 use Rattle.rules.specs.declared.Entry.{Entry}
 use Rattle.rules.specs.declared.Request.{Request}
 use Rattle.rules.specs.Station.{Station, countD, stationOf, station}
@@ -17,15 +16,17 @@ use Rattle.rules.specs.Table.{parentGood}
 use Rattle.rules.specs.Power.{supported, needs, poweredIn}
 use Rattle.rules.specs.Status.{entryAt, entries, underParent}
 use Rattle.rules.specs.Request.{inState}
-use Rattle.rules.specs.Sleep.{sleepFormGood, armedForOther, sxdAllows, wakeDIfArmed, mayTake, mayTakeUnder, leastState, stays}
-use Rattle.rules.specs.Index.{every, leastFrom, least}
+use Rattle.rules.specs.Sleep.{sleepFormGood, armedForOther, sxdAllows, wakeDIfArmed, mayTake, mayTakeUnder, leastState, leastChoice, stays}
+use Rattle.rules.specs.Index.{every, leastFrom, least, each}
 use Rattle.rules.proofs.Index.{starts, found, next, done}
 use Rattle.laws.proofs.Tests.{or-cases}
 use Rattle.laws.proofs.Every.{everyFrom, every-starts, every-next, every-stops, every-done}
 use Rattle.laws.proofs.Choice.{least-by}
+use Rattle.table.specs.Layout.{WellSized}
 use Rattle.status.specs.Ready.{Ready}
 use Rattle.status.proofs.Keeps.{entry-ready}
-use Rattle.sleep.specs.Chosen.{statesIn, LeastIn}
+use Rattle.status.proofs.Filled.{filled-none, filled-next, filled-at}
+use Rattle.sleep.specs.Chosen.{statesIn, leastEach}
 
 -- ---- 10
 module _ (q : Request) where
@@ -112,7 +113,7 @@ module _ (s : Station) (x d : ℕ) (e : Entry) (y : ℕ) where
 pub ruleset taking = (take-shallower, take-wake, take-sxd, take-unsupported, take-powered)
 
 -- ---- the parent, whose number is p
-module _ (t b : List ℕ) (d p : ℕ) (q : p ≡ station t .device d .parent) where
+module _ (t : List ℕ) (d p : ℕ) (q : p ≡ station t .device d .parent) where
   pub under-none : (chosen : List ℕ) (y : ℕ) → p ≡ 255 → true ≡ underParent (station t) (statesIn chosen) d y
   under-none chosen y e = rw (← q, eq-eqb p 255 e) refl
 
@@ -120,11 +121,11 @@ module _ (t b : List ℕ) (d p : ℕ) (q : p ≡ station t .device d .parent) wh
   under-some chosen y n = rw (← q, ne-eqb p 255 n) refl
 
   -- it is lower than its child
-  pub parent-inside : (n : ℕ) → Ready t b → d < countD t → countD t ≤ n → (p ≡ 255 → ⊥) → p < n
+  pub parent-inside : (n : ℕ) → parentGood d (station t .device d) ≡ true → d < countD t → countD t ≤ n → (p ≡ 255 → ⊥) → p < n
   unfolding parentGood
-  parent-inside n r h l some =
+  parent-inside n good h l some =
       let u = station t .device d .parent in
-      ⊎-elim (λ a. omega (arith, ltb-true u d a)) (λ a. absurd (some (q ∙ eqb-true u 255 a))) (or-cases (ltb u d) (eqb u 255) (r .parents d h))
+      ⊎-elim (λ a. omega (arith, ltb-true u d a)) (λ a. absurd (some (q ∙ eqb-true u 255 a))) (or-cases (ltb u d) (eqb u 255) good)
 
 pub ruleset under-laws = (under-none, under-some, parent-inside)
 
@@ -175,6 +176,15 @@ module _ (t b : List ℕ) (x i n v : ℕ) (r : Ready t b) (inv : leastFrom (othe
 
 pub ruleset others = (other-starts, other-found, other-next, done)
 
+-- what the test asks
+pub parent-ready : (t b : List ℕ) (d : ℕ) → Ready t b → d < countD t → parentGood d (station t .device d) ≡ true
+parent-ready t b d r h = r .parents d h
+
+pub sized-ready : (t b : List ℕ) → Ready t b → WellSized t
+sized-ready t b r = r .sized
+
+pub ruleset asking = (parent-ready, sized-ready)
+
 -- ---- the loop over the states; e is the entry of the device, and c whether it may take state y
 module _ (t b chosen : List ℕ) (x d : ℕ) (r : Ready t b) (k : d < countD t) where
   abbrev taken : ℕ → Bool
@@ -198,23 +208,20 @@ module _ (t b chosen : List ℕ) (x d : ℕ) (r : Ready t b) (k : d < countD t) 
 
 pub ruleset states = (state-starts, state-found, state-next, done)
 
--- ---- the loop that chooses; y is the least state of device i
-pub choose-starts : (t b chosen : List ℕ) (x : ℕ) → LeastIn t b x 0 chosen
-choose-starts t b chosen x = record { states = λ d h. absurd (omega arith) }
+-- ---- the loop that chooses; y is the least state of device i, and the devices below it have theirs
+pub choose-next : (t b chosen₀ chosen : List ℕ) (x i n y : ℕ) → Ready t b → n ≡ countD t → i < n → n ≤ length chosen₀
+    → chosen ≡ put chosen₀ 0 (each (leastChoice (station t) (entries t b) x) i)
+    → y ≡ leastState (station t) (entries t b) x (statesIn chosen) i
+    → set chosen i y ≡ put chosen₀ 0 (each (leastChoice (station t) (entries t b) x) (i + 1))
+choose-next t b chosen₀ chosen x i n y r k h l inv e =
+    let f = leastChoice (station t) (entries t b) x in
+    let least : leastState (station t) (entries t b) x (statesIn chosen) i ≡ f i =
+    least-by (station t) (entries t b) x (statesIn chosen) i (unfold stationOf in omega arith) (r .parents i (omega arith))
+    (λ d u. filled-at f chosen₀ chosen i d inv u) in
+    filled-next f chosen₀ chosen i n y inv h l (e ∙ least)
 
-pub choose-next : (t b chosen : List ℕ) (x i n y : ℕ) → Ready t b → n ≡ countD t → i < n → countD t ≤ length chosen → LeastIn t b x i chosen
-    → y ≡ leastState (station t) (entries t b) x (statesIn chosen) i → LeastIn t b x (i + 1) (set chosen i y)
-choose-next t b chosen x i n y r k h l inv e =
-    record {
-      states = λ d u. decide (eqb d i)
-          (λ z. let q = eqb-true d i z in
-          rw q (getD-set-same chosen i y 0 (omega arith) ∙ e ∙ least-by (station t) (entries t b) x (statesIn chosen) i
-          (unfold stationOf in omega arith) (r .parents i (omega arith)) (inv .states)))
-          (λ z. let q = eqb-false d i z in getD-set-other chosen i d y 0 (λ w. omega arith) ∙ inv .states d (omega (arith, q)));
-    }
+pub choose-done : (t b chosen₀ chosen : List ℕ) (x i n : ℕ) → chosen ≡ put chosen₀ 0 (each (leastChoice (station t) (entries t b) x) i)
+    → i ≤ n → n ≤ i → n ≡ countD t → chosen ≡ leastEach t b x chosen₀
+choose-done t b chosen₀ chosen x i n inv h k e = let q : i ≡ countD t = omega arith in rw q at inv
 
-pub choose-done : (t b chosen : List ℕ) (x i n : ℕ) → LeastIn t b x i chosen → i ≤ n → n ≤ i → n ≡ countD t
-    → LeastIn t b x (countD t) chosen
-choose-done t b chosen x i n inv h k e = let q : i ≡ countD t = omega arith in rw q at inv
-
-pub ruleset choosing = (choose-starts, choose-next, choose-done)
+pub ruleset choosing = (filled-none, choose-next, choose-done)

@@ -14,7 +14,7 @@ ghost use Rattle.rules.specs.Station.{countD, station};
 ghost use Rattle.rules.specs.Status.{entries};
 ghost use Rattle.rules.specs.Sleep.{sleepFormGood, armedForOther, sleepVerdict};
 ghost use Rattle.status.specs.Ready.{Ready};
-ghost use Rattle.sleep.specs.Chosen.{Chosen};
+ghost use Rattle.sleep.specs.Chosen.{statesLeft};
 
 // 10: the sleep state is 1 to 4, and the other two numbers are zero.
 fn form_good(q: Request) -> bool
@@ -63,7 +63,7 @@ fn lowest_other(table: &[u8], devices: &[u8], x: u8) -> usize
 pub fn verdict(table: &[u8], devices: &[u8], q: Request, chosen: &mut [u8]) -> Verdict
     requires { ⌜ Ready (now table) (now devices) × (countD (now table) ≤ length (now chosen)) ⌝ }
     ensures { λ r. ⌜ (r ≡ sleepVerdict (station (now (table .entry))) (entries (now (table .entry)) (now (devices .entry))) q)
-        × Chosen (now (table .entry)) (now (devices .entry)) q r (now (chosen .entry)) (now (chosen .exit)) ⌝ }
+        × (now (chosen .exit) ≡ statesLeft (now (table .entry)) (now (devices .entry)) q (now (chosen .entry))) ⌝ }
 {
     if !form_good(q) {
         return Verdict::Refused(Reason::BadRequest, 0);

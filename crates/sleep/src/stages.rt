@@ -9,7 +9,7 @@ ghost use Rattle.rules.specs.declared.Verdict.the-variants.{Done};
 ghost use Rattle.rules.specs.Station.{countD};
 ghost use Rattle.rules.specs.Table.{tableVerdict};
 ghost use Rattle.rules.specs.Outcomes.{readyVerdict, sleepStages};
-ghost use Rattle.sleep.specs.Chosen.{Chosen};
+ghost use Rattle.sleep.specs.Chosen.{stagesLeft};
 
 // 7 and 8 of the state, then 9 without room, of a table that is accepted.
 fn ready(table: &[u8], state: &[u8], room: bool) -> Verdict
@@ -31,7 +31,7 @@ fn ready(table: &[u8], state: &[u8], room: bool) -> Verdict
 pub fn past_table(table: &[u8], state: &[u8], room: bool, q: Request, chosen: &mut [u8]) -> Verdict
     requires { ⌜ (tableVerdict (now table) ≡ Done 0) × (countD (now table) ≤ length (now chosen)) ⌝ }
     ensures { λ r. ⌜ (r ≡ sleepStages room (now (table .entry)) (now (state .entry)) q)
-        × Chosen (now (table .entry)) (now (state .entry)) q r (now (chosen .entry)) (now (chosen .exit)) ⌝ }
+        × (now (chosen .exit) ≡ stagesLeft room (now (table .entry)) (now (state .entry)) q (now (chosen .entry))) ⌝ }
 {
     let v = ready(table, state, room);
     if !rules::passes(v) {

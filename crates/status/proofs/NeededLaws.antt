@@ -5,20 +5,20 @@ use Prim.Native.Nat.{ℕ, zero, suc, _+_, _*_, _-_, _≤_, _<_}
 use native.Mathlib.Numerals.{add-one}
 use native.Mathlib.Nat.{sub-eq-zero-of-le}
 use native.Mathlib.Omega.{arith}
-use borrow.Author.Tests.{eqb-true, eqb-false, eq-eqb, ne-eqb}
-use lib.Dec.{eqb}
-use lib.ListN.{length, set}
-use lib.Seq.{getD-set-same, getD-set-other}
+use borrow.Author.Tests.{eq-eqb, ne-eqb}
 use Rattle.sets.specs.Sets.{union}
-use Rattle.sets.proofs.Laws.{decide, union-comm, union-assoc, union-empty}
+use Rattle.sets.proofs.Laws.{union-comm, union-assoc, union-empty}
+use Rattle.words.specs.Words.{put}
 use Rattle.rules.specs.declared.Entry.{Entry}
+use Rattle.rules.specs.Index.{each}
 use Rattle.rules.specs.Station.{Station, countD, stationOf, station}
 use Rattle.rules.specs.Power.{needs, neededBelow, needed}
 use Rattle.rules.specs.Status.{entryAt, entries}
 use Rattle.rules.specs.Request.{replaceEntry}
 use Rattle.table.specs.Layout.{WellSized}
-use Rattle.status.specs.Needs.{neededFrom, BelowIn}
+use Rattle.status.specs.Needs.{neededFrom, belowEach}
 use Rattle.status.proofs.Held.{entry-is}
+use Rattle.status.proofs.Filled.{filled-none, filled-next}
 
 -- ---- the loop is at i, with n - i to go, and is to answer v
 pub turn-next : (t b : List ℕ) (i n a m r v : ℕ) (e : Entry) → neededFrom (station t) (entries t b) a i (n - i) ≡ v → WellSized t
@@ -111,32 +111,21 @@ with-parts t b d x y a e h p q r =
     ∙ with-entry t b d (countD t) x y (union x y) (neededFrom s f (union x y) (d + 1) k) e h refl
     (p ∙ sym (from-none s f (d - 0) ∙ ap (neededBelow s f) (omega arith))) q refl refl
 
--- ---- each set before its device; the loop is at i, where those before need a
-pub before-starts : (t b out : List ℕ) → BelowIn t b 0 out
-before-starts t b out = record { before = λ d h. absurd (omega arith) }
-
-pub none-before : (s : Station) (f : ℕ → Entry) → 0 ≡ neededBelow s f 0
+-- ---- the sets of all devices; the loop is at i, where those below need a
+pub none-below : (s : Station) (f : ℕ → Entry) → 0 ≡ neededBelow s f 0
 unfolding neededBelow
-none-before s f = refl
+none-below s f = refl
 
-pub before-next : (t b out : List ℕ) (i n a : ℕ) → BelowIn t b i out → a ≡ neededBelow (station t) (entries t b) i → i < n → n ≤ length out
-    → BelowIn t b (i + 1) (set out i a)
-before-next t b out i n a inv e h l =
-    record {
-      before = λ d u. decide (eqb d i)
-          (λ z. let q = eqb-true d i z in rw q (getD-set-same out i a 0 (omega arith) ∙ e))
-          (λ z. let q = eqb-false d i z in getD-set-other out i d a 0 (λ w. omega arith) ∙ inv .before d (omega (arith, q)));
-    }
-
-pub before-more : (t b : List ℕ) (i n a m r : ℕ) (e : Entry) → a ≡ neededBelow (station t) (entries t b) i → WellSized t → i < n
+pub more-below : (t b : List ℕ) (i n a m r : ℕ) (e : Entry) → a ≡ neededBelow (station t) (entries t b) i → WellSized t → i < n
     → n ≡ countD t → e ≡ entryAt b (4 * i) → m ≡ needs (station t) i e → r ≡ union a m → r ≡ neededBelow (station t) (entries t b) (i + 1)
 unfolding neededBelow
-before-more t b i n a m r e p z h l q o f = rw (add-one i) (f ∙ rw (p, o, entry-is t b i e z (omega arith) q) refl)
+more-below t b i n a m r e p z h l q o f = rw (add-one i) (f ∙ rw (p, o, entry-is t b i e z (omega arith) q) refl)
 
-pub before-done : (t b out : List ℕ) (i n : ℕ) → BelowIn t b i out → i ≤ n → n ≤ i → n ≡ countD t → BelowIn t b (countD t) out
-before-done t b out i n inv h k e = let q : i ≡ countD t = omega arith in rw q at inv
+pub all-below : (t b out out′ : List ℕ) (i n : ℕ) → out′ ≡ put out 0 (each (neededBelow (station t) (entries t b)) i) → i ≤ n → n ≤ i
+    → n ≡ countD t → out′ ≡ belowEach t b out
+all-below t b out out′ i n e h k l = let q : i ≡ countD t = omega arith in rw q at e
 
-pub ruleset befores = (before-starts, none-before, before-next, before-more, before-done)
+pub ruleset belows = (none-below, more-below, all-below, filled-none, filled-next)
 
 -- all of them
 pub all-devices : (t b : List ℕ) (n w : ℕ) → n ≡ countD t → w ≡ neededFrom (station t) (entries t b) 0 0 (n - 0)

@@ -8,7 +8,7 @@ ghost use Rattle.rules.specs.Power.{needed};
 ghost use Rattle.rules.specs.Status.{entriesSize, entries};
 ghost use Rattle.rules.specs.Request.{replaceEntry};
 ghost use Rattle.table.specs.Layout.{WellSized};
-ghost use Rattle.status.specs.Needs.{neededFrom, BelowIn};
+ghost use Rattle.status.specs.Needs.{neededFrom, belowEach};
 
 // A set with what the devices from one number up to another need.
 fn needed_from(table: &[u8], devices: &[u8], set: u32, from: usize, end: usize) -> u32
@@ -34,11 +34,10 @@ pub fn needed(table: &[u8], devices: &[u8]) -> u32
     needed_from(table, devices, 0, 0, table::fields::devices(table))
 }
 
-// For each device what those before it need, from the start of `out`.
-pub fn needed_before(table: &[u8], devices: &[u8], out: &mut [u32])
+// For each device what those below it need, from the start of `out`.
+pub fn needed_below(table: &[u8], devices: &[u8], out: &mut [u32])
     requires { ⌜ WellSized (now table) × (entriesSize (width (now table)) ≤ length (now devices)) × (countD (now table) ≤ length (now out)) ⌝ }
-    ensures { λ _. ⌜ BelowIn (now (table .entry)) (now (devices .entry)) (countD (now (table .entry))) (now (out .exit))
-        × (length (now (out .exit)) ≡ length (now (out .entry))) ⌝ }
+    ensures { λ _. ⌜ now (out .exit) ≡ belowEach (now (table .entry)) (now (devices .entry)) (now (out .entry)) ⌝ }
 {
     let n = table::fields::devices(table);
     let mut all: u32 = 0;

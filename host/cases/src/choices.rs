@@ -1,9 +1,10 @@
-//! All choices of states for a sleep entry, found by trying. Which states a device
-//! supports and what it needs in them comes from the reference.
+//! The choices of states for a sleep entry: all of them, found by trying, and the least
+//! one. Which states a device supports and what it needs in them come from the
+//! reference.
 
 use reference::{numbers, Entry, State, Table};
 
-/// Of so many devices all states can be tried, 625 choices.
+/// Of so many devices all states can be tried, in 625 ways.
 pub const FEW_DEVICES: usize = 4;
 
 /// Every choice for Sx: a state for each of at most [`FEW_DEVICES`] devices, which
@@ -26,12 +27,26 @@ pub fn least(choices: &[Vec<u8>]) -> Option<&Vec<u8>> {
     is_least.then_some(found)
 }
 
+/// The least choice for Sx of any number of devices, if there is a choice. As long
+/// as a device may not take its state, it goes one deeper. What is against a state
+/// stays so when others go deeper, so no choice has a device shallower than here.
+pub fn deepened(table: &Table, state: &State, x: u8) -> Option<Vec<u8>> {
+    let mut states = vec![0; table.device_count()];
+    while let Some(d) = (0..states.len()).rfind(|&d| !may_take(table, state, x, &states, d)) {
+        if states[d] == 4 {
+            return None;
+        }
+        states[d] += 1;
+    }
+    Some(states)
+}
+
 fn depth(states: &[u8]) -> u32 {
     states.iter().map(|&state| u32::from(state)).sum()
 }
 
 /// Whether these states, one for each device, meet the rules for Sx.
-pub fn is_choice(table: &Table, state: &State, x: u8, states: &[u8]) -> bool {
+fn is_choice(table: &Table, state: &State, x: u8, states: &[u8]) -> bool {
     (0..states.len()).all(|d| may_take(table, state, x, states, d))
 }
 

@@ -122,7 +122,7 @@ impl Case {
         }
     }
 
-    /// A sleep entry to Sx with room for the plan.
+    /// A sleep entry for Sx with room for the plan.
     pub fn of_sleep(table: &[u8], state: &[u8], x: u32) -> Self {
         Self {
             table: table.to_vec(),
@@ -360,7 +360,7 @@ fn plan_room(request: Request) -> usize {
     }
 }
 
-/// Arms the devices of a consistent state as a sleep entry to Sx asks for it, in
+/// Arms the devices of a consistent state as a sleep entry for Sx asks for it, in
 /// some cases but for one or two devices, or leaves them.
 fn arm_for_sleep(rng: &mut Rng, table: &[u8], state: &mut [u8], x: u32) {
     let x = x as u8;

@@ -3,7 +3,7 @@
 
 use reference::{demand3, numbers, Answer, Request, State, Table, PLAN_BYTES, SLEEP_PLAN_BYTES};
 
-use crate::choices::{choices, is_choice, least, may_take, FEW_DEVICES};
+use crate::choices::{choices, deepened, least, FEW_DEVICES};
 use crate::{equal, Case};
 
 /// The kind of sleep entry.
@@ -53,38 +53,25 @@ impl<'a> Start<'a> {
         })
     }
 
-    /// Says whether these states are the right ones, `None` being answer 21. On
-    /// a station with few devices all choices are tried. On others the states
-    /// must be a choice in which no device can be shallower.
+    /// Says whether these states are those of the least choice, `None` being answer
+    /// 21. On a station with few devices all choices are tried too.
     fn states_hold(&self, states: Option<&[u8]>) -> Result<(), String> {
         let Self {
             table, state, x, ..
         } = self;
-        if table.device_count() <= FEW_DEVICES {
-            let choices = choices(table, state, *x);
-            let least = least(&choices).map(Vec::as_slice);
-            equal(
-                "whether there is a least choice",
-                &least.is_none(),
-                &choices.is_empty(),
-            )?;
-            return equal("the states", &states, &least);
-        }
-        let Some(states) = states else {
+        let reached = deepened(table, state, *x);
+        equal("the states", &states, &reached.as_deref())?;
+        if table.device_count() > FEW_DEVICES {
             return Ok(());
-        };
-        let choice = is_choice(table, state, *x, states);
-        equal("whether the states are a choice", &choice, &true)?;
-        let mut less = states.to_vec();
-        for d in 0..states.len() {
-            for shallower in 0..states[d] {
-                less[d] = shallower;
-                let could = may_take(table, state, *x, &less, d);
-                equal("whether a device could be shallower", &could, &false)?;
-            }
-            less[d] = states[d];
         }
-        Ok(())
+        let choices = choices(table, state, *x);
+        let least = least(&choices).map(Vec::as_slice);
+        equal(
+            "whether there is a least choice",
+            &least.is_none(),
+            &choices.is_empty(),
+        )?;
+        equal("the states, of all choices", &states, &least)
     }
 }
 
@@ -93,12 +80,14 @@ impl Sleep {
     /// nothing. Otherwise the states are those of the least choice, the entries are
     /// as before apart from them, and exactly the needed set is on, which can be on
     /// in Sx; a request finds the state consistent. The plan is the plans of the
-    /// moves, one after another, each of which passes; or the `_OFF`s alone. A second
-    /// sleep entry finds nothing to do. The checker answers 10.
+    /// moves, one after another, each of which passes; or the turn-off calls
+    /// alone. A second sleep entry finds nothing to do. The checker answers 10.
     pub fn holds(&self, case: &Case) -> Result<(), String> {
         let (mut state, mut plan) = (case.state.clone(), case.plan.clone());
         let answer = self.planned(case, &mut state, case.request, &mut plan);
-        let (list, rest) = plan.split_at(4 * usize::from(answer.count));
+        let Some((list, rest)) = plan.split_at_checked(4 * usize::from(answer.count)) else {
+            return Err(format!("a count of {} is above the plan", answer.count));
+        };
         equal("what is past the calls", rest, &case.plan[list.len()..])?;
         if !answer.is_done() {
             equal("the count of a refusal", &answer.count, &0)?;

@@ -193,14 +193,14 @@ fn refused_requests() -> Vec<Workload> {
     ]
 }
 
-/// Sleep entry to S3 of the bench station, with the camera armed for D2, and of
+/// Sleep entry for S3 of the bench station, with the camera armed for D2, and of
 /// the full one, where every device moves or none does; and its own refusals.
 fn sleep_entries() -> Vec<Workload> {
     let bench = bench_station().table();
     let armed = walk(&bench, &[Request::arm(1, 3, 2)]);
     let full = sleeping_station().table();
-    let awake = walk(&full, &armings());
-    let asleep = walk(&full, &[&armings()[..], &[Request::sleep(3)]].concat());
+    let before = walk(&full, &armings());
+    let after = walk(&full, &[&armings()[..], &[Request::sleep(3)]].concat());
     let on_last = |request| walk(&full, &[request]);
     vec![
         Workload::planner(
@@ -211,12 +211,12 @@ fn sleep_entries() -> Vec<Workload> {
         Workload::planner(
             "sleep entry, full table, 32 moves",
             0,
-            Case::of_sleep(&full, &awake, 3),
+            Case::of_sleep(&full, &before, 3),
         ),
         Workload::planner(
             "sleep entry, full table, none moves",
             0,
-            Case::of_sleep(&full, &asleep, 3),
+            Case::of_sleep(&full, &after, 3),
         ),
         Workload::planner("sleep entry, last device armed for another", 20, {
             Case::of_sleep(&full, &on_last(Request::arm(LAST, 2, 3)), 3)

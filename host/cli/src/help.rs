@@ -111,10 +111,10 @@ pub const PLAN: Help = Help {
 The calls are shown in the order in which they must be made. Nothing is written
 without an option, or if the request is refused.
 
-Sleep entry moves each device to the shallowest state that it may take, and the
+Sleep entry brings each device to the shallowest state that it may take, and the
 calls are shown move by move. If no device moves, they switch off what is on and
 not needed. A device may take a state
-  that it has, and that is not shallower than the present one or _SxD,
+  that it supports, and that is not shallower than the present one or _SxD,
   in which it needs only resources that can be on in SLEEP,
   that is its wake state, if it is armed, and
   that is not shallower than the state its parent takes.

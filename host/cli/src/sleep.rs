@@ -8,7 +8,7 @@ use crate::trace::{Part, Purpose};
 use crate::words::device_state;
 use crate::{backend, Failure};
 
-/// The planner's list for a sleep entry to Sx, cut into the calls of each move.
+/// The planner's list for a sleep entry for Sx, cut into the calls of each move.
 pub fn parts(table: &[u8], state: &[u8], x: u32, list: &[u8]) -> Result<Vec<Part>, Failure> {
     let moves = reference::sleep_moves(table, state, x).map_err(disagreement)?;
     if moves.is_empty() {
@@ -31,9 +31,10 @@ pub fn parts(table: &[u8], state: &[u8], x: u32, list: &[u8]) -> Result<Vec<Part
         parts.push(Part::labelled(label(step), first..end, purpose));
         first = end;
     }
-    match 4 * first == list.len() {
-        true => Ok(parts),
-        false => Err(other_calls()),
+    if 4 * first == list.len() {
+        Ok(parts)
+    } else {
+        Err(other_calls())
     }
 }
 
@@ -54,11 +55,11 @@ fn other_calls() -> Failure {
     Failure::new("the sleep entry does not have the calls of its moves; please report this".into())
 }
 
-/// The sentence of a refusal of sleep entry to Sx, if there is more to say than the
+/// The sentence of a refusal of sleep entry for Sx, if there is more to say than the
 /// answer itself does, and the lines after it.
 pub fn refusal(answer: Answer, table: &[u8], state: &[u8], x: u32) -> Option<(String, String)> {
     match answer.verdict()? {
-        Verdict::BadRequest => Some(out_of_range(x)),
+        Verdict::BadRequest => Some(bad_request(x)),
         Verdict::ArmedForOther => armed_for_other(table, state, answer.place as usize, x),
         Verdict::NoChoice => no_choice(table, state, x),
         _ => None,
@@ -66,7 +67,7 @@ pub fn refusal(answer: Answer, table: &[u8], state: &[u8], x: u32) -> Option<(St
 }
 
 /// Answer 10. The planner gives it for S0, the checker always.
-fn out_of_range(x: u32) -> (String, String) {
+fn bad_request(x: u32) -> (String, String) {
     match x {
         0 => (
             "sleep entry is for S1 to S4, and S0 is asked for.".into(),

@@ -40,7 +40,7 @@ impl Task {
         }
     }
 
-    /// The x of a sleep entry to Sx.
+    /// The x of a sleep entry for Sx.
     fn sleep_entry(self) -> Option<u32> {
         match self {
             Task::Request(request) if request == Request::sleep(request.a) => Some(request.a),

@@ -22,6 +22,8 @@ const ROW: usize = 40;
 /// How far a line for off is below one for on.
 const SWING: usize = 20;
 const LINE: usize = 20;
+/// How far the methods of the calls stand above the first row.
+const METHODS: usize = 27;
 const LEAST_WIDTH: usize = 640;
 
 const STYLE: &str = "\
@@ -186,7 +188,7 @@ fn draw_call(out: &mut String, layout: &Layout, rows: usize, number: usize, step
     );
     let (method, target) = words::short_call(step.call);
     text(out, x, layout.top - 42, "small middle", &number.to_string());
-    text(out, x, layout.top - 27, label, &method);
+    text(out, x, layout.top - METHODS, label, &method);
     text(out, x, layout.top - 12, "small middle", &target);
 }
 

@@ -50,7 +50,7 @@ pub enum Obstacle {
     },
 }
 
-/// The moves of a sleep entry to Sx in the order of its plan, or its refusal with
+/// The moves of a sleep entry for Sx in the order of its plan, or its refusal with
 /// 1 to 8, 10, 20 or 21.
 pub fn sleep_moves(table: &[u8], state: &[u8], x: u32) -> Result<Vec<SleepMove>, Answer> {
     let table = Table::read(table)?;
@@ -64,7 +64,7 @@ pub fn sleep_moves(table: &[u8], state: &[u8], x: u32) -> Result<Vec<SleepMove>,
     Ok(moves.filter(|step| step.to != step.from).collect())
 }
 
-/// Where a sleep entry to Sx is refused with 21: the lowest device without any
+/// Where a sleep entry for Sx is refused with 21: the lowest device without any
 /// state to take, when those below it take their least, and what is against each
 /// of its states D0 to D3cold.
 pub fn sleep_obstacles(table: &[u8], state: &[u8], x: u32) -> Option<(usize, [Obstacle; 5])> {

@@ -37,7 +37,7 @@ fn bench_with(camera: [u8; 4], lamp: [u8; 4]) -> Desk {
     desk(&bench(), &[at(0), camera, lamp], 0b111)
 }
 
-/// A sleep entry to Sx must give exactly these calls, and leave these entries and
+/// A sleep entry for Sx must give exactly these calls, and leave these entries and
 /// this on. The functions on words do what those on bytes do.
 fn sleeps(desk: &Desk, x: u32, calls: &[[u8; 4]], entries: &[[u8; 4]], on: u32) {
     let Desk {
@@ -88,7 +88,7 @@ fn moves_give(desk: &Desk, x: u32, calls: &[[u8; 4]]) {
     }
 }
 
-/// A sleep entry to Sx is refused, and nothing is written.
+/// A sleep entry for Sx is refused, and nothing is written.
 fn refuses(desk: &Desk, x: u32, number: u8, place: u64) {
     let Desk { table, state } = desk;
     let refusal = Answer::refused(number, place);
@@ -102,7 +102,7 @@ fn refuses(desk: &Desk, x: u32, number: u8, place: u64) {
     }
 }
 
-/// A sleep entry to Sx is refused with 21, since this stands against each state
+/// A sleep entry for Sx is refused with 21, since this stands against each state
 /// of a device.
 fn has_no_choice(desk: &Desk, x: u32, device: usize, against: [Obstacle; 5]) {
     refuses(desk, x, 21, 0);

@@ -262,9 +262,9 @@ impl Verdict {
                 "this device is armed, and not for the sleep state asked for."
             }
             Verdict::NoChoice => {
-                "there are no states for all devices in that sleep state: each must have its state, \
-                 be at least as deep as now, as its _SxD and as its parent, need no resource that \
-                 is off there, and if armed be in its wake state."
+                "there are no states for all devices in that sleep state: each must support its \
+                 state, be at least as deep as now, as its _SxD and as its parent, need no resource \
+                 that cannot be on there, and if armed be in its wake state."
             }
         }
     }

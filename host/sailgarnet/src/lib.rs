@@ -8,7 +8,7 @@
 //!
 //! A table says which resources and devices there are. A state, 132 bytes, says
 //! what is on and in which state each device is. A [`Request`] moves, arms or
-//! disarms one device, or is a sleep entry, which moves all devices to where they
+//! disarms one device, or is a sleep entry, which brings the devices to where they
 //! may be while the system sleeps. The planner gives the method calls that carry it
 //! out, a [`Call`] for each four bytes, and the new state; or it refuses. The
 //! [`Answer`] says which, and its [`Verdict`] has a sentence for each number.

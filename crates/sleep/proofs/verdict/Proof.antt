@@ -1,28 +1,29 @@
 -- 10, 20 and 21 in turn; where they pass, the least choice stands in the lent bytes.
 use mathlib.Core.Path.{refl}
 use Rattle.request.proofs.Rules.{byte-below}
-use Rattle.sleep.proofs.Verdicts.{form-small, answers, none-chosen, all-chosen}
+use Rattle.status.proofs.Filled.{filled-long}
+use Rattle.sleep.proofs.Verdicts.{form-small, answers, lefts}
 use borrow.Author.Needs.{needs}
 use Rattle.sleep.proofs.verdict.Statement.{statement}
 use Rattle.sleep.proofs.verdict.Tie as tie
 
 returns : tie.Need-returns
-returns c = (search (needs, answers), none-chosen _ _ _ _ _ _ _ refl)
+returns c = (search (needs, answers), search (needs, lefts))
 
 cast-x : tie.Need-cast-x
 cast-x c = search (needs, form-small, byte-below)
 
 returns-2 : tie.Need-returns-2
-returns-2 c = (search (needs, answers), none-chosen _ _ _ _ _ _ _ refl)
+returns-2 c = (search (needs, answers), search (needs, lefts))
 
 choose-requires : tie.Need-choose-requires
 choose-requires c κs = (search needs, search needs, search (needs, form-small))
 
 returns-3 : tie.Need-returns-3
-returns-3 c = (search (needs, answers), search (needs, none-chosen))
+returns-3 c = (search (needs, answers), search (needs, lefts))
 
 returns-4 : tie.Need-returns-4
-returns-4 c = (search (needs, answers), search (needs, all-chosen))
+returns-4 c = (search (needs, answers), search (needs, lefts))
 
 pub verdict-spec : {M : Type 1} → statement M
 verdict-spec =

@@ -2,13 +2,17 @@
 
 use std::fmt::Write;
 
-use super::{base, text, Layout};
+use super::{base, text, Layout, METHODS};
 use crate::trace::{Part, Trace};
 
 /// The height of the labels above the calls.
 const HEIGHT: usize = 24;
+/// The height of the texts of a call, between the labels and the first row.
+const CALL_TEXTS: usize = 52;
 /// The space at each side of a band.
 const GAP: usize = 6;
+/// The space at each side of a label within its band.
+const MARGIN: usize = 10;
 
 const STYLE: &str = "\
 .band { fill: #f6f3ec; stroke: #8a7f66 }
@@ -32,13 +36,13 @@ pub struct Extras {
 impl Extras {
     /// Those of a trace. Without a labelled part there are none.
     pub fn of(trace: &Trace) -> Self {
-        match trace.parts.iter().any(|part| part.label.is_some()) {
-            true => Self {
-                style: STYLE,
-                legend: Some(LEGEND),
-                height: HEIGHT,
-            },
-            false => Self::default(),
+        if trace.parts.iter().all(|part| part.label.is_none()) {
+            return Self::default();
+        }
+        Self {
+            style: STYLE,
+            legend: Some(LEGEND),
+            height: HEIGHT,
         }
     }
 }
@@ -47,13 +51,13 @@ impl Extras {
 pub fn width(part: &Part) -> usize {
     let label = part.label.as_ref();
     // A small letter is about 6 wide.
-    label.map_or(0, |label| 6 * label.len() + 2 * GAP + 20)
+    label.map_or(0, |label| 6 * label.len() + 2 * (GAP + MARGIN))
 }
 
 /// Draws the band of each labelled part.
 pub fn draw(out: &mut String, layout: &Layout, trace: &Trace) {
     let bottom = layout.row_top(trace.rows.len().max(1));
-    let top = layout.top - HEIGHT - 52;
+    let top = layout.top - HEIGHT - CALL_TEXTS;
     for (part, span) in trace.parts.iter().zip(&layout.spans) {
         let Some(label) = &part.label else {
             continue;
@@ -68,7 +72,13 @@ pub fn draw(out: &mut String, layout: &Layout, trace: &Trace) {
         let middle = (span.start + span.end) / 2;
         text(out, middle, top + 16, "small middle", label);
         if part.calls.is_empty() {
-            text(out, middle, layout.top - 27, "small middle", "no calls");
+            text(
+                out,
+                middle,
+                layout.top - METHODS,
+                "small middle",
+                "no calls",
+            );
         }
     }
 }

@@ -6,7 +6,6 @@ use cases::{arm_for, draw_state, Rng, Station};
 use crate::desk::{is_well_formed, Desk};
 
 const EXAMPLE: &str = include_str!("../../../../examples/station.txt");
-const PAGE: &str = include_str!("../../../README.md");
 
 /// The camera armed for S3 and D2, and every device in D0.
 const ARMED: [[u8; 4]; 3] = [[0; 4], [0, 1, 3, 2], [0; 4]];
@@ -47,25 +46,6 @@ fn a_sleep_entry_is_shown_move_by_move() {
     let words = ["plan", "table", "state", "sleep s3"];
     assert_eq!(desk.run_words(words).done(), expected);
     assert_eq!(desk.files(), ["state", "table"]);
-}
-
-#[test]
-fn the_page_shows_a_sleep_entry() {
-    let desk = Desk::new("sleep_page");
-    let text = [
-        "fresh table -o state",
-        "plan table state arm 1 S3 D2 -o state",
-        "plan table state sleep S3",
-    ]
-    .map(|line| desk.run(line).done());
-    let shown: String = text[2]
-        .lines()
-        .map(|line| format!("    {line}\n"))
-        .collect();
-    assert!(
-        PAGE.contains(&format!("state sleep S3\n{shown}\n")),
-        "{shown}"
-    );
 }
 
 #[test]

@@ -6,7 +6,7 @@ use lib.ListN.{length}
 use Rattle.rules.specs.Station.{countD, station}
 use Rattle.rules.specs.Status.{entries}
 use Rattle.status.specs.Needs.{neededFrom}
-use Rattle.planner.proofs.Turns.{Underway, words-turn, words-sum, words-room, words-needed, words-above, words-next, by-words}
+use Rattle.planner.proofs.Turns.{Underway, turn-now, needed-now, above-now, words-sum, words-room, words-next, by-words}
 use Rattle.planner.proofs.Choices.{looking}
 use borrow.Author.Needs.{needs}
 use Rattle.planner.proofs.moves.write_moves.Statement.{statement}
@@ -20,6 +20,14 @@ Inv-loop table state₀ chosen plan₀ below above₀ n₀ i₀ state plan above
 abbrev μ-loop : tie.MeasureT-loop
 μ-loop table state₀ chosen plan₀ below above₀ n₀ i₀ state plan above n i = i
 
+chosen-needs-requires : tie.Need-chosen-needs-requires Inv-loop μ-loop
+chosen-needs-requires c κs =
+    let test = c .before in
+    let turn = test .before in
+    let given = turn .before .before .before .before .before .before .before .before .before .before .pre in
+    let inv = turn .loop .inv in
+    turn-now _ _ _ (given .0) _ _ (test .loop-test .taken) (inv .0) (inv .3 .moving)
+
 move-words-requires : tie.Need-move-words-requires Inv-loop μ-loop
 move-words-requires c κs =
     let united = c .before .before in
@@ -31,9 +39,9 @@ move-words-requires c κs =
     let given = sets .before .before .before .before .before .before .before .pre in
     let inv = turn .loop .inv in
     let h = test .loop-test .taken in (
-      words-turn _ _ _ _ (given .0) _ _ _ _ (inv .3) h (inv .0),
-      words-needed _ _ _ _ (given .0) _ _ _ _ (inv .3) h (inv .0) (given .1) _ _ _ (own .chosen-needs .ensures) (inv .4)
-          (added .union .ensures) _ _ (sets .needed-before .ensures .0) (united .union2 .ensures),
+      turn-now _ _ _ (given .0) _ _ h (inv .0) (inv .3 .moving),
+      needed-now _ _ _ (given .0) _ _ h (inv .0) (inv .3 .moving) _ _ _ (own .chosen-needs .ensures) (inv .4) (added .union .ensures) _ _ _
+          (sets .needed-below .ensures) (united .union2 .ensures),
       words-room _ _ _ _ (given .0) _ _ _ _ (inv .3) h (inv .0) (given .1),
     )
 
@@ -63,8 +71,8 @@ loop-again c =
       search needs,
       search needs,
       words-next _ _ _ _ (given .0) _ _ _ _ (inv .3) h (inv .0) (given .1) _ _ _ (written .move-words .ensures),
-      words-above _ _ _ _ (given .0) _ _ _ _ (inv .3) h (inv .0) (given .1) _ _ _ (own .chosen-needs .ensures) (inv .4)
-          (added .union .ensures) _ _ _ (written .move-words .ensures),
+      above-now _ _ _ (given .0) _ _ h (inv .0) (inv .3 .moving) _ _ _ (own .chosen-needs .ensures) (inv .4) (added .union .ensures) _
+          (written .move-words .ensures .state),
     )
 
 pub write-moves-spec : {M : Type 1} → statement M
@@ -78,7 +86,7 @@ write-moves-spec =
     (λ c κs. search (needs, looking))
     (λ c. search (needs, by-words))
     (λ c. search needs)
-    (λ c κs. search (needs, by-words))
+    chosen-needs-requires
     (λ c κs. search needs)
     (λ c. search needs)
     (λ c. search needs)

@@ -13,23 +13,10 @@ returns c =
     parts (words-refused _ _ _ _ (search needs) _ (asked .before .before .room .ensures .0) _ _ (answered .passes .ensures)
     (asked .verdict .ensures) (c .if1 .taken))
 
-write-plan-requires : tie.Need-write-plan-requires
-write-plan-requires c κs =
-    let after = c .before .before in
-    let left = after .before .before in
-    let answered = left .before in
-    let asked = answered .before in
-    let e = asked .verdict .ensures in
-    let f = answered .passes .ensures in (
-      permitted-by _ _ _ _ _ _ e f (left .if1 .left),
-      room-there _ _ _ _ _ (asked .before .before .room .ensures .0) _ _ f e (left .if1 .left),
-      after .needed-after .ensures,
-    )
-
 returns-2 : tie.Need-returns-2
 returns-2 c =
     let written = c .before .before .before .before in
-    let left = written .before .before .before .before .before in
+    let left = written .before .before .before in
     let answered = left .before in
     let asked = answered .before in
     parts (words-planned _ _ _ _ (search needs) _ (asked .before .before .room .ensures .0) _ _ (answered .passes .ensures)
@@ -44,8 +31,7 @@ request-words-spec =
     (λ c κs. search needs)
     (λ c. search needs)
     returns
-    (λ c κs. search (needs, permitted-by))
-    write-plan-requires
+    (λ c κs. (search (needs, permitted-by), search (needs, room-there)))
     (λ c. search needs)
     (λ c. search needs)
     returns-2)

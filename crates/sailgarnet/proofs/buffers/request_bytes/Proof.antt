@@ -43,26 +43,18 @@ returns-3 c =
     let room = asked .before .before .before .before .before .before .before in
     parts (bytes-refused _ _ _ _ (search needs) _ (room .room .ensures .0) _ _ (passed .passes2 .ensures) (asked .past-table .ensures) (c .if3 .taken))
 
-needed-after-requires : tie.Need-needed-after-requires
-needed-after-requires c κs =
-    let left = c .before in
-    let passed = left .before in
-    permitted-by _ _ _ _ _ _ (passed .before .past-table .ensures) (passed .passes2 .ensures) (left .if3 .left)
-
 write-plan-requires : tie.Need-write-plan-requires
 write-plan-requires c κs =
-    let after = c .before .before in
-    let left = after .before .before in
+    let left = c .before .before in
     let passed = left .before in (
       permitted-by _ _ _ _ _ _ (passed .before .past-table .ensures) (passed .passes2 .ensures) (left .if3 .left),
       search (needs, room-words),
-      after .needed-after .ensures,
     )
 
 write-words-requires : tie.Need-write-words-requires
 write-words-requires c κs =
     let written = c .before .before .before .before .before in
-    let left = written .before .before .before .before .before in
+    let left = written .before .before .before in
     let passed = left .before in
     let asked = passed .before in
     let room = asked .before .before .before .before .before .before .before in
@@ -78,7 +70,7 @@ returns-4 : tie.Need-returns-4
 returns-4 c =
     let copied = c .before .before in
     let written = copied .before .before .before .before .before .before in
-    let left = written .before .before .before .before .before in
+    let left = written .before .before .before in
     let passed = left .before in
     let asked = passed .before in
     let room = asked .before .before .before .before .before .before .before in
@@ -100,7 +92,6 @@ request-bytes-spec =
     (λ c κs. search needs)
     (λ c. search needs)
     returns-3
-    needed-after-requires
     (λ c. search needs)
     write-plan-requires
     (λ c. search needs)

@@ -7,7 +7,7 @@ use Rattle.words.specs.Words.{wordBytes}
 use Rattle.rules.specs.Station.{countD, station}
 use Rattle.rules.specs.Status.{entries}
 use Rattle.status.specs.Needs.{neededFrom}
-use Rattle.planner.proofs.Turns.{Underway, bytes-turn, bytes-sum, bytes-room, bytes-needed, bytes-above, bytes-next, by-bytes}
+use Rattle.planner.proofs.Turns.{Underway, turn-now, needed-now, above-now, bytes-sum, bytes-room, bytes-next, by-bytes}
 use Rattle.planner.proofs.Choices.{looking}
 use borrow.Author.Needs.{needs}
 use Rattle.sailgarnet.proofs.moves.write_moves.Statement.{statement}
@@ -21,6 +21,14 @@ Inv-loop table state₀ chosen plan₀ below above₀ n₀ i₀ state plan above
 abbrev μ-loop : tie.MeasureT-loop
 μ-loop table state₀ chosen plan₀ below above₀ n₀ i₀ state plan above n i = i
 
+chosen-needs-requires : tie.Need-chosen-needs-requires Inv-loop μ-loop
+chosen-needs-requires c κs =
+    let test = c .before in
+    let turn = test .before in
+    let given = turn .before .before .before .before .before .before .before .before .before .before .pre in
+    let inv = turn .loop .inv in
+    turn-now _ _ _ (given .0) _ _ (test .loop-test .taken) (inv .0) (inv .3 .moving)
+
 move-bytes-requires : tie.Need-move-bytes-requires Inv-loop μ-loop
 move-bytes-requires c κs =
     let united = c .before .before in
@@ -32,9 +40,9 @@ move-bytes-requires c κs =
     let given = sets .before .before .before .before .before .before .before .pre in
     let inv = turn .loop .inv in
     let h = test .loop-test .taken in (
-      bytes-turn _ _ _ _ (given .0) _ _ _ _ (inv .3) h (inv .0),
-      bytes-needed _ _ _ _ (given .0) _ _ _ _ (inv .3) h (inv .0) (given .1) _ _ _ (own .chosen-needs .ensures) (inv .4)
-          (added .union .ensures) _ _ (sets .needed-before .ensures .0) (united .union2 .ensures),
+      turn-now _ _ _ (given .0) _ _ h (inv .0) (inv .3 .moving),
+      needed-now _ _ _ (given .0) _ _ h (inv .0) (inv .3 .moving) _ _ _ (own .chosen-needs .ensures) (inv .4) (added .union .ensures) _ _ _
+          (sets .needed-below .ensures) (united .union2 .ensures),
       bytes-room _ _ _ _ (given .0) _ _ _ _ (inv .3) h (inv .0) (given .1),
     )
 
@@ -64,8 +72,8 @@ loop-again c =
       search needs,
       search needs,
       bytes-next _ _ _ _ (given .0) _ _ _ _ (inv .3) h (inv .0) (given .1) _ _ _ (written .move-bytes .ensures),
-      bytes-above _ _ _ _ (given .0) _ _ _ _ (inv .3) h (inv .0) (given .1) _ _ _ (own .chosen-needs .ensures) (inv .4)
-          (added .union .ensures) _ _ _ (written .move-bytes .ensures),
+      above-now _ _ _ (given .0) _ _ h (inv .0) (inv .3 .moving) _ _ _ (own .chosen-needs .ensures) (inv .4) (added .union .ensures) _
+          (written .move-bytes .ensures .state),
     )
 
 pub write-moves-spec : {M : Type 1} → statement M
@@ -79,7 +87,7 @@ write-moves-spec =
     (λ c κs. search (needs, looking))
     (λ c. search (needs, by-bytes))
     (λ c. search needs)
-    (λ c κs. search (needs, by-bytes))
+    chosen-needs-requires
     (λ c κs. search needs)
     (λ c. search needs)
     (λ c. search needs)

@@ -6,7 +6,7 @@ use Rattle.rules.specs.Station.{station}
 use Rattle.rules.specs.Status.{entries}
 use Rattle.rules.specs.Sleep.{mayTakeUnder, leastState}
 use Rattle.sleep.specs.Chosen.{statesIn}
-use Rattle.sleep.proofs.Choosing.{states}
+use Rattle.sleep.proofs.Choosing.{asking, states}
 use borrow.Author.Needs.{needs}
 use Rattle.sleep.proofs.choice.least_state.Statement.{statement}
 use Rattle.sleep.proofs.choice.least_state.Tie as tie
@@ -22,5 +22,5 @@ abbrev μ-loop : tie.MeasureT-loop
 pub least-state-spec : {M : Type 1} → statement M
 least-state-spec =
     tie.close
-    (tie.spec Inv-loop μ-loop (λ c κs. search needs) (λ c. search (needs, states)) (λ c κs. search needs) (λ c. search (needs, states)) (λ c. search needs) (λ c. search needs)
+    (tie.spec Inv-loop μ-loop (λ c κs. search needs) (λ c. search (needs, states)) (λ c κs. search (needs, asking)) (λ c. search (needs, states)) (λ c. search needs) (λ c. search needs)
     (λ c. search (needs, states)) (λ c. search (needs, states)))

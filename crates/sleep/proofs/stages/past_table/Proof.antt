@@ -11,4 +11,4 @@ returns c = (search (needs, sleeping), search (needs, sleeping))
 pub past-table-spec : {M : Type 1} → statement M
 past-table-spec =
     tie.close
-    (tie.spec (λ c κs. search needs) (λ c κs. search needs) returns (λ c κs. (search (needs, ready-for), search needs)) (λ c. search needs) (λ c. (search (needs, sleeping), search needs)))
+    (tie.spec (λ c κs. search needs) (λ c κs. search needs) returns (λ c κs. (search (needs, ready-for), search needs)) (λ c. search needs) (λ c. (search (needs, sleeping), search (needs, sleeping))))
