@@ -40,16 +40,16 @@ use Rattle.laws.proofs.SleepStages.{SleepPassed, sleep-of}
 use Rattle.laws.proofs.Sleep.{offs-list, sleep-offs, sleep-lists}
 use Rattle.table.specs.Layout.{WellSized}
 use Rattle.status.specs.Ready.{Ready}
-use Rattle.request.proofs.Chain.{ready-of}
+use Rattle.request.proofs.Chain.{ready-of, stop-table}
 use Rattle.switching.specs.Written.{WrittenPlan}
 use Rattle.switching.proofs.Answered.{Answered}
 use Rattle.switching.proofs.Short.{up-short}
 use Rattle.status.proofs.Filled.{filled-long, filled-at}
 use Rattle.sleep.specs.Chosen.{statesIn, leastEach, stagesLeft}
-use Rattle.sleep.proofs.Verdicts.{passed-least}
+use Rattle.sleep.proofs.Verdicts.{sleep-table, passed-least}
 use Rattle.bringup.specs.Passed.{BringUpState}
 use Rattle.planner.specs.Moves.{allMoves, choiceList, choiceState, Given, WrittenFrom}
-use Rattle.planner.proofs.Whole.{outcome-stops, outcome-done}
+use Rattle.planner.proofs.Whole.{outcome-stops, outcome-done, bytes-refused}
 use Rattle.planner.proofs.Turns.{moves-short}
 
 -- ---- the states that stand in the lent bytes are the least choice
@@ -239,3 +239,10 @@ pub in-place : (list after plan : List ℕ) (n : ℕ) (b′ plan′ : List ℕ) 
 in-place list after plan n b′ plan′ w = record { count = w .count; state = w .state; elements = w .words }
 
 pub ruleset by-choice = (choice-still, choice-moves, in-place)
+
+-- ---- of any kind, what is no table: v is the table's answer, p whether it passes
+pub bytes-no-table : (t b : List ℕ) (q : Request) (plan : List ℕ) (v : Verdict) (p : Bool) → v ≡ tableVerdict t → p ≡ passes v → not p ≡ true
+    → Answered v b plan (planBytes t b q plan)
+bytes-no-table t b q plan v p e f n =
+    decide (isSleep q) (λ k. sleep-bytes-refused t b q plan k _ refl v p f (sleep-table t b q _ v p e f n) n)
+    (λ k. bytes-refused t b q plan k _ refl v p f (stop-table t v p e f b q _ n) n)

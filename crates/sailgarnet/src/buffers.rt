@@ -8,6 +8,8 @@ ghost use mathlib.Core.Bool.{true, false};
 ghost use Rattle.rules.specs.Station.{station};
 ghost use Rattle.rules.specs.Status.{status};
 ghost use Rattle.rules.specs.Check.{conformingTo};
+ghost use Rattle.rules.specs.declared.Verdict.the-variants.{Done};
+ghost use Rattle.rules.specs.Table.{tableVerdict};
 ghost use Rattle.rules.specs.Sleep.{isSleep};
 ghost use Rattle.request.specs.Permitted.{PermittedRequest};
 ghost use Rattle.rules.specs.Outcomes.{ofBytes, planBytes, checkBytes};
@@ -17,21 +19,14 @@ ghost use Rattle.laws.specs.BringUp.{BringUpCheckedBytes};
 ghost use Rattle.bringup.specs.Passed.{BringUpState};
 ghost use Rattle.sailgarnet.specs.Lists.{wordsInBytes};
 
-// Plans a request of any kind but 4 on a plan of bytes.
+// Plans a request of any kind but 4 on a plan of bytes, for an accepted table.
 fn request_bytes(table: &[u8], state: &mut [u8], q: Request, plan: &mut [u8]) -> Verdict
-    requires { ⌜ isSleep q ≡ false ⌝ }
+    requires { ⌜ (isSleep q ≡ false) × (tableVerdict (now table) ≡ Done 0) ⌝ }
     ensures { λ r. ⌜ (r ≡ planBytes (now (table .entry)) (now (state .entry)) q (now (plan .entry)) .verdict)
         × (now (state .exit) ≡ planBytes (now (table .entry)) (now (state .entry)) q (now (plan .entry)) .state)
         × (now (plan .exit) ≡ planBytes (now (table .entry)) (now (state .entry)) q (now (plan .entry)) .plan) ⌝ }
 {
     let room = plan.len() >= 4 * switching::write::room(table);
-    if !table::header::header_good(table) {
-        return Verdict::Refused(Reason::NotATable, 0);
-    }
-    let of_table = table::check_past_header(table);
-    if !rules::passes(of_table) {
-        return of_table;
-    }
     let v = request::stages::past_table(table, state, room, q);
     if !rules::passes(v) {
         return v;
@@ -42,21 +37,14 @@ fn request_bytes(table: &[u8], state: &mut [u8], q: Request, plan: &mut [u8]) ->
     Verdict::Done(n)
 }
 
-// Plans sleep entry on a plan of bytes.
+// Plans sleep entry on a plan of bytes, for an accepted table.
 fn sleep_bytes(table: &[u8], state: &mut [u8], q: Request, plan: &mut [u8]) -> Verdict
-    requires { ⌜ isSleep q ≡ true ⌝ }
+    requires { ⌜ (isSleep q ≡ true) × (tableVerdict (now table) ≡ Done 0) ⌝ }
     ensures { λ r. ⌜ (r ≡ planBytes (now (table .entry)) (now (state .entry)) q (now (plan .entry)) .verdict)
         × (now (state .exit) ≡ planBytes (now (table .entry)) (now (state .entry)) q (now (plan .entry)) .state)
         × (now (plan .exit) ≡ planBytes (now (table .entry)) (now (state .entry)) q (now (plan .entry)) .plan) ⌝ }
 {
     let room = plan.len() >= 4 * planner::moves::room(table);
-    if !table::header::header_good(table) {
-        return Verdict::Refused(Reason::NotATable, 0);
-    }
-    let of_table = table::check_past_header(table);
-    if !rules::passes(of_table) {
-        return of_table;
-    }
     let mut chosen = [0u8; 32];
     let v = sleep::stages::past_table(table, state, room, q, &mut chosen);
     if !rules::passes(v) {
@@ -71,6 +59,13 @@ pub fn plan_bytes(table: &[u8], state: &mut [u8], q: Request, plan: &mut [u8]) -
         × (now (state .exit) ≡ planBytes (now (table .entry)) (now (state .entry)) q (now (plan .entry)) .state)
         × (now (plan .exit) ≡ planBytes (now (table .entry)) (now (state .entry)) q (now (plan .entry)) .plan) ⌝ }
 {
+    if !table::header::header_good(table) {
+        return Verdict::Refused(Reason::NotATable, 0);
+    }
+    let of_table = table::check_past_header(table);
+    if !rules::passes(of_table) {
+        return of_table;
+    }
     if q.kind == 4 {
         return sleep_bytes(table, state, q, plan);
     }
