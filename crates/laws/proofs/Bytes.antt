@@ -25,7 +25,7 @@ use Rattle.rules.specs.Outcomes.{listRoom, stagesVerdict, permittedVerdict, pla
 use Rattle.rules.proofs.Answers.{done-passes}
 use Rattle.rules.proofs.Width.{width-wide}
 use Rattle.laws.specs.Carried.{All}
-use Rattle.laws.specs.Demand3.{Permitted, neededAfter, Demand3Bytes}
+use Rattle.laws.specs.Demand3.{neededAfter, Demand3Bytes}
 use Rattle.laws.proofs.Accepted.{accepted}
 use Rattle.laws.proofs.States.{small, form-passed, form-device}
 use Rattle.laws.proofs.Stages.{Stages, stages-of, stages-pass}

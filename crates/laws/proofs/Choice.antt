@@ -1,5 +1,5 @@
--- RULES.md 13: the least choice of sleep entry, taken device by device, is a choice if there is one, and none has a shallower state. Over a
--- station whose parents have lower numbers, as an accepted table's station has.
+-- RULES.md 13: the least choice of sleep entry, taken device by device, is a choice if there is one, and no device is shallower in any
+-- other choice. Over a station whose parents have lower numbers, as an accepted table's station has.
 use mathlib.Core.Path.{_≡_, refl, sym, _∙_}
 use mathlib.Core.Bool.{true, false, _&&_, _||_, true≢false}
 use mathlib.Core.Logic.{inl, inr, ⊎-elim}

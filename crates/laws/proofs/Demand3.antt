@@ -29,7 +29,7 @@ use Rattle.rules.specs.Sleep.{isSleep}
 use Rattle.rules.specs.Outcomes.{listRoom, stagesVerdict, permittedVerdict, planned, stateAfter, planWords, checkWords}
 use Rattle.rules.proofs.Answers.{done-passes}
 use Rattle.laws.specs.Carried.{All, Other, listed, Carried}
-use Rattle.laws.specs.Demand3.{Permitted, Passed, neededBefore, neededAfter, ownEntry, ownNeeds, onAfter, Demand3}
+use Rattle.laws.specs.Demand3.{Passed, neededBefore, neededAfter, ownEntry, ownNeeds, onAfter, Demand3}
 use Rattle.laws.proofs.Tests.{or-cases, or-left, or-right}
 use Rattle.laws.proofs.Needed.{needed-of}
 use Rattle.laws.proofs.States.{nameable, needed-small, consistent-of, needs-on, form-passed, form-device}

@@ -1,23 +1,16 @@
 -- The planner by the kind of its request: sleep entry, or what planner and checker have in common.
-use mathlib.Core.Path.{_≡_, refl, sym, _∙_}
-use mathlib.Core.Bool.{true, false, true≢false, and-false}
+use mathlib.Core.Path.{_≡_, refl}
+use mathlib.Core.Bool.{true, false}
 use mathlib.Core.List.{List}
 use Prim.Native.Nat.{ℕ, _*_}
-use borrow.Author.Tests.{eqb-true}
-use lib.Dec.{leb, ltb}
+use lib.Dec.{leb}
 use lib.ListN.{length}
-use Rattle.sets.proofs.Laws.{decide}
 use Rattle.words.specs.Words.{wordBytes}
 use Rattle.rules.specs.declared.Request.{Request}
-use Rattle.rules.specs.Station.{Station, width, limit, station}
-use Rattle.rules.specs.Request.{numbersGood, formGood}
+use Rattle.rules.specs.Station.{width, limit}
 use Rattle.rules.specs.Sleep.{isSleep}
 use Rattle.rules.specs.Outcomes.{listRoom, planRoom, stagesVerdict, sleepStages, planStages, planned, planList, stateAfter, planState}
 use Rattle.rules.specs.Outcomes.{stateForSleep, sleepList, planOutcome, planWords, planBytes}
-use Rattle.laws.specs.Demand3.{Permitted}
-use Rattle.laws.proofs.States.{form-passed}
-use Rattle.laws.proofs.Stages.{Stages, stages-of}
-use Rattle.laws.proofs.Lists.{number-passes}
 
 -- the room that sleep entry asks for
 pub room-sleep : (w : ℕ) (q : Request) → isSleep q ≡ true → planRoom w q ≡ limit w * listRoom w

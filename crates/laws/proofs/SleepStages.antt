@@ -65,54 +65,55 @@ module _ (room : Bool) (t b : List ℕ) (q : Request) where
       ∙ first-pass _ _ _ (unless-passes (hasChoice (station t) (status t b .entries) (q .a)) _ 0 (g .choice)) ∙ first-none (Done 0) in
       first-pass _ _ _ (ap passes ready ∙ done-passes 0) ∙ first-pass _ _ _ (ap passes stage ∙ done-passes 0) ∙ first-none (Done 0)
 
--- ---- 21: no check before that of the choice has this number
-abbrev Below : Verdict → Type 0
-Below v = numberOf v < 21
+-- ---- 21: no check before that of the choice has this number; and those before the request or sleep entry have none above 9
+abbrev pub Below : ℕ → Verdict → Type 0
+Below n v = numberOf v < n
 
 -- a chain of such checks
-first-below : (vs : List Verdict) → All Below vs → Below (firstOf vs (Done 0))
+first-below : (n : ℕ) → 0 < n → (vs : List Verdict) → All (Below n) vs → Below n (firstOf vs (Done 0))
 unfolding All
-first-below [] h = last-holds Below (Done 0) (omega arith)
-first-below (v ∷ vs) h = chain-holds Below v vs (Done 0) (h .0) (λ _. first-below vs (h .1))
+first-below n k [] h = last-holds (Below n) (Done 0) k
+first-below n k (v ∷ vs) h = chain-holds (Below n) v vs (Done 0) (h .0) (λ _. first-below n k vs (h .1))
 
 -- one check
-unless-below : (good : Bool) (why : Reason) → reasonNumber why < 21 → Below (unless good why 0)
-unless-below good why h = unless-holds Below good why 0 (omega arith) (λ _. h)
+unless-below : (n : ℕ) (good : Bool) (why : Reason) → reasonNumber why < n → Below n (unless good why 0)
+unless-below n good why h = unless-holds (Below n) good why 0 (omega arith) (λ _. h)
 
 -- one of resources or devices
-lowest-below : (bad : ℕ → Bool) (n : ℕ) (why : Reason) → reasonNumber why < 21 → Below (lowest bad n (Refused why))
-lowest-below bad n why h = lowest-holds Below bad n (Refused why) (omega arith) (λ i _. h)
+lowest-below : (n : ℕ) (bad : ℕ → Bool) (m : ℕ) (why : Reason) → reasonNumber why < n → Below n (lowest bad m (Refused why))
+lowest-below n bad m why h = lowest-holds (Below n) bad m (Refused why) (omega arith) (λ i _. h)
 
 -- 5 and 6
-device-below : (t : List ℕ) (d : ℕ) → Below (deviceRefusal t d)
+device-below : (t : List ℕ) (d : ℕ) → Below 10 (deviceRefusal t d)
 unfolding fieldsOrObjects
 device-below t d = decide (fieldsGood t d) (λ e. rw e (omega arith)) (λ e. rw e (omega arith))
 
 -- 1 to 6
-table-below : (t : List ℕ) → Below (tableVerdict t)
+table-below : (t : List ℕ) → Below 10 (tableVerdict t)
 unfolding tableVerdict All
 table-below t =
-    let resources = lowest-below (λ r. not (resourceGood t (resourceStart r))) (countR t) BadResource (omega arith) in
-    let devices = lowest-holds Below (λ d. not (deviceGood t d)) (countD t) (deviceRefusal t) (omega arith) (λ d _. device-below t d) in
-    first-below _
-    (unless-below _ _ (omega arith), (unless-below _ _ (omega arith), (unless-below _ _ (omega arith), (resources, (devices, tt)))))
+    let resources = lowest-below 10 (λ r. not (resourceGood t (resourceStart r))) (countR t) BadResource (omega arith) in
+    let devices = lowest-holds (Below 10) (λ d. not (deviceGood t d)) (countD t) (deviceRefusal t) (omega arith) (λ d _. device-below t d) in
+    first-below 10 (omega arith) _
+    (unless-below 10 _ _ (omega arith), (unless-below 10 _ _ (omega arith), (unless-below 10 _ _ (omega arith), (resources, (devices, tt)))))
 
 -- 7 and 8
-state-below : (t b : List ℕ) → Below (stateVerdict t b)
+state-below : (t b : List ℕ) → Below 10 (stateVerdict t b)
 unfolding stateVerdict valuesVerdict consistencyVerdict All
 state-below t b =
-    first-below _ (unless-below _ _ (omega arith), (lowest-below _ (station t .devices) Inconsistent (omega arith), tt))
+    first-below 10 (omega arith) _ (unless-below 10 _ _ (omega arith), (lowest-below 10 _ (station t .devices) Inconsistent (omega arith), tt))
 
 module _ (room : Bool) (t b : List ℕ) (q : Request) where
   -- 1 to 9
-  ready-below : Below (readyVerdict room t b)
+  pub ready-below : Below 10 (readyVerdict room t b)
   unfolding readyVerdict All
-  ready-below = first-below _ (table-below t, (state-below t b, (unless-below _ _ (omega arith), tt)))
+  ready-below = first-below 10 (omega arith) _ (table-below t, (state-below t b, (unless-below 10 _ _ (omega arith), tt)))
 
   -- 10 and 20
-  armed-below : Below (armedVerdict (station t) (status t b .entries) q)
+  armed-below : Below 21 (armedVerdict (station t) (status t b .entries) q)
   unfolding armedVerdict All
-  armed-below = first-below _ (unless-below _ _ (omega arith), (lowest-below _ (station t .devices) ArmedForOther (omega arith), tt))
+  armed-below =
+      first-below 21 (omega arith) _ (unless-below 21 _ _ (omega arith), (lowest-below 21 _ (station t .devices) ArmedForOther (omega arith), tt))
 
   -- 21 has come after the others, and without a choice
   abbrev OnlyThen : Verdict → Type 0

@@ -1,4 +1,5 @@
--- RULES.md 13.5 and 13.6: what sleep entry promises, over table bytes, state bytes, a request of kind 4 and any plan.
+-- RULES.md 13.5 and 13.6: what sleep entry promises, over table bytes, state bytes, a request of kind 4 and any plan. Answer 20 and the places
+-- are left to the equations with `planWords` and `planBytes`.
 use Prim.Native.Nat.{ℕ, _*_, _≤_, _<_}
 use mathlib.Core.Path.{_≡_}
 use mathlib.Core.Bool.{Bool, true, false}

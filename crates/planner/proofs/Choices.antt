@@ -1,9 +1,9 @@
 -- Sleep entry whole: what its checks have shown, and the outcome from the calls that bring the devices to the states chosen for them.
 use mathlib.Core.Path.{_≡_, refl, sym, ap, _∙_}
 use mathlib.Core.Bool.{Bool, true, false, not}
-use mathlib.Core.List.{List, _∷_, map, map-map}
+use mathlib.Core.List.{List}
 use mathlib.Core.Logic.{inl, inr, ⊎-elim}
-use Prim.Native.Nat.{ℕ, zero, suc, _+_, _*_, _≤_, _<_}
+use Prim.Native.Nat.{ℕ, zero, suc, _*_, _≤_, _<_}
 use native.Mathlib.Nat.{mul-one, mul-comm, mul-le-mul-left}
 use native.Mathlib.Omega.{arith}
 use borrow.Author.Tests.{leb-true, eqb-true, ltb-true, not-false}
@@ -18,9 +18,8 @@ use Rattle.rules.specs.Index.{every}
 use Rattle.rules.specs.Answers.{passes}
 use Rattle.rules.specs.Station.{absent, versionWidth, width, limit, countD, stationOf, station}
 use Rattle.rules.specs.Table.{parentGood, tableVerdict}
-use Rattle.rules.specs.Status.{entriesSize, entries, statusOf, status, stateVerdict}
-use Rattle.rules.specs.Calls.{wordOf}
-use Rattle.rules.specs.Sleep.{isSleep, Choice, leastChoice, stays, moves, noneMoves, offsAlone}
+use Rattle.rules.specs.Status.{entriesSize, entries, statusOf, status}
+use Rattle.rules.specs.Sleep.{isSleep, Choice, leastChoice, stays, moves, noneMoves}
 use Rattle.rules.specs.BringUp.{bringUpList, stateBroughtUp}
 use Rattle.rules.specs.Outcomes.{listRoom, plannedEach, stateAfterEach, sleepStages, sleepList, stateForSleep, planWords, planBytes}
 use Rattle.sets.proofs.Laws.{decide}

@@ -1,7 +1,7 @@
 -- The moves of sleep entry one after the other, as a loop writes them: what is left to be written and done gives what all of them give. For
 -- a plan of words and for one of bytes.
 use mathlib.Core.Path.{_≡_, refl, sym, ap, _∙_}
-use mathlib.Core.Bool.{Bool, true, false}
+use mathlib.Core.Bool.{true}
 use mathlib.Core.List.{List, [], _∷_, _++_}
 use Prim.Native.Nat.{ℕ, zero, suc, _+_, _*_, _-_, _≤_, _<_}
 use native.Mathlib.Nat.{zero-add, one-mul, mul-suc, mul-zero, mul-comm, mul-le-mul-left, mul-add}
@@ -29,7 +29,7 @@ use Rattle.rules.specs.Outcomes.{listRoom, planned, stateAfter, plannedEach, st
 use Rattle.laws.specs.Sleep.{InTurn}
 use Rattle.laws.proofs.Accepted.{accepted}
 use Rattle.laws.proofs.States.{consistent-of}
-use Rattle.laws.proofs.Stages.{Stages, stages-of}
+use Rattle.laws.proofs.Stages.{stages-of}
 use Rattle.laws.proofs.Lists.{number-passes, one-each, written-none}
 use Rattle.laws.proofs.Moves.{Reachable, Moving, moving-start, moving-stays, moving-moves, move-permitted}
 use Rattle.laws.proofs.SleepMoves.{reachable, moved}

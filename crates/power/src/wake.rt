@@ -55,7 +55,7 @@ pub fn powered_in(table: &[u8], set: u32, x: u8) -> bool
     true
 }
 
-// Every `_PRW` resource has.
+// Every `_PRW` resource has systemlevel x or more.
 pub fn wake_powered(table: &[u8], d: usize, x: u8) -> bool
     requires { ⌜ WellSized (now table) × (d < countD (now table)) ⌝ }
     ensures { λ r. ⌜ r ≡ wakePowered (station (now (table .entry))) d x ⌝ }

@@ -20,7 +20,6 @@ use Rattle.rules.proofs.Answers.{done-passes, refused-stops, first-pass, first-
 use Rattle.rules.proofs.Answers.{answer-passed, answer-stopped}
 use Rattle.laws.proofs.Accepted.{accepted}
 use Rattle.laws.proofs.States.{consistent-of}
-use Rattle.laws.proofs.Stages.{ready-at}
 use Rattle.table.proofs.Verdicts.{sized-of, no-table, table-passed}
 use Rattle.status.specs.Ready.{Ready}
 
@@ -109,10 +108,3 @@ module _ (t b : List ℕ) (done : tableVerdict t ≡ Done 0) (u : Verdict) (r : 
           ∙ request-alone (station t) (entries t b) q)
 
 pub ruleset to-request = (stop-table, table-passed, request-state, request-asks, request-room, last-request)
-
--- what 1 to 9 have shown; v is their answer, p whether it passes
-pub ready-for : (t b : List ℕ) (room : Bool) (v : Verdict) (p : Bool) → v ≡ readyVerdict room t b → p ≡ passes v → not p ≡ false
-    → (table image : List ℕ) → t ≡ table → b ≡ image → Ready table image
-ready-for t b room v p e f n table image x y =
-    let g = ready-at room t b (answer-passed v _ p e f n) in
-    rw (← x, ← y) (ready-of t b (g .table) (g .state))

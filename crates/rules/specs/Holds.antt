@@ -137,7 +137,7 @@ holdsBringUpIn t b n a ls =
 abbrev pub holdsBringUp : BringUpRow → Bool
 holdsBringUp r = holdsBringUpIn (r .table) (r .state) (r .room) (r .answer) (r .lists)
 
--- sleep entry from a row's state and with its room, of bytes and of words; the checker, whose place is the row's where its number is; where
+-- sleep entry from a row's state and with its room, of bytes and of words; the checker's answer to the row's calls; where
 -- it is done, the list carried out
 unfoldable pub holdsSleepIn : List ℕ → List ℕ → Request → ℕ → Answer → Bool
 holdsSleepIn t b q n a =

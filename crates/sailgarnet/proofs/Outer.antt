@@ -1,7 +1,7 @@
--- Plans and lists as bytes, from the same checks and the words: why a list of more than 33 words never conforms, and why a plan fits 33.
+-- Lists as bytes: why one of more than 33 words never conforms; and that bring-up's calls fit the buffer of one plan.
 use mathlib.Core.Path.{_≡_, refl, sym, ap, _∙_}
 use mathlib.Core.Bool.{Bool, true, false, _&&_, true≢false, and-false}
-use mathlib.Core.List.{List, []}
+use mathlib.Core.List.{List}
 use Prim.Native.Nat.{ℕ, _+_, _*_, _/_, _%_, _≤_, _<_}
 use native.Mathlib.Omega.{arith}
 use borrow.Author.Tests.{eq-eqb, ne-eqb, eqb-true, leb-true, leb-false, le-leb, lt-leb}
@@ -10,25 +10,16 @@ use lib.ListN.{length, take}
 use Rattle.sets.proofs.Laws.{decide}
 use Rattle.words.specs.Words.{put, byteWords}
 use Rattle.words.proofs.Laws.{byte-words-length}
-use Rattle.words.proofs.Put.{length-put, take-put}
+use Rattle.words.proofs.Put.{take-put}
 use Rattle.rules.specs.declared.Request.{Request}
-use Rattle.rules.specs.Answers.{passes}
-use Rattle.rules.specs.Station.{versionWidth, width, limit, stationOf, station}
-use Rattle.rules.specs.Table.{tableVerdict}
+use Rattle.rules.specs.Station.{width, station}
 use Rattle.rules.specs.Status.{status}
-use Rattle.rules.specs.Calls.{ownCall, ownCalls, ownLast}
 use Rattle.rules.specs.Check.{conformingTo}
-use Rattle.rules.specs.Outcomes.{listRoom, planned, ofBytes}
+use Rattle.rules.specs.Outcomes.{listRoom, ofBytes}
 use Rattle.rules.specs.BringUp.{bringUpList, stateBroughtUp, conformingToBringUp}
-use Rattle.laws.specs.Demand3.{neededBefore, neededAfter}
 use Rattle.laws.proofs.Tests.{both-true}
-use Rattle.laws.proofs.Accepted.{accepted}
-use Rattle.laws.proofs.Stages.{Stages, stages-of, BringUpPassed, bring-up-of}
-use Rattle.laws.proofs.Conform.{conforming-at}
-use Rattle.laws.proofs.Demand3.{able, planner-conforms}
-use Rattle.laws.proofs.BringUpLists.{up-able, own-conforms}
+use Rattle.laws.proofs.Stages.{stages-of, bring-up-of}
 use Rattle.switching.specs.Written.{WrittenPlan}
-use Rattle.switching.proofs.Run.{own-long}
 use Rattle.request.specs.Permitted.{PermittedRequest}
 use Rattle.bringup.specs.Passed.{BringUpState}
 use Rattle.sailgarnet.specs.declared.buffers.ListWords.{ListWords}

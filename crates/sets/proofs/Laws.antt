@@ -111,9 +111,9 @@ ext (suc w) a b ha hb e =
 pub empty : (w s : ℕ) → s < 2 ^ w → ((r : ℕ) → r < w → member s r ≡ false) → s ≡ 0
 empty w s h f = ext w s 0 h (pow-pos w) (λ r l. f r l ∙ sym (member-none r))
 
--- ---- all of a is in b
+-- ---- unions of several sets
 
--- every number is a set below some width, so that the union of three sets is one set
+-- every number is a set of some width, so the laws of members hold of any
 bounded : (n : ℕ) → n < 2 ^ n
 bounded zero = omega arith
 bounded (suc n) = omega (arith, pow-suc 2 n, bounded n)
@@ -140,6 +140,8 @@ union-comm a b = or-comm a b
 pub union-empty : (a : ℕ) → union 0 a ≡ a
 unfolding union
 union-empty a = or-zero-l a
+
+-- ---- all of a is in b
 
 pub subset-at : (a b r : ℕ) → subset a b ≡ true → member a r ≡ true → member b r ≡ true
 unfolding subset

@@ -1,7 +1,5 @@
 -- 10, 20 and 21 in turn; where they pass, the least choice stands in the lent bytes.
-use mathlib.Core.Path.{refl}
 use Rattle.request.proofs.Rules.{byte-below}
-use Rattle.status.proofs.Filled.{filled-long}
 use Rattle.sleep.proofs.Verdicts.{form-small, answers, lefts}
 use borrow.Author.Needs.{needs}
 use Rattle.sleep.proofs.verdict.Statement.{statement}

@@ -45,7 +45,7 @@ sleep-bytes-spec =
     (λ c κs. search needs)
     (λ c. search needs)
     (λ c. search needs)
-    (λ c κs. search (needs, states-32))
+    (λ c κs. (search needs, search needs, search (needs, states-32)))
     (λ c κs. search needs)
     (λ c. search needs)
     returns
