@@ -87,10 +87,10 @@ module _ (t b : List ℕ) (states : ℕ → ℕ) where
     abbrev s : Station
     s = station t
 
-    abbrev now : ℕ → Entry
-    now = status t b′ .entries
+    abbrev present : ℕ → Entry
+    present = status t b′ .entries
 
-    own : now n ≡ status t b .entries n
+    own : present n ≡ status t b .entries n
     own = m .before n (omega arith)
 
     -- no device has a number that stands for no parent
@@ -101,21 +101,21 @@ module _ (t b : List ℕ) (states : ℕ → ℕ) where
     unfolding parentGood stationOf
     lower d l = ⊎-elim (λ a. inl (ltb-true _ _ a)) (λ a. inr (eqb-true _ _ a)) (or-cases _ _ (accepted t e .device d l .parent))
 
-    parent-allows : parentAllows s now n (states n) ≡ true
+    parent-allows : parentAllows s present n (states n) ≡ true
     unfolding parentAllows
     parent-allows =
         let up = s .device n .parent in
-        let none : up ≡ absent → eqb up absent || leb (now up .state) (states n) ≡ true = λ a. or-left _ _ (eq-eqb up absent a) in
+        let none : up ≡ absent → eqb up absent || leb (present up .state) (states n) ≡ true = λ a. or-left _ _ (eq-eqb up absent a) in
         ⊎-elim
         (λ a. ⊎-elim none
         (λ p.
         let l : status t b .entries up .state ≤ states n = omega (arith, p, r .deeper up (omega (arith, h))) in
-        or-right (eqb up absent) (leb (now up .state) (states n)) (rw (m .before up (omega arith)) (le-leb _ _ l)))
+        or-right (eqb up absent) (leb (present up .state) (states n)) (rw (m .before up (omega arith)) (le-leb _ _ l)))
         (r .parents n h))
         none
         (lower n h)
 
-    no-child-bars : (c : ℕ) → c < s .devices → childBars s now n (states n) c ≡ false
+    no-child-bars : (c : ℕ) → c < s .devices → childBars s present n (states n) c ≡ false
     unfolding childBars
     no-child-bars c l =
         decide (eqb (s .device c .parent) n)
@@ -126,7 +126,7 @@ module _ (t b : List ℕ) (states : ℕ → ℕ) where
         rw (z, m .moved c (omega arith) l) (le-ltb (states c) (states n) under))
         (λ z. rw z refl)
 
-    movable : Moves s now n (states n)
+    movable : Moves s present n (states n)
     unfolding notShallowerOrD0
     movable = record {
       known = r .known n h;
@@ -137,7 +137,7 @@ module _ (t b : List ℕ) (states : ℕ → ℕ) where
     }
 
     pub move-permitted : Stages t b′ (moveTo n (states n))
-    move-permitted = record { table = e; state = m .state; request = move-passes s now n (states n) movable h (r .small n h) }
+    move-permitted = record { table = e; state = m .state; request = move-passes s present n (states n) movable h (r .small n h) }
 
     -- a device that moves
     pub moving-moves : Moving t b states n (stateAfter t b′ (moveTo n (states n)))
@@ -148,9 +148,9 @@ module _ (t b : List ℕ) (states : ℕ → ℕ) where
         let reads = ap (λ (st : Status). st .entries) (after-reads t b′ q (g .table) (g .state) (g .request)) in
         record {
           state = ap passes (after-consistent t b′ q (g .table) (g .state) (g .request)) ∙ done-passes 0;
-          before = λ k l. rw reads (after-other now q k (omega arith) ∙ m .before k (omega arith));
+          before = λ k l. rw reads (after-other present q k (omega arith) ∙ m .before k (omega arith));
           moved = λ k l u. decide (eqb k n)
-              (λ z. let i = eqb-true k n z in rw (reads, i) (after-same now q ∙ rw own refl))
-              (λ z. let i = eqb-false k n z in rw reads (after-other now q k i ∙ m .moved k (omega (arith, i)) u));
-          others = λ k l. rw reads (after-other now q k (omega (arith, h)) ∙ m .others k l);
+              (λ z. let i = eqb-true k n z in rw (reads, i) (after-same present q ∙ rw own refl))
+              (λ z. let i = eqb-false k n z in rw reads (after-other present q k i ∙ m .moved k (omega (arith, i)) u));
+          others = λ k l. rw reads (after-other present q k (omega (arith, h)) ∙ m .others k l);
         }

@@ -86,11 +86,11 @@ module _ (t b : List ℕ) (q : Request) (g : SleepPassed t b q) where
   abbrev s : Station
   s = station t
 
-  abbrev now : ℕ → Entry
-  now = status t b .entries
+  abbrev present : ℕ → Entry
+  present = status t b .entries
 
   abbrev states : ℕ → ℕ
-  states = leastChoice s now (q .a)
+  states = leastChoice s present (q .a)
 
   abbrev b′ : List ℕ
   b′ = stateForSleep t b (q .a)
@@ -100,39 +100,40 @@ module _ (t b : List ℕ) (q : Request) (g : SleepPassed t b q) where
   rules = station-rules t (accepted t (g .table))
 
   -- the least choice is a choice
-  chosen : Choice s now (q .a) states
-  chosen = least-is-choice s rules now (q .a) (g .choice)
+  chosen : Choice s present (q .a) states
+  chosen = least-is-choice s rules present (q .a) (g .choice)
 
   -- the moves, one after the other
-  pub sleep-moved : Moved t b states b (sleepMoves s now (q .a))
+  pub sleep-moved : Moved t b states b (sleepMoves s present (q .a))
   sleep-moved =
-      moved t b states (g .table) (reachable s now (q .a) states chosen) (s .devices) b (omega arith) (moving-start t b states (g .state))
+      moved t b states (g .table) (reachable s present (q .a) states chosen) (s .devices) b (omega arith)
+      (moving-start t b states (g .state))
 
   -- where none moves, bring-up can be done
   up : BringUpPassed t b
   up = consistent-passes t b (g .table) (g .state)
 
   -- it moves every device to its state of the least choice, the present one
-  up-moving : noneMoves s now (q .a) ≡ true → Moving t b states 0 (stateBroughtUp t b)
+  up-moving : noneMoves s present (q .a) ≡ true → Moving t b states 0 (stateBroughtUp t b)
   up-moving z =
       record {
         state = ap passes (up-consistent t b up) ∙ done-passes 0;
         before = λ k h. absurd (omega arith);
-        moved = λ k h l. up-entries t b up k ∙ rw (none-moves s now (q .a) k l z) refl;
+        moved = λ k h l. up-entries t b up k ∙ rw (none-moves s present (q .a) k l z) refl;
         others = λ k h. up-entries t b up k;
       }
 
   -- every device is in its state of the least choice
   pub sleep-states : Moving t b states 0 b′
   sleep-states =
-      decide (noneMoves s now (q .a)) (λ z. rw (sleep-up t b (q .a) z) (up-moving z))
+      decide (noneMoves s present (q .a)) (λ z. rw (sleep-up t b (q .a) z) (up-moving z))
       (λ z. rw (sleep-after t b (q .a) z) (sleep-moved .moved-all))
 
   -- and on is exactly what is needed
   pub sleep-settled : Settled t b′
   sleep-settled =
-      decide (noneMoves s now (q .a)) (λ z. rw (sleep-up t b (q .a) z) (up-settled t b up))
-      (λ z. rw (sleep-after t b (q .a) z) (⊎-elim (λ e. absurd (some-moves s now (q .a) z e)) (λ k. k) (sleep-moved .settled)))
+      decide (noneMoves s present (q .a)) (λ z. rw (sleep-up t b (q .a) z) (up-settled t b up))
+      (λ z. rw (sleep-after t b (q .a) z) (⊎-elim (λ e. absurd (some-moves s present (q .a) z e)) (λ k. k) (sleep-moved .settled)))
 
   -- the state is consistent, with exactly the needed set on
   sleep-exactly : ExactlyNeeded t b′
@@ -140,33 +141,33 @@ module _ (t b : List ℕ) (q : Request) (g : SleepPassed t b q) where
   sleep-exactly = exactly-needed t b′ (first-through _ (Done 0) (sleep-states .state)) (sleep-settled .on)
 
   -- the entry of a device
-  entry-is : (d : ℕ) → d < s .devices → status t b′ .entries d ≡ inState (now d) (states d)
+  entry-is : (d : ℕ) → d < s .devices → status t b′ .entries d ≡ inState (present d) (states d)
   entry-is d h = sleep-states .moved d (omega arith) h
 
   -- any entry is as before but for the state
-  entries-kept : (d : ℕ) → status t b′ .entries d ≡ inState (now d) (status t b′ .entries d .state)
+  entries-kept : (d : ℕ) → status t b′ .entries d ≡ inState (present d) (status t b′ .entries d .state)
   entries-kept d =
       decide (ltb d (s .devices)) (λ l. rw (entry-is d (ltb-true _ _ l)) refl) (λ l. rw (sleep-states .others d (ltb-false _ _ l)) refl)
 
   -- what its state has passed
-  taken : (d : ℕ) → d < s .devices → Taken s now (q .a) d (states d)
-  taken d h = taken-of s now (q .a) d (states d) (chosen .taken d h)
+  taken : (d : ℕ) → d < s .devices → Taken s present (q .a) d (states d)
+  taken d h = taken-of s present (q .a) d (states d) (chosen .taken d h)
 
   -- the states are a choice
-  left-choice : Choice s now (q .a) (λ d. status t b′ .entries d .state)
+  left-choice : Choice s present (q .a) (λ d. status t b′ .entries d .state)
   left-choice = record { taken = λ d h. rw (entry-is d h) (chosen .taken d h); parents = sleep-exactly .parents }
 
   -- and none has a shallower one
-  left-least : (f : ℕ → ℕ) → Choice s now (q .a) f → (d : ℕ) → d < s .devices → status t b′ .entries d .state ≤ f d
-  left-least f c d h = rw (entry-is d h) (least-of-all s rules now (q .a) f c d h)
+  left-least : (f : ℕ → ℕ) → Choice s present (q .a) f → (d : ℕ) → d < s .devices → status t b′ .entries d .state ≤ f d
+  left-least f c d h = rw (entry-is d h) (least-of-all s rules present (q .a) f c d h)
 
   -- an armed device
-  armed-wakes : (d : ℕ) → d < s .devices → isArmed (now d) ≡ true
-      → (now d .sleep ≡ q .a) × (status t b′ .entries d .state ≡ now d .wake)
+  armed-wakes : (d : ℕ) → d < s .devices → isArmed (present d) ≡ true
+      → (present d .sleep ≡ q .a) × (status t b′ .entries d .state ≡ present d .wake)
   unfolding armedForOther wakeDIfArmed
   armed-wakes d h a = (
     eqb-true _ _ (not-false _ (rw a at (g .armed d h))),
-    rw (entry-is d h) (eqb-true (states d) (now d .wake) (rw a at (taken d h .wake))),
+    rw (entry-is d h) (eqb-true (states d) (present d .wake) (rw a at (taken d h .wake))),
   )
 
   -- a resource that is on
@@ -189,12 +190,12 @@ module _ (t b : List ℕ) (q : Request) (g : SleepPassed t b q) where
         state = sleep-states .state;
         form = g .form;
         armed = λ d h. rw (entry-is d h) (g .armed d h);
-        choice = again-choice s rules now (q .a) (status t b′ .entries) entry-is (g .choice);
+        choice = again-choice s rules present (q .a) (status t b′ .entries) entry-is (g .choice);
       }
 
   -- no device moves
   again-still : noneMoves s (status t b′ .entries) (q .a) ≡ true
-  again-still = again-none-moves s rules now (q .a) (status t b′ .entries) entry-is (g .choice)
+  again-still = again-none-moves s rules present (q .a) (status t b′ .entries) entry-is (g .choice)
 
   -- there are no calls
   again-list : sleepList t b′ (q .a) ≡ []

@@ -93,7 +93,12 @@ module _ (t b : List ℕ) (states : ℕ → ℕ) where
           in-turn = (
             plannedEach t (stateAfter t b′ q) (queue n),
             (
-              record { permitted = ap numberOf (stages-pass true t b′ q g refl); whole = refl; passed = own-passed t b′ q g; demand = demand3 t b′ q _ },
+              record {
+                permitted = ap numberOf (stages-pass true t b′ q g refl);
+                whole = refl;
+                passed = own-passed t b′ q g;
+                demand = demand3 t b′ q _;
+              },
               rest .in-turn,
             ),
           );

@@ -93,15 +93,19 @@ table-below : (t : List ℕ) → Below 10 (tableVerdict t)
 unfolding tableVerdict All
 table-below t =
     let resources = lowest-below 10 (λ r. not (resourceGood t (resourceStart r))) (countR t) BadResource (omega arith) in
-    let devices = lowest-holds (Below 10) (λ d. not (deviceGood t d)) (countD t) (deviceRefusal t) (omega arith) (λ d _. device-below t d) in
-    first-below 10 (omega arith) _
-    (unless-below 10 _ _ (omega arith), (unless-below 10 _ _ (omega arith), (unless-below 10 _ _ (omega arith), (resources, (devices, tt)))))
+    let devices =
+    lowest-holds (Below 10) (λ d. not (deviceGood t d)) (countD t) (deviceRefusal t) (omega arith) (λ d _. device-below t d) in
+    first-below 10 (omega arith) _ (
+      unless-below 10 _ _ (omega arith),
+      (unless-below 10 _ _ (omega arith), (unless-below 10 _ _ (omega arith), (resources, (devices, tt)))),
+    )
 
 -- 7 and 8
 state-below : (t b : List ℕ) → Below 10 (stateVerdict t b)
 unfolding stateVerdict valuesVerdict consistencyVerdict All
 state-below t b =
-    first-below 10 (omega arith) _ (unless-below 10 _ _ (omega arith), (lowest-below 10 _ (station t .devices) Inconsistent (omega arith), tt))
+    first-below 10 (omega arith) _
+    (unless-below 10 _ _ (omega arith), (lowest-below 10 _ (station t .devices) Inconsistent (omega arith), tt))
 
 module _ (room : Bool) (t b : List ℕ) (q : Request) where
   -- 1 to 9
@@ -113,7 +117,8 @@ module _ (room : Bool) (t b : List ℕ) (q : Request) where
   armed-below : Below 21 (armedVerdict (station t) (status t b .entries) q)
   unfolding armedVerdict All
   armed-below =
-      first-below 21 (omega arith) _ (unless-below 21 _ _ (omega arith), (lowest-below 21 _ (station t .devices) ArmedForOther (omega arith), tt))
+      first-below 21 (omega arith) _
+      (unless-below 21 _ _ (omega arith), (lowest-below 21 _ (station t .devices) ArmedForOther (omega arith), tt))
 
   -- 21 has come after the others, and without a choice
   abbrev OnlyThen : Verdict → Type 0

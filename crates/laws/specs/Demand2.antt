@@ -1,5 +1,6 @@
 -- RULES.md 8.5, demand 2 as one statement, over table bytes, state bytes, a request of any kind but 4 and any plan: which requests are
--- accepted, and what an accepted one leaves. Of kind 4 it is Sleep.antt. The place of such an answer, 0, is left to the equations with `planWords` and `planBytes`.
+-- accepted, and what an accepted one leaves. Of kind 4 it is Sleep.antt. The place of such an answer, 0, is left to the equations with
+-- `planWords` and `planBytes`.
 use Prim.Native.Nat.{ℕ, _*_, _<_, _≤_}
 use mathlib.Core.Path.{_≡_}
 use mathlib.Core.Bool.{true}

@@ -63,7 +63,8 @@ pub record Demand3 (t b : List ℕ) (q : Request) (ws : List ℕ) : Type 0 where
       → (r : ℕ) → member (ownNeeds t b q) r ≡ true → onAfter t b ws n r ≡ true
   -- the list ends with exactly the needed set
   pub ends : Passed t b q ws → (r : ℕ) → execution (member (status t b .on)) ws r ≡ member (neededAfter t b q) r
-  -- the planner's own list, the first words of its plan, as many as its count, passes; the plan of sleep entry is cut into its moves (Sleep.antt)
+  -- the planner's own list, the first words of its plan, as many as its count, passes; the plan of sleep entry is cut into its moves
+  -- (Sleep.antt)
   pub planner : isSleep q ≡ false → (plan : List ℕ) → numberOf (planWords t b q plan .verdict) ≡ 0
       → Passed t b q (take (countOf (planWords t b q plan .verdict)) (planWords t b q plan .plan))
 

@@ -1,5 +1,5 @@
--- RULES.md 13.5 and 13.6: what sleep entry promises, over table bytes, state bytes, a request of kind 4 and any plan. Answer 20 and the places
--- are left to the equations with `planWords` and `planBytes`.
+-- RULES.md 13.5 and 13.6: what sleep entry promises, over table bytes, state bytes, a request of kind 4 and any plan. Answer 20 and the
+-- places are left to the equations with `planWords` and `planBytes`.
 use Prim.Native.Nat.{ℕ, _*_, _≤_, _<_}
 use mathlib.Core.Path.{_≡_}
 use mathlib.Core.Bool.{Bool, true, false}
@@ -64,7 +64,8 @@ pub record SleepEntry (size : ℕ) (written : List ℕ → List ℕ) (planOn : L
   -- the state is consistent, with exactly the needed set on
   pub state : number ≡ 0 → ExactlyNeeded t b′
   pub calls : number ≡ 0 → LeftPlan size written (sleepList t b (q .a)) plan count plan′
-  -- where a device moves, the plan is the lists of the moves, each permitted and passed by the checker in its turn, and demand 3 holds of each
+  -- where a device moves, the plan is the lists of the moves, each permitted and passed by the checker in its turn, and demand 3 holds of
+  -- each
   pub moves : number ≡ 0 → noneMoves (station t) (status t b .entries) (q .a) ≡ false
       → InTurn t b (sleepMoves (station t) (status t b .entries) (q .a)) (sleepList t b (q .a)) b′
   -- where none moves, it is the turn-off calls alone

@@ -66,7 +66,8 @@ module _ (t b chosen₀ chosen : List ℕ) (x : ℕ) (c : chosen ≡ leastEach t
   unfolding noneMoves
   all-same = every-ext _ _ (station t .devices) (λ d h. ap (λ (y : ℕ). eqb y (status t b .entries d .state)) (chosen-at d h))
 
-  queue-same : allMoves t b (statesIn chosen) ≡ moves (status t b .entries) (leastChoice (station t) (status t b .entries) x) (station t .devices)
+  queue-same : allMoves t b (statesIn chosen)
+      ≡ moves (status t b .entries) (leastChoice (station t) (status t b .entries) x) (station t .devices)
   queue-same = moves-same (status t b .entries) _ _ (station t .devices) chosen-at
 
   least-list : choiceList t b (statesIn chosen) ≡ sleepList t b x
@@ -180,7 +181,8 @@ sleep-short t b q g =
     decide (noneMoves (station t) (status t b .entries) (q .a))
     (λ z. rw (sleep-offs t b (q .a) z (g .table) (g .state))
     (omega (arith, one-of-all t, up-short t b (consistent-passes t b (g .table) (g .state)))))
-    (λ z. rw (sleep-lists t b (q .a) z) (moves-short t b _ (g .table) (g .state) (reachable (station t) (status t b .entries) (q .a) _ least)))
+    (λ z. rw (sleep-lists t b (q .a) z)
+    (moves-short t b _ (g .table) (g .state) (reachable (station t) (status t b .entries) (q .a) _ least)))
 
 module _ (t b chosen : List ℕ) (g : Given t b chosen) where
   pub given-ready : Ready t b
@@ -223,7 +225,8 @@ module _ (t b chosen : List ℕ) (g : Given t b chosen) where
         rw (still-is ∙ e, offs-list t b (g .table) (g .state)) (record { count = w .count; state = w .state; elements = w .elements })
 
     pub choice-moves : s ≡ false → (size : ℕ) (written : List ℕ → List ℕ) (n : ℕ) (b′ plan plan′ : List ℕ)
-        → WrittenFrom size written (plannedEach t b (allMoves t b (statesIn chosen))) (stateAfterEach t b (allMoves t b (statesIn chosen))) plan 0
+        → WrittenFrom size written (plannedEach t b (allMoves t b (statesIn chosen)))
+        (stateAfterEach t b (allMoves t b (statesIn chosen))) plan 0
         n b′ plan′ → WrittenFrom size written (choiceList t b (statesIn chosen)) (choiceState t b (statesIn chosen)) plan 0 n b′ plan′
     unfolding choiceList choiceState
     choice-moves e size written n b′ plan plan′ w = rw (still-is ∙ e) w
@@ -240,8 +243,8 @@ in-place list after plan n b′ plan′ w = record { count = w .count; state = w
 pub ruleset by-choice = (choice-still, choice-moves, in-place)
 
 -- ---- of any kind, what is no table: v is the table's answer, p whether it passes
-pub bytes-no-table : (t b : List ℕ) (q : Request) (plan : List ℕ) (v : Verdict) (p : Bool) → v ≡ tableVerdict t → p ≡ passes v → not p ≡ true
-    → Answered v b plan (planBytes t b q plan)
+pub bytes-no-table : (t b : List ℕ) (q : Request) (plan : List ℕ) (v : Verdict) (p : Bool) → v ≡ tableVerdict t → p ≡ passes v
+    → not p ≡ true → Answered v b plan (planBytes t b q plan)
 bytes-no-table t b q plan v p e f n =
     decide (isSleep q) (λ k. sleep-bytes-refused t b q plan k _ refl v p f (sleep-table t b q _ v p e f n) n)
     (λ k. bytes-refused t b q plan k _ refl v p f (stop-table t v p e f b q _ n) n)

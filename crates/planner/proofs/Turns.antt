@@ -44,7 +44,8 @@ use Rattle.planner.specs.Moves.{moveList, stateMoved, allMoves, Turn, Gi
 use Rattle.planner.proofs.Room.{product-4160}
 
 -- ---- how long the lists of requests in their turn are
-turns-short : (t b : List ℕ) (qs : List Request) (words b′ : List ℕ) → InTurn t b qs words b′ → length words ≤ listRoom (width t) * length qs
+turns-short : (t b : List ℕ) (qs : List Request) (words b′ : List ℕ) → InTurn t b qs words b′
+    → length words ≤ listRoom (width t) * length qs
 unfolding InTurn
 turns-short t b [] words b′ g = rw (g .0) (omega arith)
 turns-short t b (q ∷ qs) words b′ g =
@@ -114,7 +115,8 @@ module _ (t b b′ chosen : List ℕ) (j : ℕ) (h : j < countD t) (m : Moving t
   unfolding endSet newEntry statusOf
   set-after none below s =
       with-parts t b′ j (getD below j 0) own above (inState (entries t b′ j) (statesIn chosen j)) h
-      (filled-at _ none below (countD t) j s h ∙ below-same (station t) (entries t b) (entries t b′) j (λ k l. sym (m .before k (omega arith)))) o a
+      (filled-at _ none below (countD t) j s h
+      ∙ below-same (station t) (entries t b) (entries t b′) j (λ k l. sym (m .before k (omega arith)))) o a
 
   above-after : (b″ : List ℕ) → Moving t b (statesIn chosen) j b″
       → union own above ≡ neededFrom (station t) (entries t b″) 0 j (countD t - j)
@@ -126,10 +128,12 @@ module _ (t b b′ chosen : List ℕ) (j : ℕ) (h : j < countD t) (m : Moving t
       let mine : inState (entries t b′ j) (statesIn chosen j) ≡ entries t b″ j =
       rw (m .before j (omega arith)) (sym (m″ .moved j (omega arith) h)) in
       let one : countD t - j ≡ suc k = omega arith in
-      rw one (rw (o, a, mine, from-same (station t) (entries t b′) (entries t b″) 0 (j + 1) k same) (sym (from-one (station t) (entries t b″) j k)))
+      rw one (rw (o, a, mine, from-same (station t) (entries t b′) (entries t b″) 0 (j + 1) k same)
+      (sym (from-one (station t) (entries t b″) j k)))
 
 -- ---- the turn of device j, whatever is written
-module _ (t b chosen : List ℕ) (g : Given t b chosen) (j : ℕ) (b′ : List ℕ) (h : j < countD t) (m : Moving t b (statesIn chosen) (suc j) b′) where
+module _ (t b chosen : List ℕ) (g : Given t b chosen) (j : ℕ) (b′ : List ℕ) (h : j < countD t)
+    (m : Moving t b (statesIn chosen) (suc j) b′) where
   inside : j < station t .devices
   unfolding stationOf
   inside = h
@@ -238,7 +242,8 @@ module _ (size : ℕ) (written : List ℕ → List ℕ) (long : (ws : List ℕ) 
         })
 
   ended : (n : ℕ) (b′ plan′ : List ℕ) → Underway size written t b chosen plan 0 n b′ plan′
-      → WrittenFrom size written (plannedEach t b (allMoves t b (statesIn chosen))) (stateAfterEach t b (allMoves t b (statesIn chosen))) plan 0 n
+      → WrittenFrom size written (plannedEach t b (allMoves t b (statesIn chosen)))
+      (stateAfterEach t b (allMoves t b (statesIn chosen))) plan 0 n
       b′ plan′
   unfolding moves plannedEach stateAfterEach
   ended n b′ plan′ u =
@@ -281,8 +286,8 @@ module _ (t b chosen plan : List ℕ) (g : Given t b chosen) where
   module _ (i n : ℕ) (b′ plan′ : List ℕ) (u : Underway 1 (λ ws. ws) t b chosen plan i n b′ plan′) where
     module _ (h : 0 < i) (k : i ≤ countD t) where
       pub words-sum : (m : ℕ) (b″ plan″ : List ℕ)
-          → WrittenFrom 1 (λ ws. ws) (moveList t b′ (statesIn chosen) (i - 1)) (stateMoved t b′ (statesIn chosen) (i - 1)) plan′ n m b″ plan″
-          → Fits w64 (n + m)
+          → WrittenFrom 1 (λ ws. ws) (moveList t b′ (statesIn chosen) (i - 1)) (stateMoved t b′ (statesIn chosen) (i - 1)) plan′ n m b″
+          plan″ → Fits w64 (n + m)
       words-sum m b″ plan″ w = sum-below 1 (λ ws. ws) one-each (λ xs ys. refl) t b chosen plan g i n b′ plan′ h k u m (w .count)
 
       module _ (r : limit (width t) * listRoom (width t) ≤ length plan) where
@@ -295,12 +300,14 @@ module _ (t b chosen plan : List ℕ) (g : Given t b chosen) where
             (room-below 1 (λ ws. ws) one-each (λ xs ys. refl) t b chosen plan g i n b′ plan′ h k u room-1)
 
         pub words-next : (m : ℕ) (b″ plan″ : List ℕ)
-            → WrittenFrom 1 (λ ws. ws) (moveList t b′ (statesIn chosen) (i - 1)) (stateMoved t b′ (statesIn chosen) (i - 1)) plan′ n m b″ plan″
+            → WrittenFrom 1 (λ ws. ws) (moveList t b′ (statesIn chosen) (i - 1)) (stateMoved t b′ (statesIn chosen) (i - 1)) plan′ n m b″
+            plan″
             → Underway 1 (λ ws. ws) t b chosen plan (i - 1) (n + m) b″ plan″
         words-next = next-below 1 (λ ws. ws) one-each (λ xs ys. refl) t b chosen plan g i n b′ plan′ h k u room-1
 
     pub words-end : i ≤ 0
-        → WrittenFrom 1 (λ ws. ws) (plannedEach t b (allMoves t b (statesIn chosen))) (stateAfterEach t b (allMoves t b (statesIn chosen))) plan 0 n
+        → WrittenFrom 1 (λ ws. ws) (plannedEach t b (allMoves t b (statesIn chosen)))
+        (stateAfterEach t b (allMoves t b (statesIn chosen))) plan 0 n
         b′ plan′
     words-end z =
         let e : i ≡ 0 = omega arith in
@@ -325,12 +332,14 @@ module _ (t b chosen plan : List ℕ) (g : Given t b chosen) where
         bytes-room = room-below 4 wordBytes word-bytes-length word-bytes-append t b chosen plan g i n b′ plan′ h k u r
 
         pub bytes-next : (m : ℕ) (b″ plan″ : List ℕ)
-            → WrittenFrom 4 wordBytes (moveList t b′ (statesIn chosen) (i - 1)) (stateMoved t b′ (statesIn chosen) (i - 1)) plan′ n m b″ plan″
+            → WrittenFrom 4 wordBytes (moveList t b′ (statesIn chosen) (i - 1)) (stateMoved t b′ (statesIn chosen) (i - 1)) plan′ n m b″
+            plan″
             → Underway 4 wordBytes t b chosen plan (i - 1) (n + m) b″ plan″
         bytes-next = next-below 4 wordBytes word-bytes-length word-bytes-append t b chosen plan g i n b′ plan′ h k u r
 
     pub bytes-end : i ≤ 0
-        → WrittenFrom 4 wordBytes (plannedEach t b (allMoves t b (statesIn chosen))) (stateAfterEach t b (allMoves t b (statesIn chosen))) plan 0 n
+        → WrittenFrom 4 wordBytes (plannedEach t b (allMoves t b (statesIn chosen)))
+        (stateAfterEach t b (allMoves t b (statesIn chosen))) plan 0 n
         b′ plan′
     bytes-end z =
         let e : i ≡ 0 = omega arith in

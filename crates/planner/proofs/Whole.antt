@@ -44,7 +44,7 @@ changed-is st entered d c e = rw e refl
 -- ---- the words and the state of a permitted request, from the values as the code has them
 module _ (t b : List ℕ) (q : Request) (on : ℕ) (c : Change) (h : on ≡ status t b .on)
     (i : c ≡ changeOf (station t) (statusWith t b on) q) where
-  pub change-is : c ≡ changeOf (station t) (status t b) q
+  change-is : c ≡ changeOf (station t) (status t b) q
   change-is = i ∙ ap (λ (st : Status). changeOf (station t) st q) (status-with t b on h)
 
   pub list-is : switchingWords (station t) (c .switching) ≡ planned t b q
@@ -133,7 +133,8 @@ module _ (t b : List ℕ) (q : Request) (plan : List ℕ) (kind : isSleep q ≡ 
   module _ (e : v ≡ stagesVerdict (leb (4 * n) (length plan)) t b q) where
     pub bytes-refused : not p ≡ true → Answered v b plan (planBytes t b q plan)
     bytes-refused k =
-        outcome-stops _ (λ r. stagesVerdict r t b q) _ b plan _ _ _ (bytes-request t b q plan kind) (4 * n) (ap (λ (k : ℕ). 4 * k) i) v p f e k
+        outcome-stops _ (λ r. stagesVerdict r t b q) _ b plan _ _ _ (bytes-request t b q plan kind) (4 * n) (ap (λ (k : ℕ). 4 * k) i) v p f
+        e k
 
     pub bytes-planned : not p ≡ false → (k : ℕ) (b′ plan′ words words′ : List ℕ) → Written t b q words k b′ words′
         → plan′ ≡ put plan 0 (wordBytes (take k words′)) → Answered (Done k) b′ plan′ (planBytes t b q plan)

@@ -39,8 +39,8 @@ pub fn chosen_needs(table: &[u8], devices: &[u8], chosen: &[u8], d: usize) -> u3
     power::needs(table, d, taken)
 }
 
-// The calls and the state of device d's move to its state in `chosen`, from the set needed after it; none if it stays. The move is deeper, so
-// its own call comes first. The state is written in the image itself, since 32 moves would copy it 64 times.
+// The calls and the state of device d's move to its state in `chosen`, from the set needed after it; none if it stays. The move is deeper,
+// so its own call comes first. The state is written in the image itself, since 32 moves would copy it 64 times.
 pub fn write_move(
     table: &[u8],
     state: &mut [u8],
@@ -103,8 +103,10 @@ fn write_moves(table: &[u8], state: &mut [u8], chosen: &[u8], plan: &mut [u32]) 
     requires { ⌜ Given (now table) (now state) (now chosen)
         × (limit (width (now table)) * listRoom (width (now table)) ≤ length (now plan)) ⌝ }
     ensures { λ r. ⌜ WrittenFrom 1 (λ ws. ws)
-        (plannedEach (now (table .entry)) (now (state .entry)) (allMoves (now (table .entry)) (now (state .entry)) (statesIn (now (chosen .entry)))))
-        (stateAfterEach (now (table .entry)) (now (state .entry)) (allMoves (now (table .entry)) (now (state .entry)) (statesIn (now (chosen .entry)))))
+        (plannedEach (now (table .entry)) (now (state .entry))
+        (allMoves (now (table .entry)) (now (state .entry)) (statesIn (now (chosen .entry)))))
+        (stateAfterEach (now (table .entry)) (now (state .entry))
+        (allMoves (now (table .entry)) (now (state .entry)) (statesIn (now (chosen .entry)))))
         (now (plan .entry)) 0 r (now (state .exit)) (now (plan .exit)) ⌝ }
 {
     let mut below = [0u32; 32];

@@ -32,7 +32,8 @@ resources-are : (t : List ℕ) → station t .resources ≡ countR t
 unfolding stationOf
 resources-are t = refl
 
-pub powered-starts : (t : List ℕ) (x set : ℕ) → everyIn (λ r. leb x (station t .resource r .level)) set (countR t) ≡ poweredIn (station t) x set
+pub powered-starts : (t : List ℕ) (x set : ℕ)
+    → everyIn (λ r. leb x (station t .resource r .level)) set (countR t) ≡ poweredIn (station t) x set
 unfolding poweredIn everyIn
 powered-starts t x set = rw (resources-are t) refl
 

@@ -80,7 +80,8 @@ module _ (t b : List ℕ) (done : tableVerdict t ≡ Done 0) (u : Verdict) (r : 
 
     pub with-room : not room ≡ false → Done 0 ≡ readyVerdict room t b
     with-room n =
-        sym (to-room ∙ rw (unless-of room NoRoom 0 (not-false room n)) (first-pass (Done 0) _ (Done 0) (done-passes 0)) ∙ first-none (Done 0))
+        sym (to-room ∙ rw (unless-of room NoRoom 0 (not-false room n)) (first-pass (Done 0) _ (Done 0) (done-passes 0))
+        ∙ first-none (Done 0))
 
 pub ruleset in-turn = (stop-state, stop-room, with-room)
 

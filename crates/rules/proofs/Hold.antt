@@ -24,13 +24,16 @@ use Rattle.rules.specs.Status.{entryZero, entriesGood, onGood, parentAll
 use Rattle.rules.specs.Status.{consistent, valuesGood, imageGood, valuesVerdict, consistencyVerdict, stateVerdict}
 use Rattle.rules.specs.Request.{numbersGood, formGood, notShallowerOrD0, childBars, wakeAllows, moveVerdict, armVerdict}
 use Rattle.rules.specs.Request.{kindVerdict, requestVerdict, newEntry, replaceEntry}
-use Rattle.rules.specs.Calls.{wakeOf, callOfBytes, callOf, listOf, only, methodFor, callsMethod, moveCall, wakeCall, ownCall, statusNeeded}
+use Rattle.rules.specs.Calls.{wakeOf, callOfBytes, callOf, listOf, only, methodFor, callsMethod, moveCall, wakeCall, ownCall}
+use Rattle.rules.specs.Calls.{statusNeeded}
 use Rattle.rules.specs.Calls.{ownLast, endSet, toTurnOn, toTurnOff, membersFrom, earlier, insert, sort, rising, turnOn, turnOff}
 use Rattle.rules.specs.Calls.{arrange, switchCalls, calls, statusAfter, switchingWords}
 use Rattle.rules.specs.Check.{onWord, offWord, andThen, takeWords, mayCome, takeSet, firstCalls, lastCalls, isEnd, conforming}
-use Rattle.rules.specs.Outcomes.{outcome, freshVerdict, fresh, readyVerdict, requestStage, stagesVerdict, planVerdict, planOutcome, planned}
+use Rattle.rules.specs.Outcomes.{outcome, freshVerdict, fresh, readyVerdict, requestStage, stagesVerdict, planVerdict, planOutcome}
+use Rattle.rules.specs.Outcomes.{planned}
 use Rattle.rules.specs.Outcomes.{stateAfter}
-use Rattle.rules.specs.Outcomes.{planRoom, planStages, planList, planState, planWords, planBytes, listVerdict, ofBytes, checkWords, checkBytes, recordPart}
+use Rattle.rules.specs.Outcomes.{planRoom, planStages, planList, planState, planWords, planBytes, listVerdict, ofBytes, checkWords}
+use Rattle.rules.specs.Outcomes.{checkBytes, recordPart}
 use Rattle.rules.specs.BringUp.{butPowerVerdict, stateButPowerVerdict, bringUpStages, bringUpCalls, bringUpList}
 use Rattle.rules.specs.BringUp.{stateBroughtUp, bringUpWords}
 use Rattle.rules.specs.BringUp.{bringUpBytes, checkBringUpWords, checkBringUpBytes}

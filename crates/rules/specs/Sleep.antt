@@ -40,8 +40,8 @@ sxdAllows s x d y = eqb (s .device d .sxd x) absent || leb (s .device d .sxd x) 
 unfoldable pub wakeDIfArmed : Entry → ℕ → Bool
 wakeDIfArmed e y = not (isArmed e) || eqb y (e .wake)
 
--- RULES.md 13.2: device d, whose entry is e, may take state y: it is supported, not shallower than the present one, nor than `_SxD` where that
--- is present; all that d needs in it, with `_PRW` if armed, has systemlevel at least x; and it is wake D if armed
+-- RULES.md 13.2: device d, whose entry is e, may take state y: it is supported, not shallower than the present one, nor than `_SxD` where
+-- that is present; all that d needs in it, with `_PRW` if armed, has systemlevel at least x; and it is wake D if armed
 unfoldable pub mayTake : Station → ℕ → ℕ → Entry → ℕ → Bool
 mayTake s x d e y =
     supported s d y && leb (e .state) y && sxdAllows s x d y && poweredIn s x (needs s d (inState e y)) && wakeDIfArmed e y

@@ -43,8 +43,10 @@ fn write_moves(table: &[u8], state: &mut [u8], chosen: &[u8], plan: &mut [u8]) -
     requires { ⌜ Given (now table) (now state) (now chosen)
         × (4 * (limit (width (now table)) * listRoom (width (now table))) ≤ length (now plan)) ⌝ }
     ensures { λ r. ⌜ WrittenFrom 4 wordBytes
-        (plannedEach (now (table .entry)) (now (state .entry)) (allMoves (now (table .entry)) (now (state .entry)) (statesIn (now (chosen .entry)))))
-        (stateAfterEach (now (table .entry)) (now (state .entry)) (allMoves (now (table .entry)) (now (state .entry)) (statesIn (now (chosen .entry)))))
+        (plannedEach (now (table .entry)) (now (state .entry))
+        (allMoves (now (table .entry)) (now (state .entry)) (statesIn (now (chosen .entry)))))
+        (stateAfterEach (now (table .entry)) (now (state .entry))
+        (allMoves (now (table .entry)) (now (state .entry)) (statesIn (now (chosen .entry)))))
         (now (plan .entry)) 0 r (now (state .exit)) (now (plan .exit)) ⌝ }
 {
     let mut below = [0u32; 32];

@@ -6,7 +6,8 @@ use Prim.Native.Nat.{ℕ, zero, suc, _+_, _-_, _/_, _%_, _^_, _≤_, _<_, suc-le
 use native.Mathlib.Nat.{pow-suc, zero-div, div-eq-of-lt, le-trans, lt-of-le-of-lt, le-max-left}
 use native.Mathlib.Omega.{arith}
 use lib.Arith.{bin-ind}
-use lib.Bits.{bitAnd, bitOr, bitXor, or-step, or-zero-l, or-comm, and-le-l, or-lt, xor-lt, and-shr, or-shr, xor-shr, and-mod, or-mod, xor-mod}
+use lib.Bits.{bitAnd, bitOr, bitXor, or-step, or-zero-l, or-comm, and-le-l, or-lt, xor-lt, and-shr, or-shr, xor-shr}
+use lib.Bits.{and-mod, or-mod, xor-mod}
 use lib.Dec.{eqb, ltb, eqb·zero-suc, eqb·suc-zero, eqb·suc-suc, leb·suc-suc}
 use lib.Pow.{pow-pos, pow-mono}
 use borrow.Author.Tests.{eqb-true, eqb-false, eq-eqb, ne-eqb, ltb-true, ltb-false, lt-ltb, le-ltb, not-false}

@@ -148,7 +148,8 @@ stays-is t b chosen d e r h i = rw (entry-ready t b d e r h i) refl
 pub from-first : (f : ℕ → Bool) (n m : ℕ) → n ≡ m → everyFrom f 0 n ≡ every f m
 from-first f n m e = every-starts f n ∙ ap (every f) e
 
-pub device-passes : (f : ℕ → Bool) (i n : ℕ) (v b : Bool) → everyFrom f i n ≡ v → i < n → b ≡ f i → not b ≡ false → everyFrom f (i + 1) n ≡ v
+pub device-passes : (f : ℕ → Bool) (i n : ℕ) (v b : Bool) → everyFrom f i n ≡ v → i < n → b ≡ f i → not b ≡ false
+    → everyFrom f (i + 1) n ≡ v
 device-passes f i n v b inv h e t = every-next f i n v b inv h e (not-false b t)
 
 pub device-stops : (f : ℕ → Bool) (i n : ℕ) (v b : Bool) → everyFrom f i n ≡ v → i < n → b ≡ f i → not b ≡ true → false ≡ v
@@ -196,15 +197,15 @@ module _ (t b chosen : List ℕ) (x d : ℕ) (r : Ready t b) (k : d < countD t) 
 
   module _ (y v : ℕ) (inv : leastFrom taken y (5 - y) ≡ v) (h : y < 5) (e : Entry) (read : e ≡ entryAt b (4 * d)) (c : Bool)
       (test : c ≡ mayTake (station t) x d e y && underParent (station t) (statesIn chosen) d y) where
-    taken-is : c ≡ taken y
+    may-is : c ≡ taken y
     unfolding mayTakeUnder
-    taken-is = test ∙ rw (entry-ready t b d e r k read) refl
+    may-is = test ∙ rw (entry-ready t b d e r k read) refl
 
     pub state-found : c ≡ true → y ≡ v
-    state-found z = found taken y 5 v c inv h taken-is z
+    state-found z = found taken y 5 v c inv h may-is z
 
     pub state-next : c ≡ false → leastFrom taken (y + 1) (5 - (y + 1)) ≡ v
-    state-next z = next taken y 5 v c inv h taken-is z
+    state-next z = next taken y 5 v c inv h may-is z
 
 pub ruleset states = (state-starts, state-found, state-next, done)
 

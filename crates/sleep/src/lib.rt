@@ -45,7 +45,8 @@ fn armed_for_other(e: Entry, x: u8) -> bool
 // The lowest such device, or D.
 fn lowest_other(table: &[u8], devices: &[u8], x: u8) -> usize
     requires { ⌜ Ready (now table) (now devices) ⌝ }
-    ensures { λ r. ⌜ r ≡ least (λ d. armedForOther (entries (now (table .entry)) (now (devices .entry)) d) x) (countD (now (table .entry))) ⌝ }
+    ensures { λ r. ⌜ r ≡ least (λ d. armedForOther (entries (now (table .entry)) (now (devices .entry)) d) x)
+        (countD (now (table .entry))) ⌝ }
 {
     let n = table::fields::devices(table);
     let mut i = 0;

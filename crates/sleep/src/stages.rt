@@ -12,8 +12,8 @@ ghost use Rattle.rules.specs.Sleep.{isSleep};
 ghost use Rattle.rules.specs.Outcomes.{sleepStages};
 ghost use Rattle.sleep.specs.Chosen.{stagesLeft};
 
-// The first refusal past the table, or done, of a table that is accepted. The checks of requests answer 10 to kind 4 once 7 to 9 have passed:
-// so these are asked there, and the code that asks them is in one place. Where it is done, the states that the devices take stand in `chosen`.
+// The first refusal past the table, or done, of a table that is accepted. The checks of requests answer 10 to kind 4 exactly if none of 7,
+// 8 and 9 applies, so these are asked there. Where it is done, the states that the devices take stand in `chosen`.
 pub fn past_table(table: &[u8], state: &[u8], room: bool, q: Request, chosen: &mut [u8]) -> Verdict
     requires { ⌜ (isSleep q ≡ true) × (tableVerdict (now table) ≡ Done 0) × (countD (now table) ≤ length (now chosen)) ⌝ }
     ensures { λ r. ⌜ (r ≡ sleepStages room (now (table .entry)) (now (state .entry)) q)

@@ -30,7 +30,8 @@ module _ (f : ℕ → ℕ) (d : List ℕ) where
       let long = each-length f 0 i in
       let at : 0 + length (each f i) ≡ i = omega (arith, long) in
       let one = put-one d 0 (each f i) (f i) (omega (arith, long)) in
-      let more : each f i ++ f i ∷ [] ≡ each f (i + 1) = rw (add-one i) (sym (each-more f 0 i ∙ ap (λ (k : ℕ). each f i ++ f k ∷ []) (zero-add i))) in
+      let more : each f i ++ f i ∷ [] ≡ each f (i + 1) =
+      rw (add-one i) (sym (each-more f 0 i ∙ ap (λ (k : ℕ). each f i ++ f k ∷ []) (zero-add i))) in
       rw (e, v) ((rw at at one) ∙ ap (put d 0) more)
 
   -- it keeps its length, and the value of each number stands at it

@@ -113,7 +113,8 @@ module _ (t b : List ℕ) (d y : ℕ) (h : d < limit (width t)) (l : length b �
   state-replaced =
       fun-ext (λ k. decide (eqb k d) (λ z. rw (z, eqb-true k d z) state-in) (λ z. rw z (others-in k (eqb-false k d z))))
 
-  pub state-image : (on : ℕ) (b′ : List ℕ) → b′ ≡ imageOf (width t) (statusWith t changed on) → b′ ≡ imageOf (width t) (inStateWith t b d y on)
+  pub state-image : (on : ℕ) (b′ : List ℕ) → b′ ≡ imageOf (width t) (statusWith t changed on)
+      → b′ ≡ imageOf (width t) (inStateWith t b d y on)
   state-image on b′ e = e ∙ rw state-replaced refl
 
   pub state-inside : 4 * d < length b

@@ -36,7 +36,8 @@ pub fn needed(table: &[u8], devices: &[u8]) -> u32
 
 // For each device what those below it need, from the start of `out`.
 pub fn needed_below(table: &[u8], devices: &[u8], out: &mut [u32])
-    requires { ⌜ WellSized (now table) × (entriesSize (width (now table)) ≤ length (now devices)) × (countD (now table) ≤ length (now out)) ⌝ }
+    requires { ⌜ WellSized (now table) × (entriesSize (width (now table)) ≤ length (now devices))
+        × (countD (now table) ≤ length (now out)) ⌝ }
     ensures { λ _. ⌜ now (out .exit) ≡ belowEach (now (table .entry)) (now (devices .entry)) (now (out .entry)) ⌝ }
 {
     let n = table::fields::devices(table);
@@ -50,8 +51,8 @@ pub fn needed_below(table: &[u8], devices: &[u8], out: &mut [u32])
     }
 }
 
-// The needed set with e for device d's entry: so no caller writes an entry to learn what it would need. The devices before d and after it go by
-// turns of their own, so that no turn asks which device it is at.
+// The needed set with e for device d's entry: so no caller writes an entry to learn what it would need. The devices before d and after it
+// go by turns of their own, so that no turn asks which device it is at.
 pub fn needed_with(table: &[u8], devices: &[u8], d: usize, e: Entry) -> u32
     requires { ⌜ WellSized (now table) × (entriesSize (width (now table)) ≤ length (now devices)) × (d < countD (now table)) ⌝ }
     ensures { λ r. ⌜ r ≡ needed (station (now (table .entry))) (replaceEntry (entries (now (table .entry)) (now (devices .entry))) d e) ⌝ }

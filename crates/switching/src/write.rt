@@ -52,7 +52,8 @@ pub fn write_switches(table: &[u8], added: u32, removed: u32, plan: &mut [u32], 
 // The words of all calls where the own call comes first, from the start of the plan. The answer is their count. Small enough for the
 // compiler to put it into both its callers.
 pub fn write_own_first(table: &[u8], c: Switching, plan: &mut [u32]) -> usize
-    requires { ⌜ WellSized (now table) × GoodSwitching (now table) c × (listRoom (width (now table)) ≤ length (now plan)) × (c .last ≡ false) ⌝ }
+    requires { ⌜ WellSized (now table) × GoodSwitching (now table) c × (listRoom (width (now table)) ≤ length (now plan))
+        × (c .last ≡ false) ⌝ }
     ensures { λ r. ⌜ (r ≡ length (switchingWords (station (now (table .entry))) c))
         × (now (plan .exit) ≡ put (now (plan .entry)) 0 (switchingWords (station (now (table .entry))) c)) ⌝ }
 {

@@ -4,4 +4,10 @@ use Rattle.sleep.proofs.form_good.Statement.{statement}
 use Rattle.sleep.proofs.form_good.Tie as tie
 
 pub form-good-spec : {M : Type 1} → statement M
-form-good-spec = tie.close (tie.spec (λ c. search (needs, forms)) (λ c. search (needs, forms)) (λ c. search (needs, forms)) (λ c. search (needs, forms)))
+form-good-spec =
+    tie.close
+    (tie.spec
+    (λ c. search (needs, forms))
+    (λ c. search (needs, forms))
+    (λ c. search (needs, forms))
+    (λ c. search (needs, forms)))

@@ -17,5 +17,14 @@ abbrev μ-loop : tie.MeasureT-loop
 pub lowest-other-spec : {M : Type 1} → statement M
 lowest-other-spec =
     tie.close
-    (tie.spec Inv-loop μ-loop (λ c κs. search needs) (λ c. search (needs, others)) (λ c κs. search needs) (λ c κs. search needs) (λ c. search (needs, others)) (λ c. search needs) (λ c. search needs)
+    (tie.spec
+    Inv-loop
+    μ-loop
+    (λ c κs. search needs)
+    (λ c. search (needs, others))
+    (λ c κs. search needs)
+    (λ c κs. search needs)
+    (λ c. search (needs, others))
+    (λ c. search needs)
+    (λ c. search needs)
     (λ c. search (needs, others)) (λ c. search (needs, others)))

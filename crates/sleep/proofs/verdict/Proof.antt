@@ -26,5 +26,14 @@ returns-4 c = (search (needs, answers), search (needs, lefts))
 pub verdict-spec : {M : Type 1} → statement M
 verdict-spec =
     tie.close
-    (tie.spec (λ c κs. search needs) returns cast-x (λ c κs. search needs) (λ c κs. search needs) returns-2 choose-requires (λ c κs. search needs) (λ c. search needs)
+    (tie.spec
+    (λ c κs. search needs)
+    returns
+    cast-x
+    (λ c κs. search needs)
+    (λ c κs. search needs)
+    returns-2
+    choose-requires
+    (λ c κs. search needs)
+    (λ c. search needs)
     returns-3 (λ c. search needs) returns-4)

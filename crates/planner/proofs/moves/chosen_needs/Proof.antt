@@ -4,4 +4,10 @@ use Rattle.planner.proofs.moves.chosen_needs.Statement.{statement}
 use Rattle.planner.proofs.moves.chosen_needs.Tie as tie
 
 pub chosen-needs-spec : {M : Type 1} → statement M
-chosen-needs-spec = tie.close (tie.spec (λ c κs. search (needs, one-move)) (λ c. search needs) (λ c κs. search (needs, one-move)) (λ c. search (needs, chosen-needed)))
+chosen-needs-spec =
+    tie.close
+    (tie.spec
+    (λ c κs. search (needs, one-move))
+    (λ c. search needs)
+    (λ c κs. search (needs, one-move))
+    (λ c. search (needs, chosen-needed)))

@@ -8,4 +8,11 @@ use Rattle.planner.proofs.moves.move_words.Tie as tie
 pub move-words-spec : {M : Type 1} → statement M
 move-words-spec =
     tie.close
-    (tie.spec (λ c. search needs) (λ c κs. search (needs, room-words)) (λ c. search needs) (λ c κs. search (needs, copied)) (λ c. search needs) (λ c. search needs) (λ c. search (needs, copied)))
+    (tie.spec
+    (λ c. search needs)
+    (λ c κs. search (needs, room-words))
+    (λ c. search needs)
+    (λ c κs. search (needs, copied))
+    (λ c. search needs)
+    (λ c. search needs)
+    (λ c. search (needs, copied)))

@@ -19,4 +19,12 @@ returns-2 c =
 pub plan-words-spec : {M : Type 1} → statement M
 plan-words-spec =
     tie.close
-    (tie.spec (λ c κs. search (needs, eq-eqb)) (λ c. search needs) (λ c. search needs) returns (λ c κs. search (needs, ne-eqb)) (λ c. search needs) (λ c. search needs) returns-2)
+    (tie.spec
+    (λ c κs. search (needs, eq-eqb))
+    (λ c. search needs)
+    (λ c. search needs)
+    returns
+    (λ c κs. search (needs, ne-eqb))
+    (λ c. search needs)
+    (λ c. search needs)
+    returns-2)

@@ -14,7 +14,8 @@ returns c =
     let answer = c .before in
     let asked = answer .before in
     let stop = sleep-table _ _ _ _ _ _ (asked .check-table .ensures) (answer .passes .ensures) (c .if1 .taken) in
-    parts (sleep-words-refused _ _ _ _ (search needs) _ (asked .before .room .ensures .0) _ _ (answer .passes .ensures) stop (c .if1 .taken))
+    parts (sleep-words-refused _ _ _ _ (search needs) _ (asked .before .room .ensures .0) _ _ (answer .passes .ensures) stop
+    (c .if1 .taken))
 
 past-table-requires : tie.Need-past-table-requires
 past-table-requires c κs =
@@ -28,8 +29,8 @@ returns-2 c =
     let answer = c .before in
     let asked = answer .before .before in
     let room = asked .before .before .before .before .before .before in
-    parts (sleep-words-refused _ _ _ _ (search needs) _ (room .room .ensures .0) _ _ (answer .passes2 .ensures) (asked .past-table .ensures .0)
-    (c .if2 .taken))
+    parts (sleep-words-refused _ _ _ _ (search needs) _ (room .room .ensures .0) _ _ (answer .passes2 .ensures)
+    (asked .past-table .ensures .0) (c .if2 .taken))
 
 write-choice-requires : tie.Need-write-choice-requires
 write-choice-requires c κs =

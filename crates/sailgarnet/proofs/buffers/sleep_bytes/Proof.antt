@@ -12,8 +12,8 @@ returns c =
     let answer = c .before in
     let asked = answer .before .before in
     let room = asked .before .before .before in
-    parts (sleep-bytes-refused _ _ _ _ (search needs) _ (room .room .ensures .0) _ _ (answer .passes .ensures) (asked .past-table .ensures .0)
-    (c .if1 .taken))
+    parts (sleep-bytes-refused _ _ _ _ (search needs) _ (room .room .ensures .0) _ _ (answer .passes .ensures)
+    (asked .past-table .ensures .0) (c .if1 .taken))
 
 write-choice-requires : tie.Need-write-choice-requires
 write-choice-requires c κs =

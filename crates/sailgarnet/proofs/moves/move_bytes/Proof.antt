@@ -8,4 +8,11 @@ use Rattle.sailgarnet.proofs.moves.move_bytes.Tie as tie
 pub move-bytes-spec : {M : Type 1} → statement M
 move-bytes-spec =
     tie.close
-    (tie.spec (λ c. search needs) (λ c κs. search (needs, room-words)) (λ c. search needs) (λ c κs. search (needs, copied)) (λ c. search needs) (λ c. search needs) (λ c. search (needs, copied)))
+    (tie.spec
+    (λ c. search needs)
+    (λ c κs. search (needs, room-words))
+    (λ c. search needs)
+    (λ c κs. search (needs, copied))
+    (λ c. search needs)
+    (λ c. search needs)
+    (λ c. search (needs, copied)))

@@ -10,4 +10,13 @@ write-offs-requires c κs = (search (needs, entering), search (needs, entering))
 pub write-choice-spec : {M : Type 1} → statement M
 write-choice-spec =
     tie.close
-    (tie.spec (λ c κs. search (needs, entering)) write-offs-requires (λ c. search needs) (λ c. search needs) (λ c. search (needs, by-choice)) (λ c κs. search needs) (λ c. search needs) (λ c. search needs) (λ c. search (needs, by-choice)))
+    (tie.spec
+    (λ c κs. search (needs, entering))
+    write-offs-requires
+    (λ c. search needs)
+    (λ c. search needs)
+    (λ c. search (needs, by-choice))
+    (λ c κs. search needs)
+    (λ c. search needs)
+    (λ c. search needs)
+    (λ c. search (needs, by-choice)))

@@ -9,4 +9,11 @@ use Rattle.sailgarnet.proofs.moves.write_offs.Tie as tie
 pub write-offs-spec : {M : Type 1} → statement M
 write-offs-spec =
     tie.close
-    (tie.spec (λ c. search needs) (λ c κs. search (needs, room-words)) (λ c. search needs) (λ c κs. search (needs, offs)) (λ c. search needs) (λ c. search needs) (λ c. search (needs, into-bytes)))
+    (tie.spec
+    (λ c. search needs)
+    (λ c κs. search (needs, room-words))
+    (λ c. search needs)
+    (λ c κs. search (needs, offs))
+    (λ c. search needs)
+    (λ c. search needs)
+    (λ c. search (needs, into-bytes)))

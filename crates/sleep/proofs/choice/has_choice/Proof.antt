@@ -20,4 +20,15 @@ abbrev μ-loop : tie.MeasureT-loop
 
 pub has-choice-spec : {M : Type 1} → statement M
 has-choice-spec =
-    tie.close (tie.spec Inv-loop μ-loop (λ c κs. search needs) (λ c. search (needs, staying)) (λ c. search needs) (λ c. search (needs, staying)) (λ c. search needs) (λ c. search needs) (λ c. search (needs, staying)) (λ c. search (needs, staying)))
+    tie.close
+    (tie.spec
+    Inv-loop
+    μ-loop
+    (λ c κs. search needs)
+    (λ c. search (needs, staying))
+    (λ c. search needs)
+    (λ c. search (needs, staying))
+    (λ c. search needs)
+    (λ c. search needs)
+    (λ c. search (needs, staying))
+    (λ c. search (needs, staying)))

@@ -22,5 +22,13 @@ abbrev μ-loop : tie.MeasureT-loop
 pub least-state-spec : {M : Type 1} → statement M
 least-state-spec =
     tie.close
-    (tie.spec Inv-loop μ-loop (λ c κs. search needs) (λ c. search (needs, states)) (λ c κs. search (needs, asking)) (λ c. search (needs, states)) (λ c. search needs) (λ c. search needs)
+    (tie.spec
+    Inv-loop
+    μ-loop
+    (λ c κs. search needs)
+    (λ c. search (needs, states))
+    (λ c κs. search (needs, asking))
+    (λ c. search (needs, states))
+    (λ c. search needs)
+    (λ c. search needs)
     (λ c. search (needs, states)) (λ c. search (needs, states)))

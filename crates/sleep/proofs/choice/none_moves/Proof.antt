@@ -22,5 +22,13 @@ abbrev μ-loop : tie.MeasureT-loop
 pub none-moves-spec : {M : Type 1} → statement M
 none-moves-spec =
     tie.close
-    (tie.spec Inv-loop μ-loop (λ c κs. search needs) (λ c. search (needs, staying)) (λ c κs. search needs) (λ c. search (needs, staying)) (λ c. search needs) (λ c. search needs)
+    (tie.spec
+    Inv-loop
+    μ-loop
+    (λ c κs. search needs)
+    (λ c. search (needs, staying))
+    (λ c κs. search needs)
+    (λ c. search (needs, staying))
+    (λ c. search needs)
+    (λ c. search needs)
     (λ c. search (needs, staying)) (λ c. search (needs, staying)))

@@ -5,4 +5,11 @@ use Rattle.sleep.proofs.choice.under_parent.Statement.{statement}
 use Rattle.sleep.proofs.choice.under_parent.Tie as tie
 
 pub under-parent-spec : {M : Type 1} → statement M
-under-parent-spec = tie.close (tie.spec (λ c κs. search needs) (λ c. search (needs, under-laws)) (λ c. search needs) (λ c. search (needs, under-laws)) (λ c. search (needs, under-laws)))
+under-parent-spec =
+    tie.close
+    (tie.spec
+    (λ c κs. search needs)
+    (λ c. search (needs, under-laws))
+    (λ c. search needs)
+    (λ c. search (needs, under-laws))
+    (λ c. search (needs, under-laws)))
