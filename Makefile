@@ -5,7 +5,7 @@
 # make install PREFIX=/usr/local: the library, its header, sailgarnet.pc for pkg-config and the command, under DESTDIR if it is given.
 # make uninstall, with the same PREFIX and DESTDIR: removes these files.
 # make bench, make instructions: time and instructions a call, Sailgarnet beside the reference. make benchmarks: docs/BENCHMARKS.md anew.
-# make pictures: those in docs, the traces of W4 and W5 and which crate stands on which.
+# make pictures: those in docs, the traces of W4, of W5 and of a sleep entry, and which crate stands on which.
 # make soak SECONDS=600 SEED=7: the library against the reference, sweeps and then random cases for so long; without SEED with a new one,
 # which is printed.
 .PHONY: test check run library install uninstall bench instructions soak pictures benchmarks

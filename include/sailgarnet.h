@@ -21,10 +21,14 @@
 extern "C" {
 #endif
 
-/* Sizes. A state image has 132 bytes, a plan at most 33 calls of four bytes, at most 32 resources and 32 devices. */
+/*
+ * Sizes. A state image has 132 bytes; a plan at most 33 calls of four bytes, that of a sleep entry at most 1,056; there
+ * are at most 32 resources and 32 devices.
+ */
 #define SAILGARNET_STATE_SIZE 132u
 #define SAILGARNET_ENTRIES_SIZE 128u /* the device entries of a state; its on-set is after them */
 #define SAILGARNET_PLAN_SIZE 132u
+#define SAILGARNET_SLEEP_PLAN_SIZE 4224u /* the plan of a sleep entry: room for 33 calls for each of 32 devices */
 #define SAILGARNET_MAX_RESOURCES 32u
 #define SAILGARNET_MAX_DEVICES 32u
 #define SAILGARNET_RECORD_SIZE 40u /* a device's record in a table */
@@ -44,6 +48,7 @@ extern "C" {
 #define SAILGARNET_MOVE 1u   /* device to state a; b is 0 */
 #define SAILGARNET_ARM 2u    /* device may wake the system from sleep state a; while armed it is never deeper than b */
 #define SAILGARNET_DISARM 3u /* device may no longer wake the system; a and b are 0 */
+#define SAILGARNET_SLEEP 4u  /* sleep entry: all devices to states for sleep state a, 1 to 4; device and b are 0 */
 
 /* Device power states. Larger is deeper. */
 #define SAILGARNET_D0 0u
@@ -63,7 +68,7 @@ enum sailgarnet_number {
     SAILGARNET_BAD_OBJECTS = 6,       /* a device breaks an object rule, see struct sailgarnet_device [device] */
     SAILGARNET_BAD_STATE = 7,         /* the state is not 132 bytes, or a value is out of its rules */
     SAILGARNET_INCONSISTENT = 8,      /* the state is not consistent, for bring-up even with all on [lowest such device] */
-    SAILGARNET_NO_ROOM = 9,           /* a plan under 132 bytes, or a buffer too short for the table or the description */
+    SAILGARNET_NO_ROOM = 9,           /* a plan under 132 bytes, 4224 for sleep entry; a buffer too short for its output */
     SAILGARNET_BAD_REQUEST = 10,      /* kind, device or number out of range, or an unused number not zero */
     SAILGARNET_UNSUPPORTED = 11,      /* the device does not support the state */
     SAILGARNET_SHALLOWER = 12,        /* the target is shallower than the present state and not D0 */
@@ -73,7 +78,9 @@ enum sailgarnet_number {
     SAILGARNET_NO_WAKE = 16,          /* no _PRW, or the sleep state is above its deepest */
     SAILGARNET_WAKE_UNPOWERED = 17,   /* a _PRW resource has a systemlevel below the sleep state */
     SAILGARNET_BAD_WAKE_STATE = 18,   /* wake state not supported, outside its range, or shallower than the present state */
-    SAILGARNET_NOT_CONFORMING = 19    /* checkers only: the list does not conform to the request, or to the bring-up */
+    SAILGARNET_NOT_CONFORMING = 19,   /* checkers only: the list does not conform to the request, or to the bring-up */
+    SAILGARNET_ARMED_FOR_OTHER = 20,  /* sleep entry: a device is armed for another sleep state [lowest such device] */
+    SAILGARNET_NO_CHOICE = 21         /* sleep entry: there are no states that all devices may take together */
 };
 
 /*
@@ -85,6 +92,14 @@ uint64_t sailgarnet_fresh(const uint8_t *table, size_t table_len, uint8_t *state
 /*
  * Plans one request. Done: the first 4 * count bytes of `plan` are the calls in their order, four bytes each, the rest
  * of `plan` is as it was, and `state` is the state after the calls. Refused: nothing is written.
+ *
+ * SAILGARNET_SLEEP prepares all devices for sleep state x = a, which the board enters afterwards. `plan` must have
+ * SAILGARNET_SLEEP_PLAN_SIZE bytes, else the answer is 9. Each device takes the shallowest state that it may take: one
+ * that it supports, that is not shallower than its present state, its _SxD or the state of its parent, in which all that
+ * it needs has systemlevel x or more, and which is its wake state if it is armed. The calls are those of SAILGARNET_MOVE
+ * for each device whose state changes, from the highest down. If none changes, they turn off what is on and not needed.
+ * Answers 1 to 9, then 10 if a is not 1 to 4 or device or b is not 0, 20 if a device is armed for another sleep state, 21
+ * if some device is left without a state, else 0.
  */
 uint64_t sailgarnet_plan(const uint8_t *table, size_t table_len, uint8_t *state, size_t state_len,
                          uint32_t kind, uint32_t device, uint32_t a, uint32_t b,
@@ -92,7 +107,8 @@ uint64_t sailgarnet_plan(const uint8_t *table, size_t table_len, uint8_t *state,
 
 /*
  * Whether a list of calls, four bytes each, conforms to a request from a state. Writes nothing. Answers 1 to 8, 10 to 18
- * as the planner does, then 19 for a list that does not conform, such as one that ends within a call, else 0.
+ * as the planner does, then 19 for a list that does not conform, such as one that ends within a call, else 0. A request
+ * SAILGARNET_SLEEP is answered 10: what can be checked is each of its moves, as SAILGARNET_MOVE from the state before it.
  */
 uint64_t sailgarnet_check(const uint8_t *table, size_t table_len, const uint8_t *state, size_t state_len,
                           uint32_t kind, uint32_t device, uint32_t a, uint32_t b,

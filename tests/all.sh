@@ -85,8 +85,11 @@ fence() {
 
 # the pictures in docs are what is drawn today, the traces by the command and the crates from crates.txt
 pictures() {
-  bash tests/pictures.sh target > /dev/null && diff docs/trace-w4.svg target/trace-w4.svg && diff docs/trace-w5.svg target/trace-w5.svg &&
-    diff docs/crates.svg target/crates.svg
+  local picture
+  bash tests/pictures.sh target > /dev/null || return 1
+  for picture in trace-w4 trace-w5 trace-sleep crates; do
+    diff "docs/$picture.svg" "target/$picture.svg" || return 1
+  done
 }
 
 step rt fmt --check
@@ -104,6 +107,8 @@ step example board -O2
 step example board -g -fsanitize=address,undefined
 step example edit -O2
 step example edit -g -fsanitize=address,undefined
+step example sleep -O2
+step example sleep -g -fsanitize=address,undefined
 step bash tests/stack.sh
 step fence
 host

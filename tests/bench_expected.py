@@ -7,6 +7,7 @@ import pathlib
 import sys
 
 ABSENT = 255
+MOVE, ARM, DISARM, SLEEP = 1, 2, 3, 4
 BRING_UP = None  # in the place of a request
 
 
@@ -23,6 +24,11 @@ def in_range(sxd, sxw, d):
     if sxd == ABSENT:
         return d <= sxw
     return sxd <= d <= sxw
+
+
+# whether every resource of a set has systemlevel s or more
+def powered_in(s, resources, levels):
+    return not any(resources >> r & 1 and level < s for r, level in enumerate(levels))
 
 
 # a device by the bytes of its record; sets have w bytes, 4 in a table and 8 in a description
@@ -91,6 +97,10 @@ class Device:
                 return self.sets[k]
         return 0
 
+    # ---- RULES.md 3.5
+    def needs(self, x, armed):
+        return self.state_needs(x) | (self.sets[4] if armed else 0)
+
     # for S0 there is no _SxD
     def may_wake(self, s, d):
         return in_range(self.sxd[s] if s else ABSENT, self.sxw[s], d)
@@ -98,9 +108,7 @@ class Device:
     def pair_legal(self, s, d, levels):
         if not self.prw or s > self.deepest:
             return False
-        if any(self.sets[4] >> r & 1 and level < s for r, level in enumerate(levels)):
-            return False
-        return self.supported(d) and self.may_wake(s, d)
+        return powered_in(s, self.sets[4], levels) and self.supported(d) and self.may_wake(s, d)
 
 
 def split(t):
@@ -154,11 +162,10 @@ def check_state(t, image, powered):
     levels = [b[0] for b in resources]
     for k, device in enumerate(devices):
         state, armed, s, d = image[4 * k:4 * k + 4]
-        needs = device.state_needs(state) | (device.sets[4] if armed else 0)
         good = device.supported(state)
         good = good and (device.parent == ABSENT or state >= image[4 * device.parent])
         good = good and (not armed or (device.pair_legal(s, d, levels) and state <= d))
-        if not good or (powered and needs & ~on):
+        if not good or (powered and device.needs(state, armed) & ~on):
             return 8, k
     return 0, 0
 
@@ -227,13 +234,13 @@ def describe(t, resources, devices):
 # ---- RULES.md 5, answers 10 to 18. A request is four numbers: kind, device, a, b
 def check_request(devices, levels, image, q):
     kind, d, a, b = q
-    if kind not in (1, 2, 3) or d >= len(devices):
+    if kind not in (MOVE, ARM, DISARM) or d >= len(devices):
         return 10, 0
-    if (kind == 1 and (a > 4 or b)) or (kind == 2 and (a > 4 or b > 4)) or (kind == 3 and (a or b)):
+    if (kind == MOVE and (a > 4 or b)) or (kind == ARM and (a > 4 or b > 4)) or (kind == DISARM and (a or b)):
         return 10, 0
     device = devices[d]
     state, armed, _, wake_d = image[4 * d:4 * d + 4]
-    if kind == 1:
+    if kind == MOVE:
         if not device.supported(a):
             return 11, 0
         if a < state and a != 0:
@@ -245,10 +252,10 @@ def check_request(devices, levels, image, q):
                 return 14, child
         if armed and a > wake_d:
             return 15, 0
-    if kind == 2:
+    if kind == ARM:
         if not device.prw or a > device.deepest:
             return 16, 0
-        if any(device.sets[4] >> r & 1 and level < a for r, level in enumerate(levels)):
+        if not powered_in(a, device.sets[4], levels):
             return 17, 0
         if not device.supported(b) or not device.may_wake(a, b) or b < state:
             return 18, 0
@@ -258,9 +265,7 @@ def check_request(devices, levels, image, q):
 def needed(devices, image):
     union = 0
     for k, device in enumerate(devices):
-        union |= device.state_needs(image[4 * k])
-        if image[4 * k + 1]:
-            union |= device.sets[4]
+        union |= device.needs(image[4 * k], image[4 * k + 1])
     return union
 
 
@@ -275,11 +280,11 @@ def permitted(t, image, q):
 
 def own_call(device, before, q):
     kind, d, a, b = q
-    if kind == 1:
+    if kind == MOVE:
         x = min(a, 3)  # _PS3 for D3cold
         changes = a != before[0] and not (before[0] == 3 and a == 4)
         return [bytes([3, d, x, 0])] if changes and device.ps >> x & 1 else []
-    if kind == 2:
+    if kind == ARM:
         return [bytes([4, d, a, 128 + b])] if device.dsw else []
     return [bytes([4, d, 0, 0])] if device.dsw and before[1] else []
 
@@ -287,9 +292,9 @@ def own_call(device, before, q):
 def with_new_entry(image, q):
     kind, d, a, b = q
     after = bytearray(image)
-    if kind == 1:
+    if kind == MOVE:
         after[4 * d] = a
-    elif kind == 2:
+    elif kind == ARM:
         after[4 * d + 1:4 * d + 4] = bytes([1, a, b])
     else:
         after[4 * d + 1:4 * d + 4] = bytes(3)
@@ -316,22 +321,71 @@ def parts_and_image(t, image, q):
     if q is not BRING_UP:
         kind, d, a, _ = q
         own = [(0, call) for call in own_call(devices[d], image[4 * d:4 * d + 4], q)]
-        own_first = kind == 3 or (kind == 1 and a > image[4 * d])
+        own_first = kind == DISARM or (kind == MOVE and a > image[4 * d])
         parts = [own, *parts] if own_first else [*parts, own]
     return parts, bytes(after)
 
 
-# number, place, the calls, the image afterwards; room: whether 33 words fit
+# ---- RULES.md 13, sleep entry for sleep state x: whether a device with this entry may take a state
+def may_take(device, levels, entry, x, state):
+    present, armed, _, wake_d = entry
+    if not device.supported(state) or state < present or (armed and state != wake_d):
+        return False
+    if device.sxd[x] != ABSENT and state < device.sxd[x]:
+        return False
+    return powered_in(x, device.needs(state, armed), levels)
+
+
+# the least choice, or None where there is none
+def least_choice(t, image, x):
+    resources, devices = split(t)
+    levels = [b[0] for b in resources]
+    chosen = []
+    for d, device in enumerate(devices):
+        shallowest = 0 if device.parent == ABSENT else chosen[device.parent]
+        fit = [y for y in range(shallowest, 5) if may_take(device, levels, image[4 * d:4 * d + 4], x, y)]
+        if not fit:
+            return None
+        chosen.append(fit[0])
+    return chosen
+
+
+# answers 10, 20 and 21
+def check_sleep_entry(t, image, q):
+    _, device, x, b = q
+    if not 1 <= x <= 4 or device or b:
+        return 10, 0
+    for d in range(t[6]):
+        _, armed, wake_s, _ = image[4 * d:4 * d + 4]
+        if armed and wake_s != x:
+            return 20, d
+    return (0, 0) if least_choice(t, image, x) is not None else (21, 0)
+
+
+# its moves, from the highest device on. Where none moves, bring-up gives the OFFs alone, since all that is needed is on
+def sleep_moves(t, image, x):
+    moves = [(MOVE, d, y, 0) for d, y in enumerate(least_choice(t, image, x)) if y != image[4 * d]]
+    return moves[::-1] or [BRING_UP]
+
+
+def is_sleep(q):
+    return q is not BRING_UP and q[0] == SLEEP
+
+
+# number, place, the calls, the image afterwards; room: the bytes of the plan
 def plan(t, image, q, room):
     number, place = check_both(t, image, powered=q is not BRING_UP)
-    if number == 0 and not room:
+    if number == 0 and room < 4 * (1056 if is_sleep(q) else 33):
         number, place = 9, 0
     if number == 0:
-        number, place = permitted(t, image, q)
+        number, place = check_sleep_entry(t, image, q) if is_sleep(q) else permitted(t, image, q)
     if number:
         return number, place, [], image
-    parts, after = parts_and_image(t, image, q)
-    return 0, 0, [call for part in parts for _, call in part], after
+    calls = []
+    for step in sleep_moves(t, image, q[2]) if is_sleep(q) else [q]:
+        parts, image = parts_and_image(t, image, step)
+        calls += [call for part in parts for _, call in part]
+    return 0, 0, calls, image
 
 
 # the checker; a list is bytes, four a word
@@ -375,7 +429,7 @@ class Script:
 
     def planned(self, q, room):
         before = self.state
-        number, place, calls, self.state = plan(self.table, before, q, room >= 132)
+        number, place, calls, self.state = plan(self.table, before, q, room)
         listed = b"".join(calls)
         told = "%d %d 0" % check_list(self.table, before, q, listed)
         return f" {number} {place} {len(calls)} calls{hexed(listed)} state{hexed(self.state)}: check {told}"
@@ -404,7 +458,7 @@ class Script:
         elif letter == "Q":
             return self.planned(asked(args), 132)
         elif letter == "P":
-            return self.planned(asked(args), args[8])
+            return self.planned(asked(args), le(args[8:10]))
         elif letter == "B":
             return self.planned(BRING_UP, args[0])
         elif letter == "C":
@@ -457,12 +511,49 @@ def check_bring_up(t):
     for bus, camera, lamp, pair, on in itertools.product(range(5), range(5), range(5), (bytes(3), bytes([1, 3, 2])), range(8)):
         entries = bytes([bus, 0, 0, 0, camera]) + pair + bytes([lamp]) + bytes(119)
         image = entries + bytes([on, 0, 0, 0])
-        number, place, calls, after = plan(t, image, BRING_UP, True)
+        number, place, calls, after = plan(t, image, BRING_UP, 132)
         assert (number, place) == check_both(t, entries + bytes([7, 0, 0, 0]))
         assert check_list(t, image, BRING_UP, b"".join(calls)) == (number, place)
         if number == 0:
             assert after[:128] == entries and check_both(t, after) == (0, 0)
-            assert plan(t, after, BRING_UP, True) == (0, 0, [], after)
+            assert plan(t, after, BRING_UP, 132) == (0, 0, [], after)
+
+
+# the calls of sleep entry are the planner's for its moves, one after the other
+def check_moves(t, image, x, calls, after):
+    for q in sleep_moves(t, image, x):
+        number, _, listed, image = plan(t, image, q, 132)
+        assert number == 0 and calls[:len(listed)] == listed
+        calls = calls[len(listed):]
+    assert not calls and image == after
+
+
+# sleep entry from any consistent state of three devices, two of them on the first, with device 1 armed for S3 or not and all on: its states
+# are the least of all choices, and 21 is where there is none; what is on afterwards may be on in the sleep state, and nothing is left to do.
+# Gives the answers that there were
+def check_sleep(t):
+    resources, devices = split(t)
+    levels = [b[0] for b in resources]
+    pairs = (bytes(3), bytes([1, 3, 2]), bytes([1, 3, 3]))
+    numbers = set()
+    for bus, camera, lamp, pair, x in itertools.product(range(5), range(5), range(5), pairs, range(1, 5)):
+        image = bytes([bus, 0, 0, 0, camera]) + pair + bytes([lamp]) + bytes(119) + bytes([7, 0, 0, 0])
+        if check_both(t, image) != (0, 0):
+            continue
+        fit = [[y for y in range(5) if may_take(devices[d], levels, image[4 * d:4 * d + 4], x, y)] for d in range(3)]
+        choices = [c for c in itertools.product(*fit) if c[0] <= c[1] and c[0] <= c[2]]
+        number, place, calls, after = plan(t, image, (SLEEP, 0, x, 0), 4224)
+        numbers.add(number)
+        if number:
+            assert (number, place) == ((20, 1) if pair[0] and x != 3 else (21, 0)) and (calls, after) == ([], image)
+            assert number == 20 or not choices
+            continue
+        states = (after[0], after[4], after[8])
+        assert states in choices and all(states[d] <= c[d] for c in choices for d in range(3))
+        check_moves(t, image, x, calls, after)
+        assert powered_in(x, le(after[128:]), levels)
+        assert plan(t, after, (SLEEP, 0, x, 0), 4224) == (0, 0, [], after)
+    return numbers
 
 
 if __name__ == "__main__":
@@ -470,6 +561,9 @@ if __name__ == "__main__":
     station = (root / "examples" / "station.pwt").read_bytes()
     check_descriptions(station)
     check_bring_up(station)
+    # also with _S3D 3 of the bus, with r1 in the camera's _PR2, and without the lamp's _PR3
+    stations = [station, *(damaged(station, len(station), at, x) for at, x in ((46, 3), (72, 7), (102, 1)))]
+    assert [check_sleep(t) for t in stations] == [{0, 20}, {0, 20, 21}, {0, 20, 21}, {20, 21}]
     script = Script()
     for line in (root / "crates" / sys.argv[1] / "stdin").read_text().splitlines():
         answer = script.line(line[:1], bytes.fromhex("" if line[:1] == "#" else line[1:]))

@@ -33,6 +33,13 @@ switch; *arming again* gives an armed device another wake pair. The other rows a
 the last place that can be bad
 where there is one: the answer number says at which stage.
 
+Sleep entry for S3, which the planner alone has, is on the bench station with the camera armed for S3 and D2, and on a full
+table with other needs: device d needs resource d in D0 to D2 and the next one in D3hot, after the last resource the first;
+\`_S3D\` is D3hot for all; seven devices are armed for S3 and D3hot. From D0 every device moves, most of them with an own
+call, one \`_ON\` and one \`_OFF\`; from the state afterwards none moves. Its two refusals are of this table, at the last
+device: it is armed for S2, which is not the S3 that is asked for (20); and for S4 it is armed for D0 while its parent goes
+to D3hot, so that it has no state left (21).
+
 Bring-up and its checker have the bench station with the camera in D3hot and r2 alone on, and the full table with every
 device armed in D0 and nothing on, or in D3cold and all on, so that every resource is to be switched. Their refusals are of
 the full table with all to be turned on: the wake pair of the last device, a plan that is one byte too short, and the last

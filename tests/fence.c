@@ -3,7 +3,8 @@
  * second run starts exactly after one. Each call must answer and write what the same call does in ordinary memory, leave what it only
  * reads and what is past its output, and on a refusal leave every byte. What write wrote must be described as what it was lent, and what
  * describe described must be written as the table that it was lent. What bring_up planned must pass its checker, and the state after it
- * have its entries as before and exactly what they need on.
+ * have its entries as before and exactly what they need on. A sleep entry must have the calls of its moves, each as it is planned alone and
+ * passed by the checker, and leave exactly what is needed on and nothing for a second one.
  */
 #define _DEFAULT_SOURCE
 #include <setjmp.h>
@@ -18,6 +19,8 @@
 #include "full.h"
 
 enum { PAGE = 4096, LONGEST = 200, RESOURCE = SAILGARNET_DESCRIBED_RESOURCE_SIZE, DEVICE = SAILGARNET_DESCRIBED_DEVICE_SIZE };
+/* The bytes between two forbidden pages: the plan of a sleep entry has more than a page. */
+enum { OPEN = 2 * PAGE };
 /* The functions, and two that touch the byte before and the byte past a buffer, to see that both are caught. */
 enum function { FRESH, PLAN, CHECK, BRING_UP, CHECK_BRING_UP, WRITE, DESCRIBE, FUNCTIONS, BEFORE = FUNCTIONS, PAST, TOUCHES };
 /* What is lent; ROOM is for a plan. Bring-up has a state of its own, REPORTED, and its checker a list of its own, SWITCHING. */
@@ -45,7 +48,7 @@ static const enum use uses[TOUCHES][LENT] = {
 /* The answers that a function can give, bit n for answer n. */
 static const uint32_t possible[FUNCTIONS] = {
     [FRESH] = 0xff,             /* 0 to 7 */
-    [PLAN] = 0x7ffff,           /* 0 to 18 */
+    [PLAN] = 0x37ffff,          /* 0 to 18, 20, 21 */
     [CHECK] = 0xffdff,          /* 0 to 8, 10 to 19 */
     [BRING_UP] = 0x3ff,         /* 0 to 9 */
     [CHECK_BRING_UP] = 0x801ff, /* 0 to 8, 19 */
@@ -61,8 +64,8 @@ static struct call {
     uint32_t version;
     uint8_t *const *empty; /* where buffers without bytes are, if not at their fence */
 } in;
-static uint8_t content[LENT][PAGE];
-static uint8_t ordinary[LENT][PAGE + 1]; /* at odd addresses too */
+static uint8_t content[LENT][OPEN];
+static uint8_t ordinary[LENT][OPEN + 1]; /* at odd addresses too */
 static uint8_t *fenced[LENT];
 static const char *where = "before any call";
 static unsigned long calls[FUNCTIONS];
@@ -75,6 +78,7 @@ static enum use use(int i) { return uses[in.function][i]; }
 static int lends(int i) { return use(i) != NONE; }
 static int is_state(int i) { return i == STATE || i == REPORTED; }
 static int is_list(int i) { return i == LIST || i == SWITCHING; }
+static size_t room_for(uint32_t kind) { return kind == SAILGARNET_SLEEP ? SAILGARNET_SLEEP_PLAN_SIZE : SAILGARNET_PLAN_SIZE; }
 
 static void fail(const char *what)
 {
@@ -118,7 +122,7 @@ static void fail_touched(uint8_t *const at[LENT])
 
     snprintf(what, sizeof what, "it touched %p, which is in no buffer", (void *)touched);
     for (int i = 0; i < LENT; i++)
-        if (lends(i) && touched >= fenced[i] - PAGE && touched < fenced[i] + 2 * PAGE)
+        if (lends(i) && touched >= fenced[i] - PAGE && touched < fenced[i] + OPEN + PAGE)
             snprintf(what, sizeof what, "it touched byte %ld of the %s", (long)(touched - at[i]), names[i]);
     fail(what);
 }
@@ -220,6 +224,54 @@ static void check_brought_up(size_t count)
         fail("what is on is not what is needed");
 }
 
+/* The bytes of the move of a device to its state after a sleep entry, planned alone; `state` moves on. The calls must begin with them. */
+static size_t check_move(uint8_t *state, unsigned d, const uint8_t *calls)
+{
+    uint8_t before[SAILGARNET_STATE_SIZE], plan[SAILGARNET_PLAN_SIZE];
+    const uint8_t *table = content[TABLE];
+    size_t length = in.length[TABLE], bytes;
+    uint32_t target = ordinary[STATE][4 * d];
+    uint64_t answer;
+
+    memcpy(before, state, sizeof before);
+    answer = sailgarnet_plan(table, length, state, sizeof before, SAILGARNET_MOVE, d, target, 0, plan, sizeof plan);
+    bytes = 4 * (size_t)sailgarnet_count_of(answer);
+    if (sailgarnet_number_of(answer) != SAILGARNET_DONE || !same(calls, plan, bytes))
+        fail("its calls are not those of its moves");
+    if (sailgarnet_check(table, length, before, sizeof before, SAILGARNET_MOVE, d, target, 0, calls, bytes) != SAILGARNET_DONE)
+        fail("the checker refuses a move");
+    return bytes;
+}
+
+/* If no device moves, the calls are those of a bring-up: in a consistent state it only turns off. */
+static void check_slept(size_t count)
+{
+    const uint8_t *table = content[TABLE], *before = content[STATE], *after = ordinary[STATE], *calls = ordinary[ROOM];
+    uint8_t state[SAILGARNET_STATE_SIZE], plan[SAILGARNET_SLEEP_PLAN_SIZE];
+    size_t length = in.length[TABLE], bytes = 0;
+
+    memcpy(state, before, sizeof state);
+    for (unsigned d = sailgarnet_device_count(table); d-- > 0;) {
+        if (after[4 * d] != before[4 * d])
+            bytes += check_move(state, d, calls + bytes);
+        if (after[4 * d + 1] && (after[4 * d] != after[4 * d + 3] || after[4 * d + 2] != in.a))
+            fail("an armed device cannot wake the system");
+    }
+    if (!same(state, after, SAILGARNET_ENTRIES_SIZE))
+        fail("it changed more than the states of devices");
+    if (same(before, after, SAILGARNET_ENTRIES_SIZE)) {
+        if (sailgarnet_check_bring_up(table, length, before, SAILGARNET_STATE_SIZE, calls, 4 * count) != SAILGARNET_DONE)
+            fail("without a move, it does not turn off what is not needed");
+    } else if (bytes != 4 * count || !same(state, after, sizeof state)) {
+        fail("it does more than its moves");
+    }
+    if (sailgarnet_check_bring_up(table, length, after, SAILGARNET_STATE_SIZE, calls, 0) != SAILGARNET_DONE)
+        fail("what is on is not what is needed");
+    memcpy(state, after, sizeof state);
+    if (sailgarnet_plan(table, length, state, sizeof state, SAILGARNET_SLEEP, 0, in.a, 0, plan, sizeof plan) != SAILGARNET_DONE)
+        fail("another sleep entry would have calls");
+}
+
 /* Whether a call can be done with a buffer of this length: a state image, room for any plan, whole calls. */
 static int good_length(int i)
 {
@@ -228,7 +280,7 @@ static int good_length(int i)
     if (is_state(i))
         return length == SAILGARNET_STATE_SIZE;
     if (i == ROOM)
-        return length >= SAILGARNET_PLAN_SIZE;
+        return length >= (in.function == PLAN ? room_for(in.kind) : SAILGARNET_PLAN_SIZE);
     return !is_list(i) || length % 4 == 0;
 }
 
@@ -251,6 +303,8 @@ static void judge(uint64_t answer)
         if (lends(i) && !same(ordinary[i] + front, source(i) + front, in.length[i] - front))
             fail("it changed bytes that it must leave");
     }
+    if (done && in.function == PLAN && in.kind == SAILGARNET_SLEEP)
+        check_slept(sailgarnet_count_of(answer));
     if (done && in.function == BRING_UP)
         check_brought_up(sailgarnet_count_of(answer));
     if (done && in.function == WRITE)
@@ -279,7 +333,7 @@ static void lend(int place, uint8_t *at[LENT])
 {
     where = places[place];
     for (int i = 0; i < LENT; i++) {
-        at[i] = fenced[i] + (place == AT_END ? PAGE - in.length[i] : 0);
+        at[i] = fenced[i] + (place == AT_END ? OPEN - in.length[i] : 0);
         if (!lends(i))
             continue;
         if (in.length[i] > 0)
@@ -325,12 +379,14 @@ static void compare_readers(int i)
             compare();
 }
 
+/* A request, and a plan that has room for it. */
 static void request(uint32_t kind, uint32_t device, uint32_t a, uint32_t b)
 {
     in.kind = kind;
     in.device = device;
     in.a = a;
     in.b = b;
+    in.length[ROOM] = room_for(kind);
 }
 
 /* Lends a checker the calls of a plan; they again follow the list. Of a refusal the list is empty. */
@@ -338,7 +394,7 @@ static void lend_list(int i, const uint8_t *plan, uint64_t answer)
 {
     size_t length = 4 * (size_t)sailgarnet_count_of(answer);
 
-    for (size_t k = 0; length > 0 && k < LONGEST; k++)
+    for (size_t k = 0; length > 0 && (k < LONGEST || k < length); k++)
         content[i][k] = plan[k % length];
     in.length[i] = length;
 }
@@ -383,13 +439,13 @@ static void begin_station(void)
 static uint64_t plan_for(uint8_t *state, uint8_t *plan)
 {
     return sailgarnet_plan(content[TABLE], in.length[TABLE], state, SAILGARNET_STATE_SIZE, in.kind, in.device, in.a, in.b, plan,
-                           SAILGARNET_PLAN_SIZE);
+                           in.length[ROOM]);
 }
 
 /* Carries out a request, so that the next one starts from there. */
 static void walk(uint32_t kind, uint32_t device, uint32_t a, uint32_t b)
 {
-    uint8_t plan[SAILGARNET_PLAN_SIZE];
+    uint8_t plan[SAILGARNET_SLEEP_PLAN_SIZE];
 
     request(kind, device, a, b);
     if (sailgarnet_number_of(plan_for(content[STATE], plan)) != SAILGARNET_DONE)
@@ -399,31 +455,40 @@ static void walk(uint32_t kind, uint32_t device, uint32_t a, uint32_t b)
 /* Lends the checker the planner's own list for a request. */
 static void ask(uint32_t kind, uint32_t device, uint32_t a, uint32_t b)
 {
-    uint8_t state[SAILGARNET_STATE_SIZE], plan[SAILGARNET_PLAN_SIZE];
+    uint8_t state[SAILGARNET_STATE_SIZE], plan[SAILGARNET_SLEEP_PLAN_SIZE];
 
     request(kind, device, a, b);
     memcpy(state, content[STATE], sizeof state);
     lend_list(LIST, plan, plan_for(state, plan));
 }
 
-/* Every length of a lent buffer beside every length of another one, the third as it is. */
+/* The shortest length that is tried beside others: zero, but for a plan of sleep entry one that is near its room. */
+static size_t shortest(int i) { return i == ROOM && in.kind == SAILGARNET_SLEEP ? SAILGARNET_SLEEP_PLAN_SIZE - LONGEST / 2 : 0; }
+
+/* Every such length of a lent buffer beside every one of another, the third as it is. */
 static void pairs_of_lengths(int one, int other)
 {
     struct call before = in;
 
-    for (in.length[one] = 0; in.length[one] <= LONGEST; in.length[one]++)
-        for (in.length[other] = 0; in.length[other] <= LONGEST; in.length[other]++)
+    for (in.length[one] = shortest(one); in.length[one] <= shortest(one) + LONGEST; in.length[one]++)
+        for (in.length[other] = shortest(other); in.length[other] <= shortest(other) + LONGEST; in.length[other]++)
             compare();
     in = before;
 }
 
+static void lengths_for(enum function function)
+{
+    in.function = function;
+    for (int one = 0; one < LENT; one++)
+        for (int other = one + 1; other < LENT; other++)
+            if (lends(one) && lends(other))
+                pairs_of_lengths(one, other);
+}
+
 static void lengths(void)
 {
-    for (in.function = FRESH; in.function < FUNCTIONS; in.function++)
-        for (int one = 0; one < LENT; one++)
-            for (int other = one + 1; other < LENT; other++)
-                if (lends(one) && lends(other))
-                    pairs_of_lengths(one, other);
+    for (enum function function = FRESH; function < FUNCTIONS; function++)
+        lengths_for(function);
 }
 
 /* Every length of each lent buffer up to a record more than it has, the others as they are. */
@@ -438,15 +503,24 @@ static void single_lengths(void)
     }
 }
 
-/* Every byte of a buffer changed to each other value, for the functions that read it. */
-static void damage(int i)
+/* Every byte of a buffer changed to each other value. */
+static void damage_for(enum function function, int i)
 {
+    in.function = function;
     for (size_t k = 0; k < in.length[i]; k++)
         for (unsigned change = 1; change < 256; change++) {
             content[i][k] ^= (uint8_t)change;
-            compare_readers(i);
+            compare();
             content[i][k] ^= (uint8_t)change;
         }
+}
+
+/* For each function that reads the buffer. */
+static void damage(int i)
+{
+    for (enum function function = FRESH; function < FUNCTIONS; function++)
+        if (uses[function][i] == READS || uses[function][i] == CHANGES)
+            damage_for(function, i);
 }
 
 static void damages(void)
@@ -556,10 +630,10 @@ static void empties(void)
                             fenced[TABLE] - PAGE,
                             fenced[STATE] - 1,
                             fenced[REPORTED] - 1,
-                            fenced[LIST] + PAGE,
-                            fenced[SWITCHING] + PAGE,
-                            fenced[ROOM] + PAGE + 100,
-                            fenced[RESOURCES] + PAGE,
+                            fenced[LIST] + OPEN,
+                            fenced[SWITCHING] + OPEN,
+                            fenced[ROOM] + OPEN + 100,
+                            fenced[RESOURCES] + OPEN,
                             fenced[DEVICES] - 1};
 
     begin_station();
@@ -580,7 +654,7 @@ static unsigned answer_to_long(int i)
 
 /*
  * The low bits of the length, or of the number of records, are those of the right one, or zero where a longer buffer is good: a function
- * that looked at them alone would give another answer.
+ * that looked at them alone would give another answer. The plan of a sleep entry is longer than the shortest of these.
  */
 static void long_buffer(uint8_t *vast, int i)
 {
@@ -591,6 +665,8 @@ static void long_buffer(uint8_t *vast, int i)
     uint64_t answer = 0;
 
     for (size_t k = 0; k < sizeof bits / sizeof bits[0]; k++) {
+        if (low + (unit << bits[k]) < before)
+            continue;
         lend(AT_END, at);
         where = "one longer than it need be";
         at[i] = memcpy(vast, source(i), PAGE);
@@ -617,6 +693,11 @@ static void long_buffers(void)
         for (int i = 0; i < LENT; i++)
             if (lends(i))
                 long_buffer(vast, i);
+    ask(SAILGARNET_SLEEP, 0, 3, 0);
+    in.function = PLAN;
+    for (int i = 0; i < LENT; i++)
+        if (lends(i))
+            long_buffer(vast, i);
     munmap(vast, size);
 }
 
@@ -678,7 +759,41 @@ static void full_table(void)
     damage(SWITCHING);
 }
 
-/* Whole tables of every size. A buffer without bytes is a null pointer. */
+/* Sleep entry for S3 with each length of what it is lent, and each damage of the state. */
+static void sleep_entry(void)
+{
+    ask(SAILGARNET_SLEEP, 0, 3, 0);
+    lengths_for(PLAN);
+    damage_for(PLAN, STATE);
+}
+
+/* The camera armed for S3 and D2: it and the lamp move. Then none moves, and r1 is to be turned off. */
+static void bench_sleep_entry(void)
+{
+    begin_station();
+    walk(SAILGARNET_ARM, 1, 3, SAILGARNET_D2);
+    sleep_entry();
+    damage_for(PLAN, TABLE);
+    walk(SAILGARNET_SLEEP, 0, 3, 0);
+    sailgarnet_on_write(content[STATE], 7);
+    sleep_entry();
+    damage_for(PLAN, TABLE);
+}
+
+/* The longest plan of a sleep entry; then D3cold for the first device and D3hot for the last, which is its descendant. */
+static void full_sleep_entry(void)
+{
+    begin(fill_sleep_table(content[TABLE]));
+    ask(SAILGARNET_SLEEP, 0, 3, 0);
+    require(in.length[LIST] == 4 * (3 * FULL), "this sleep entry has another number of calls");
+    single_lengths();
+    sleep_entry();
+    walk(SAILGARNET_ARM, 0, 3, SAILGARNET_D3COLD);
+    walk(SAILGARNET_ARM, FULL - 1, 3, SAILGARNET_D3HOT);
+    sleep_entry();
+}
+
+/* Whole tables of every size. A buffer without bytes is a null pointer. For sleep entry the first device is armed, so that all move. */
 static void sizes(void)
 {
     uint8_t *nothing = NULL;
@@ -690,6 +805,11 @@ static void sizes(void)
             ask(SAILGARNET_MOVE, devices - 1, SAILGARNET_D3COLD, 0);
             report(sailgarnet_on_read(content[STATE]) & 0xaaaaaaaau);
             compare_lent(TABLE);
+            if (devices > 0)
+                walk(SAILGARNET_ARM, 0, 4, SAILGARNET_D3COLD);
+            ask(SAILGARNET_SLEEP, 0, 4, 0);
+            in.function = PLAN;
+            compare();
         }
 }
 
@@ -715,12 +835,12 @@ static void build_fences(void)
 
     require(sysconf(_SC_PAGESIZE) == PAGE, "the machine's pages have another size");
     for (int i = 0; i < LENT; i++) {
-        uint8_t *start = mmap(NULL, 3 * PAGE, PROT_NONE, MAP_PRIVATE | MAP_ANONYMOUS, -1, 0);
+        uint8_t *start = mmap(NULL, OPEN + 2 * PAGE, PROT_NONE, MAP_PRIVATE | MAP_ANONYMOUS, -1, 0);
         require(start != MAP_FAILED, "no pages to be had");
         fenced[i] = start + PAGE;
-        require(mprotect(fenced[i], PAGE, PROT_READ | PROT_WRITE) == 0, "no page can be opened");
+        require(mprotect(fenced[i], OPEN, PROT_READ | PROT_WRITE) == 0, "no page can be opened");
     }
-    for (size_t k = 0; k < PAGE; k++)
+    for (size_t k = 0; k < OPEN; k++)
         for (int i = 0; i < LENT; i++)
             content[i][k] = (uint8_t)(0xa5 ^ k);
     action.sa_sigaction = on_fault;
@@ -737,7 +857,9 @@ int main(void)
     long_buffers();
     bench_station();
     bench_bring_up();
+    bench_sleep_entry();
     full_table();
+    full_sleep_entry();
     sizes();
     for (int i = 0; i < FUNCTIONS; i++) {
         require(given[i] == possible[i], "some function never gave one of its answers");

@@ -46,4 +46,23 @@ static size_t fill_table(uint8_t *table, unsigned resources, unsigned devices)
     return length;
 }
 
+/*
+ * The full table, changed so that sleep entry for S3 from the fresh state has a move of each device, to D3hot by its _S3D, and 96 calls:
+ * the last device needs every resource in D0 and none in D3hot, the others none in D0 and every one in D3hot.
+ */
+static size_t fill_sleep_table(uint8_t *table)
+{
+    size_t length = fill_table(table, FULL, FULL);
+
+    for (unsigned d = 0; d < FULL; d++) {
+        uint8_t *record = table + 8 + 4 * FULL + 40 * d;
+        uint32_t in_d0 = d == FULL - 1 ? 0xffffffffu : 0;
+
+        put32(record + 4, in_d0);
+        put32(record + 16, ~in_d0);
+        record[26] = SAILGARNET_D3HOT;
+    }
+    return length;
+}
+
 #endif

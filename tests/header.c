@@ -1,6 +1,6 @@
 /*
- * The header alone, as C and as C++: its sizes, and that its functions on answers, calls, on-sets and records read and write the bytes that
- * docs/RULES.md says and no other.
+ * The header alone, as C and as C++: its sizes and kinds, and that its functions on answers, calls, on-sets and records read and write the
+ * bytes that docs/RULES.md says and no other.
  */
 #include <stdio.h>
 #include <string.h>
@@ -26,6 +26,7 @@ static void sizes(void)
     require(SAILGARNET_MAX_TABLE_SIZE == 8 + RESOURCE * SAILGARNET_MAX_RESOURCES + SAILGARNET_RECORD_SIZE * SAILGARNET_MAX_DEVICES,
             "the longest table");
     require(SAILGARNET_PLAN_SIZE == 4 * (SAILGARNET_MAX_RESOURCES + 1), "a plan");
+    require(SAILGARNET_SLEEP_PLAN_SIZE == SAILGARNET_MAX_DEVICES * SAILGARNET_PLAN_SIZE, "a plan of sleep entry");
     require(SAILGARNET_ENTRIES_SIZE == 4 * SAILGARNET_MAX_DEVICES, "the device entries of a state image");
     require(SAILGARNET_STATE_SIZE == SAILGARNET_ENTRIES_SIZE + 4, "a state image");
 }
@@ -37,6 +38,15 @@ static void answers(void)
     require(sailgarnet_count_of(UINT64_C(1416) << 8) == 1416, "done with 1416 bytes");
     require(sailgarnet_number_of(0x0100000e) == SAILGARNET_CHILD_SHALLOWER && sailgarnet_place_of(0x0100000e) == 1, "14 at place 1");
     require(sailgarnet_count_of(0x0100000e) == 0, "the count of 14 at place 1");
+    require(sailgarnet_number_of(0x01000014) == SAILGARNET_ARMED_FOR_OTHER && sailgarnet_place_of(0x01000014) == 1, "20 at place 1");
+    require(sailgarnet_number_of(0x15) == SAILGARNET_NO_CHOICE && sailgarnet_place_of(0x15) == 0, "21 without a place");
+}
+
+/* The kinds of RULES.md 2.8. */
+static void kinds(void)
+{
+    require(SAILGARNET_MOVE == 1 && SAILGARNET_ARM == 2 && SAILGARNET_DISARM == 3, "the requests about one device");
+    require(SAILGARNET_SLEEP == 4, "sleep entry");
 }
 
 /* A call of each kind (RULES.md 2.9). */
@@ -142,6 +152,7 @@ int main(void)
 {
     sizes();
     answers();
+    kinds();
     calls();
     on_set();
     layout();

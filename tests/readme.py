@@ -2,6 +2,7 @@
 """What README.md and host/README.md show is true: their programs are the files they name, their commands print what they say, their links
 and those of docs/STATION-TEXT.md and docs/changes lead to a file and a heading of it, and the map has every crate."""
 
+import glob
 import os
 import re
 import shutil
@@ -73,13 +74,15 @@ def plans(page):
         sys.exit(f"not in examples/demo.out:\n{shown}")
 
 
-def power_on(page):
-    """The command brings the bench station up as shown, after the commands that leave it so; in a folder that is removed again."""
-    line, *expected = block(page, "sailgarnet bring-up")
+def command(page, heading, start):
+    """The first command of this section that begins so prints what is shown below it, after the commands that leave the state so; in a folder
+    that is removed again."""
+    section = page[page.index(f"\n## {heading}\n"):]
+    line, *expected = block(section, start)
     cargo = f"cargo run --quiet --offline --manifest-path '{os.getcwd()}/host/Cargo.toml' -p sailgarnet-cli --"
     with tempfile.TemporaryDirectory() as folder:
         os.symlink(os.path.abspath("examples"), os.path.join(folder, "examples"))
-        before = [f'sailgarnet() {{ {cargo} "$@"; }}', f"cd '{folder}'", *block(page, "sailgarnet fresh")]
+        before = [f'sailgarnet() {{ {cargo} "$@"; }}', f"cd '{folder}'", *block(section, "sailgarnet fresh examples/")]
         printed = run("\n".join([*before, "echo --", line]))
     if printed[printed.index("--") + 1:] != expected:
         sys.exit("\n".join([line, "prints", *printed]))
@@ -113,12 +116,11 @@ program(host, "rust", "host/sailgarnet/examples/first.rs", "cargo run --quiet --
 installed(readme, program(readme, "c", "examples/first.c", "gcc -Iinclude"))
 proving(readme)
 plans(readme)
-power_on(readme)
+command(readme, "At power-on", "sailgarnet bring-up")
+command(readme, "Sleep entry", "sailgarnet plan examples/station.pwt state sleep")
 mapped(readme)
 links("README.md")
 links("host/README.md")
 links("docs/STATION-TEXT.md")
-links("docs/changes/README.md")
-links("docs/changes/CR-1.md")
-links("docs/changes/CR-2.md")
-links("docs/changes/CR-3.md")
+for note in sorted(glob.glob("docs/changes/*.md")):
+    links(note)

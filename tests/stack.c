@@ -20,7 +20,7 @@ struct input {
     uint8_t state[SAILGARNET_STATE_SIZE];
     size_t state_len;
     uint32_t kind, device, a, b;
-    uint8_t plan[SAILGARNET_PLAN_SIZE];
+    uint8_t plan[SAILGARNET_SLEEP_PLAN_SIZE];
     size_t plan_len;
     const uint8_t *list;
     size_t list_len;
@@ -198,12 +198,14 @@ static void all_four(const char *title, unsigned number)
     both(BRING_UP, title, number);
 }
 
+/* A request, and a plan that has room for it. */
 static void request(uint32_t kind, uint32_t device, uint32_t a, uint32_t b)
 {
     in.kind = kind;
     in.device = device;
     in.a = a;
     in.b = b;
+    in.plan_len = kind == SAILGARNET_SLEEP ? SAILGARNET_SLEEP_PLAN_SIZE : SAILGARNET_PLAN_SIZE;
 }
 
 /* Runs what must be done before another call is measured. */
@@ -220,7 +222,7 @@ static void lend(const uint8_t *table, size_t table_len)
     in.table = table;
     in.table_len = table_len;
     in.state_len = sizeof in.state;
-    in.plan_len = sizeof in.plan;
+    in.plan_len = SAILGARNET_PLAN_SIZE;
     in.version = SAILGARNET_TABLE_VERSION_1;
     in.resources_len = SAILGARNET_DESCRIBED_RESOURCE_SIZE * (size_t)sailgarnet_resource_count(table);
     in.devices_len = SAILGARNET_DESCRIBED_DEVICE_SIZE * (size_t)sailgarnet_device_count(table);
@@ -377,6 +379,39 @@ static void refused_descriptions(const uint8_t *table)
     measure(WRITE, "version", 1);
 }
 
+/* Sleep entry for S3, which has so many calls. */
+static void measure_sleep_entry(const char *title, unsigned count)
+{
+    request(SAILGARNET_SLEEP, 0, 3, 0);
+    measure(PLAN, title, 0);
+    require(sailgarnet_count_of(answer) == count, "this sleep entry has another number of calls");
+}
+
+/* The bench station; then 32 devices that all move, and refusals at each stage past 8. */
+static void sleep_entries(uint8_t *table)
+{
+    lend(station, sizeof station);
+    walk(SAILGARNET_ARM, 1, 3, SAILGARNET_D2);
+    measure_sleep_entry("bench, sleep entry, 2 moves", 2);
+    request(SAILGARNET_SLEEP, 0, 4, 0);
+    measure(PLAN, "bench, sleep entry, armed for S3", 20);
+    walk(SAILGARNET_SLEEP, 0, 3, 0);
+    sailgarnet_on_write(in.state, 7);
+    measure_sleep_entry("bench, sleep entry, none moves", 1);
+    lend(table, fill_sleep_table(table));
+    measure_sleep_entry("full, sleep entry, 32 moves", 3 * FULL);
+    in.plan_len--;
+    measure(PLAN, "full, sleep entry, room", 9);
+    request(SAILGARNET_SLEEP, 0, 5, 0);
+    both(PLAN, "full, sleep entry, S5", 10);
+    walk(SAILGARNET_ARM, FULL - 1, 3, SAILGARNET_D3HOT);
+    request(SAILGARNET_SLEEP, 0, 4, 0);
+    measure(PLAN, "full, sleep entry, last device armed for S3", 20);
+    walk(SAILGARNET_ARM, 0, 3, SAILGARNET_D3COLD);
+    request(SAILGARNET_SLEEP, 0, 3, 0);
+    measure(PLAN, "full, sleep entry, no choice", 21);
+}
+
 /* The measurement itself: a buffer of 3000 bytes must be seen, and not much more. */
 static void control(void)
 {
@@ -399,6 +434,7 @@ int main(void)
     refused_tables_and_states(table);
     refused_requests_and_lists(table);
     refused_descriptions(table);
+    sleep_entries(table);
     control();
     return failures != 0;
 }

@@ -8,7 +8,7 @@ use Rattle.rules.specs.declared.Request.{Request}
 use Rattle.rules.specs.declared.Verdict.{Verdict}
 use Rattle.rules.specs.Answers.{numberOf}
 use Rattle.bench.specs.declared.tasks.Task.the-variants.{Plan, BringUp}
-use Rattle.bench.specs.Script.{byteAt, requestAt}
+use Rattle.bench.specs.Script.{byteAt, roomAt, requestAt}
 use Rattle.bench.specs.Cases.{more, added, sizeBy, sizeAfter, tableBy, tableAfter, started, kept, moved, stateBy, stateThen}
 use Rattle.bench.specs.Cases.{tableAnswer, stateAnswer, statusGiven, listAnswer, wordsGiven, recordLength}
 use Rattle.bench.specs.Cases.{writeAnswer, describeAnswer, seenBy, seen}
@@ -55,7 +55,7 @@ module _ (l : List ℕ) (x : ℕ) (e : x ≡ getD l 0 0) (t b r : List ℕ) wher
   unfolding stateBy
   state-q k q f h = of (λ z. stateBy z t b l) x _ e 0x51 r k (h ∙ rw f refl)
 
-  pub state-p : x ≡ 0x50 → (q : Request) (n : ℕ) → q ≡ requestAt l 4 → n ≡ byteAt l 8 → r ≡ moved t b (Plan q) n → r ≡ stateThen t b l
+  pub state-p : x ≡ 0x50 → (q : Request) (n : ℕ) → q ≡ requestAt l 4 → n ≡ roomAt l 8 → r ≡ moved t b (Plan q) n → r ≡ stateThen t b l
   unfolding stateBy
   state-p k q n f g h = of (λ z. stateBy z t b l) x _ e 0x50 r k (h ∙ rw (f, g) refl)
 

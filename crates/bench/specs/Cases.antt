@@ -14,7 +14,7 @@ use Rattle.rules.specs.Write.{write, describe}
 use Rattle.sailgarnet.specs.Packed.{packed}
 use Rattle.bench.specs.declared.tasks.Task.{Task}
 use Rattle.bench.specs.declared.tasks.Task.the-variants.{Plan, BringUp}
-use Rattle.bench.specs.Script.{byteAt, numberAt, requestAt, filled}
+use Rattle.bench.specs.Script.{byteAt, roomAt, numberAt, requestAt, filled}
 
 -- ---- T and +: a table, or the two lists of records that one is written from, the first bytes of 1782
 
@@ -61,14 +61,14 @@ taskChecked t b BringUp list = checkBringUpBytes t b list
 
 -- the state after a task with a plan of n bytes
 abbrev pub moved : List ℕ → List ℕ → Task → ℕ → List ℕ
-moved t b task n = taskOutcome t b task (take n (blank 255)) .state
+moved t b task n = taskOutcome t b task (take n (blank 4228)) .state
 
 unfoldable pub stateBy : ℕ → List ℕ → List ℕ → List ℕ → List ℕ
 stateBy letter t b l =
     cond (eqb letter 0x46) (started t)
     (cond (eqb letter 0x4b) (kept l)
     (cond (eqb letter 0x51) (moved t b (Plan (requestAt l 4)) 132)
-    (cond (eqb letter 0x50) (moved t b (Plan (requestAt l 4)) (byteAt l 8))
+    (cond (eqb letter 0x50) (moved t b (Plan (requestAt l 4)) (roomAt l 8))
     (cond (eqb letter 0x42) (moved t b BringUp (byteAt l 0)) b))))
 
 abbrev pub stateThen : List ℕ → List ℕ → List ℕ → List ℕ

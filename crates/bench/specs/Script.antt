@@ -1,5 +1,5 @@
 -- What a line of the script says.
-use Prim.Native.Nat.{ℕ, zero, suc, _+_, _*_, _/_, _%_}
+use Prim.Native.Nat.{ℕ, zero, suc, _+_, _*_, _/_, _%_, min}
 use mathlib.Core.Bool.{Bool}
 use mathlib.Core.List.{List}
 use lib.Dec.{eqb}
@@ -18,6 +18,10 @@ digitOf c = (c % 16 + 9 * (c / 64)) % 16
 -- byte i of a line: after the letter, a space and two digits for each; zero past the end
 unfoldable pub byteAt : List ℕ → ℕ → ℕ
 byteAt l i = 16 * digitOf (getD l (3 * i + 2) 0) + digitOf (getD l (3 * i + 3) 0)
+
+-- two bytes as the length of a plan, 4228 at most
+abbrev pub roomAt : List ℕ → ℕ → ℕ
+roomAt l i = min (byteAt l i + 256 * byteAt l (i + 1)) 4228
 
 -- a number of a request: its byte, and its highest byte
 unfoldable pub numberAt : List ℕ → ℕ → ℕ → ℕ

@@ -5,7 +5,7 @@ ghost use mathlib.Core.Path.{_≡_};
 ghost use Prim.Native.Nat.{_+_, _*_, _/_, _%_, _-_, _≤_, _<_, min};
 ghost use lib.ListN.{length, getD};
 ghost use Rattle.rules.specs.Index.{least};
-ghost use Rattle.bench.specs.Script.{endsAt, digitOf, byteAt, numberAt, requestAt, filled};
+ghost use Rattle.bench.specs.Script.{endsAt, digitOf, byteAt, roomAt, numberAt, requestAt, filled};
 
 // A length, or the whole where it is longer than that.
 pub fn within(n: usize, size: usize) -> usize
@@ -76,6 +76,14 @@ pub fn size(line: &[u8], i: usize) -> usize
     ensures { λ r. ⌜ (r ≡ byteAt (now (line .entry)) i) × (r < 256) ⌝ }
 {
     words::wide(byte(line, i)) as usize
+}
+
+// Bytes i and i + 1 of a line as the length of a plan, lowest first; at most one word more than sleep entry has room for.
+pub fn room(line: &[u8], i: usize) -> usize
+    requires { ⌜ i < 256 ⌝ }
+    ensures { λ r. ⌜ (r ≡ roomAt (now (line .entry)) i) × (r ≤ 4228) ⌝ }
+{
+    within(size(line, i) + 256 * size(line, i + 1), 4228)
 }
 
 // A number of 32 bits: a byte, and its highest byte, which a line that has no such byte leaves zero.

@@ -54,7 +54,7 @@ pub fn after(table: &[u8], state: Image, line: &[u8]) -> Image
             table,
             state,
             Task::Plan(script::request(line, 4)),
-            script::size(line, 8),
+            script::room(line, 8),
         ),
         b'B' => tasks::plan(table, state, Task::BringUp, script::size(line, 0)),
         _ => state,

@@ -4,7 +4,7 @@ use crate::script;
 use crate::states::Image;
 use rules::Request;
 ghost use mathlib.Core.Path.{_≡_};
-ghost use Prim.Native.Nat.{_<_};
+ghost use Prim.Native.Nat.{_≤_};
 ghost use lib.ListN.{length};
 ghost use Rattle.sailgarnet.specs.Packed.{packed};
 ghost use Rattle.bench.specs.Cases.{taskOutcome, taskChecked, moved};
@@ -81,9 +81,9 @@ fn plan_in(table: &[u8], before: Image, task: Task, plan: &mut [u8]) -> Image
 
 // `Q`, `P` and `B`: a task with a plan of n bytes, A5 each.
 pub fn plan(table: &[u8], before: Image, task: Task, n: usize) -> Image
-    requires { ⌜ (length before ≡ 132) × (n < 256) ⌝ }
+    requires { ⌜ (length before ≡ 132) × (n ≤ 4228) ⌝ }
     ensures { λ r. ⌜ (length r ≡ 132) × (r ≡ moved (now (table .entry)) before task n) ⌝ }
 {
-    let mut plan = [0xa5u8; 255];
+    let mut plan = [0xa5u8; 4228];
     plan_in(table, before, task, &mut plan[..n])
 }

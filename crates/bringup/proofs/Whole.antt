@@ -18,10 +18,10 @@ use Rattle.rules.specs.Station.{width, countR, stationOf, station}
 use Rattle.rules.specs.Table.{headerGood, tableVerdict}
 use Rattle.rules.specs.Power.{needed}
 use Rattle.rules.specs.Status.{entriesSize, entries, statusOf, status, imageOf}
-use Rattle.rules.specs.Calls.{toTurnOn, toTurnOff}
+use Rattle.rules.specs.Calls.{toTurnOn, toTurnOff, statusNeeded}
 use Rattle.rules.specs.Check.{isEnd}
-use Rattle.rules.specs.Outcomes.{planRoom, ofBytes}
-use Rattle.rules.specs.BringUp.{stateButPowerVerdict, bringUpStages, bringUpCalls, statusBroughtUp, bringUpList, stateBroughtUp}
+use Rattle.rules.specs.Outcomes.{listRoom, ofBytes}
+use Rattle.rules.specs.BringUp.{stateButPowerVerdict, bringUpStages, bringUpCalls, bringUpList, stateBroughtUp}
 use Rattle.rules.specs.BringUp.{bringUpWords, bringUpBytes}
 use Rattle.rules.specs.BringUp.{conformingToBringUp, checkBringUpWords, checkBringUpBytes}
 use Rattle.rules.proofs.Answers.{done-passes, refused-stops, first-pass, first-stop, first-none, unless-of, unless-stop, answer-passed}
@@ -115,7 +115,7 @@ module _ (t b : List ℕ) (g : BringUpState t b) (on target u v : ℕ) (h : on �
   removed-small q = rw (q, h) (minus-lt _ _ target (values-of t b (bring-up-passed t b g .values) .on))
 
 pub switches-room : (t b : List ℕ) (m on target u v : ℕ) → BringUpState t b → u ≡ minus target on → v ≡ minus on target
-    → planRoom (width t) ≤ m → 0 + length (phaseWords (station t) u v) ≤ m
+    → listRoom (width t) ≤ m → 0 + length (phaseWords (station t) u v) ≤ m
 switches-room t b m on target u v g p q h =
     let fits = phase-fits t u v (rw (p, q) (minus-disjoint target on)) in
     omega (arith, fits, g .sized .resources)
@@ -133,7 +133,7 @@ module _ (t b : List ℕ) (on target u v : ℕ) (h : on ≡ status t b .on) (n :
   pub up-written : (m : ℕ) (b′ plan plan′ : List ℕ) → m ≡ 0 + length (phaseWords (station t) u v)
       → plan′ ≡ put plan 0 (phaseWords (station t) u v) → b′ ≡ imageOf (width t) (statusWith t b target)
       → WrittenPlan (bringUpList t b) (stateBroughtUp t b) plan m b′ plan′
-  unfolding stateBroughtUp statusBroughtUp statusOf
+  unfolding stateBroughtUp statusNeeded statusOf
   up-written m b′ plan plan′ count put′ image =
       record {
         count = omega (arith, ap length list-is);
@@ -144,14 +144,14 @@ module _ (t b : List ℕ) (on target u v : ℕ) (h : on ≡ status t b .on) (n :
 pub ruleset switch-laws = (state-sized, state-long, added-small, removed-small, test-is)
 
 -- ---- the outcome; n: the room that a plan must have, in words; m: the words or bytes that it has
-module _ (t b : List ℕ) (n m : ℕ) (i : n ≡ planRoom (width t)) (v : Verdict) (p : Bool) (f : p ≡ passes v) where
-  pub room-there : v ≡ bringUpStages (leb n m) t b → not p ≡ false → planRoom (width t) ≤ m
+module _ (t b : List ℕ) (n m : ℕ) (i : n ≡ listRoom (width t)) (v : Verdict) (p : Bool) (f : p ≡ passes v) where
+  pub room-there : v ≡ bringUpStages (leb n m) t b → not p ≡ false → listRoom (width t) ≤ m
   room-there e k = rw i at (leb-true n m (bring-up-of (leb n m) t b (answer-passed v _ p e f k) .1))
 
-  pub room-bytes : v ≡ bringUpStages (leb (4 * n) m) t b → not p ≡ false → 4 * planRoom (width t) ≤ m
+  pub room-bytes : v ≡ bringUpStages (leb (4 * n) m) t b → not p ≡ false → 4 * listRoom (width t) ≤ m
   room-bytes e k = rw i at (leb-true (4 * n) m (bring-up-of (leb (4 * n) m) t b (answer-passed v _ p e f k) .1))
 
-module _ (t b plan : List ℕ) (n : ℕ) (i : n ≡ planRoom (width t)) (v : Verdict) (p : Bool) (f : p ≡ passes v) where
+module _ (t b plan : List ℕ) (n : ℕ) (i : n ≡ listRoom (width t)) (v : Verdict) (p : Bool) (f : p ≡ passes v) where
   -- a plan of words
   module _ (e : v ≡ bringUpStages (leb n (length plan)) t b) where
     pub words-refused : not p ≡ true → Answered v b plan (bringUpWords t b plan)

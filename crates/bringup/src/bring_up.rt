@@ -5,7 +5,7 @@ ghost use Prim.Native.Nat.{_≤_};
 ghost use lib.ListN.{length};
 ghost use Rattle.rules.specs.Answers.{numberOf, countOf};
 ghost use Rattle.rules.specs.Station.{width};
-ghost use Rattle.rules.specs.Outcomes.{planRoom};
+ghost use Rattle.rules.specs.Outcomes.{listRoom};
 ghost use Rattle.rules.specs.BringUp.{bringUpList, stateBroughtUp, bringUpWords};
 ghost use Rattle.laws.specs.BringUp.{BringsUpWords};
 ghost use Rattle.switching.specs.Written.{WrittenPlan};
@@ -13,7 +13,7 @@ ghost use Rattle.bringup.specs.Passed.{BringUpState};
 
 // The calls for a state that has passed every check, and the state after them. No device changes its state, so none has a call of its own.
 pub fn write_bring_up(table: &[u8], state: &mut [u8], plan: &mut [u32]) -> usize
-    requires { ⌜ BringUpState (now table) (now state) × (planRoom (width (now table)) ≤ length (now plan)) ⌝ }
+    requires { ⌜ BringUpState (now table) (now state) × (listRoom (width (now table)) ≤ length (now plan)) ⌝ }
     ensures { λ r. ⌜ WrittenPlan (bringUpList (now (table .entry)) (now (state .entry)))
         (stateBroughtUp (now (table .entry)) (now (state .entry))) (now (plan .entry)) r (now (state .exit)) (now (plan .exit)) ⌝ }
 {

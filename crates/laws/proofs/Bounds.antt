@@ -16,7 +16,7 @@ use Rattle.rules.specs.declared.Request.{Request}
 use Rattle.rules.specs.declared.Verdict.{Verdict}
 use Rattle.rules.specs.declared.Verdict.the-variants.{Done, Refused}
 use Rattle.rules.specs.declared.Reason.{Reason}
-use Rattle.rules.specs.declared.Reason.the-variants.{BadResource, Inconsistent, ParentDeeper, ChildShallower}
+use Rattle.rules.specs.declared.Reason.the-variants.{BadResource, ParentDeeper, ChildShallower}
 use Rattle.rules.specs.Index.{least}
 use Rattle.rules.specs.Answers.{placeOf, countOf, passes, firstOf, unless, lowest}
 use Rattle.rules.specs.Station.{Station, versionWidth, width, limit, recordSize, tableSize, countR, countD, stationOf, station}
@@ -25,14 +25,16 @@ use Rattle.rules.specs.Describe.{describedSize, describedR, describedD}
 use Rattle.rules.specs.Write.{describedFieldsGood, recordsVerdict, describedCountsGood, writeVerdict, describeVerdict}
 use Rattle.rules.specs.Status.{status, parentAllows, valuesVerdict, consistencyVerdict, stateVerdict}
 use Rattle.rules.specs.Request.{isMove, isArm, moveVerdict, armVerdict, kindVerdict, requestVerdict}
-use Rattle.rules.specs.Outcomes.{requestStage, freshVerdict, stagesVerdict, planVerdict, listVerdict}
+use Rattle.rules.specs.Sleep.{armedVerdict, sleepVerdict}
+use Rattle.rules.specs.Outcomes.{readyVerdict, requestStage, freshVerdict, stagesVerdict, sleepStage, sleepStages, planVerdict, listVerdict}
 use Rattle.rules.specs.BringUp.{butPowerVerdict, stateButPowerVerdict, bringUpStages}
 use Rattle.rules.proofs.Width.{version-wide, width-wide}
 use Rattle.rules.proofs.Answers.{first-pass, first-stop, first-none, unless-of, unless-stop, unless-at, lowest-stop, lowest-none}
 use Rattle.laws.proofs.Tests.{both-true, or-cases, or-left}
-use Rattle.laws.proofs.Accepted.{accepted}
+use Rattle.laws.proofs.Accepted.{Accepted, accepted}
 use Rattle.laws.proofs.Kept.{StationRules}
 use Rattle.laws.proofs.States.{station-rules, form-device}
+use Rattle.laws.proofs.Stages.{ready-at}
 
 -- ---- what holds of each answer that a chain of checks can come to holds of the chain
 module _ (P : Verdict → Type 0) where
@@ -140,51 +142,67 @@ module _ (t : List ℕ) (most : ℕ) where
       next _ _ low _ _ _ _
       (λ _. records _ _ low _ _ (fieldsGood t) (countR t) (countD t) (leb-true _ _ (counts .0)) (leb-true _ _ (counts .1)))))
 
+  -- no check is left
+  end : Bounded (width t) most (firstOf [] (Done 0))
+  end = last-holds (Bounded (width t) most) (Done 0) (done _ _ low)
+
+  -- any checks, then one whose refusal has no place
+  more-bounded : (v : Verdict) (good : Bool) (why : Reason) → Bounded (width t) most v
+      → Bounded (width t) most (firstOf (v ∷ unless good why 0 ∷ []) (Done 0))
+  more-bounded v good why bound = chain-holds (Bounded (width t) most) _ _ _ bound (λ _. next _ _ low _ _ _ _ (λ _. end))
+
+  -- such a check, then the lowest device that a test finds
+  lowest-bounded : station t .devices ≤ limit (width t) → (good : Bool) (why : Reason) (bad : ℕ → Bool) (worse : Reason)
+      → Bounded (width t) most (firstOf (unless good why 0 ∷ lowest bad (station t .devices) (Refused worse) ∷ []) (Done 0))
+  lowest-bounded nameable good why bad worse =
+      next _ _ low _ _ _ _
+      (λ _. chain-holds (Bounded (width t) most) _ _ _
+      (lowest-holds (Bounded (width t) most) bad (station t .devices) (Refused worse) (done _ _ low)
+      (λ i u. refused _ _ low worse (station t .devices) i nameable u))
+      (λ _. end))
+
   pub fresh-bounded : (b : List ℕ) → Bounded (width t) most (freshVerdict t b)
   unfolding freshVerdict
-  fresh-bounded b = chain-holds (Bounded (width t) most) _ _ _ table-bounded
-      (λ _. next _ _ low _ _ _ _ (λ _. last-holds (Bounded (width t) most) (Done 0) (done _ _ low)))
-
-  -- the lowest device that a test finds
-  lowest-bounded : station t .devices ≤ limit (width t) → (bad : ℕ → Bool)
-      → Bounded (width t) most (lowest bad (station t .devices) (Refused Inconsistent))
-  lowest-bounded nameable bad =
-      lowest-holds (Bounded (width t) most) bad (station t .devices) (Refused Inconsistent) (done _ _ low)
-      (λ i u. refused _ _ low Inconsistent (station t .devices) i nameable u)
+  fresh-bounded b = more-bounded (tableVerdict t) _ _ table-bounded
 
   -- 7 and 8
   state-bounded : (b : List ℕ) → station t .devices ≤ limit (width t) → Bounded (width t) most (stateVerdict t b)
   unfolding stateVerdict valuesVerdict consistencyVerdict
-  state-bounded b nameable =
-      next _ _ low _ _ _ _
-      (λ _. chain-holds (Bounded (width t) most) _ _ _ (lowest-bounded nameable _)
-      (λ _. last-holds (Bounded (width t) most) (Done 0) (done _ _ low)))
+  state-bounded b nameable = lowest-bounded nameable _ _ _ _
 
-  module _ (b : List ℕ) (q : Request) where
-    pub stages-bounded : (room : Bool) → Bounded (width t) most (stagesVerdict room t b q)
-    unfolding stagesVerdict requestStage
-    stages-bounded room =
-        chain-holds (Bounded (width t) most) _ _ _ table-bounded
-        (λ e.
-        let a = accepted t e in
-        let nameable : station t .devices ≤ limit (width t) = unfold stationOf in a .devices in
-        chain-holds (Bounded (width t) most) _ _ _ (state-bounded b nameable)
-        (λ _. next _ _ low _ _ _ _
-        (λ _. chain-holds (Bounded (width t) most) _ _ _
-        (request-bounded _ _ low (station t) nameable (station-rules t a) (status t b .entries) q)
-        (λ _. last-holds (Bounded (width t) most) (Done 0) (done _ _ low)))))
+  -- 1 to 9
+  ready-bounded : (b : List ℕ) (room : Bool) → Bounded (width t) most (readyVerdict room t b)
+  unfolding readyVerdict
+  ready-bounded b room =
+      chain-holds (Bounded (width t) most) _ _ _ table-bounded
+      (λ e. more-bounded _ _ _ (state-bounded b (unfold stationOf in accepted t e .devices)))
+
+  -- 1 to 9, then a stage of an accepted table
+  staged-bounded : (b : List ℕ) (room : Bool) (stage : Verdict) → (Accepted t → Bounded (width t) most stage)
+      → Bounded (width t) most (firstOf (readyVerdict room t b ∷ stage ∷ []) (Done 0))
+  staged-bounded b room stage bound =
+      chain-holds (Bounded (width t) most) _ _ _ (ready-bounded b room)
+      (λ e. chain-holds (Bounded (width t) most) _ _ _ (bound (accepted t (ready-at room t b e .table))) (λ _. end))
+
+  -- 1 to 9, then 10 to 18
+  pub stages-bounded : (b : List ℕ) (q : Request) (room : Bool) → Bounded (width t) most (stagesVerdict room t b q)
+  unfolding stagesVerdict requestStage
+  stages-bounded b q room =
+      staged-bounded b room _
+      (λ a. request-bounded _ _ low (station t) (unfold stationOf in a .devices) (station-rules t a) (status t b .entries) q)
+
+  -- 1 to 9, then 10, 20 and 21 of sleep entry
+  pub sleep-bounded : (b : List ℕ) (q : Request) (room : Bool) → Bounded (width t) most (sleepStages room t b q)
+  unfolding sleepStages sleepStage sleepVerdict armedVerdict
+  sleep-bounded b q room =
+      staged-bounded b room _ (λ a. more-bounded _ _ _ (lowest-bounded (unfold stationOf in a .devices) _ _ _ _))
 
   -- 1 to 9 of bring-up
   pub bring-up-bounded : (b : List ℕ) (room : Bool) → Bounded (width t) most (bringUpStages room t b)
   unfolding bringUpStages stateButPowerVerdict valuesVerdict butPowerVerdict
   bring-up-bounded b room =
-      let end = last-holds (Bounded (width t) most) (Done 0) (done _ _ low) in
       chain-holds (Bounded (width t) most) _ _ _ table-bounded
-      (λ e.
-      let nameable : station t .devices ≤ limit (width t) = unfold stationOf in accepted t e .devices in
-      chain-holds (Bounded (width t) most) _ _ _
-      (next _ _ low _ _ _ _ (λ _. chain-holds (Bounded (width t) most) _ _ _ (lowest-bounded nameable _) (λ _. end)))
-      (λ _. next _ _ low _ _ _ _ (λ _. end)))
+      (λ e. more-bounded _ _ _ (lowest-bounded (unfold stationOf in accepted t e .devices) _ _ _ _))
 
   -- a plan, and a list, of any checks
   module _ (checks : Verdict) (bound : Bounded (width t) most checks) where
@@ -196,9 +214,7 @@ module _ (t : List ℕ) (most : ℕ) where
 
     pub list-bounded : (conforms : Bool) → Bounded (width t) most (listVerdict checks conforms)
     unfolding listVerdict
-    list-bounded conforms =
-        chain-holds (Bounded (width t) most) _ _ _ bound
-        (λ _. next _ _ low _ _ _ _ (λ _. last-holds (Bounded (width t) most) (Done 0) (done _ _ low)))
+    list-bounded conforms = more-bounded checks conforms _ bound
 
 -- ---- 11: the bytes of the largest table of a width, and of the lists that it describes
 abbrev pub mostWritten : ℕ → ℕ

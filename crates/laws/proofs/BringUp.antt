@@ -2,10 +2,9 @@
 -- second time there are no calls. From the laws of plans and of what is turned on and off.
 use mathlib.Core.Path.{_≡_, refl, sym, ap, _∙_}
 use mathlib.Core.Bool.{Bool, true, and-false}
-use mathlib.Core.List.{List, [], _∷_, map, map-map}
+use mathlib.Core.List.{List, [], map, map-map}
 use Prim.Native.Nat.{ℕ, _*_, _^_, _≤_, _<_}
 use native.Mathlib.Nat.{one-mul}
-use native.Mathlib.Omega.{arith}
 use borrow.Author.Tests.{leb-true, le-leb, not-false}
 use lib.Dec.{leb}
 use lib.ListN.{length}
@@ -19,12 +18,11 @@ use Rattle.rules.specs.declared.Reason.the-variants.{Inconsistent}
 use Rattle.rules.specs.Answers.{numberOf, countOf, passes}
 use Rattle.rules.specs.Station.{Station, width, limit, station}
 use Rattle.rules.specs.Table.{tableVerdict}
-use Rattle.rules.specs.Power.{needed}
-use Rattle.rules.specs.Status.{noEntry, status, consistencyVerdict, stateVerdict, consistentButPower}
-use Rattle.rules.specs.Calls.{toTurnOn, toTurnOff, rising, turnOn, turnOff, arrange, switchCalls}
+use Rattle.rules.specs.Status.{noEntry, status, imageOf, consistencyVerdict, stateVerdict, consistentButPower}
+use Rattle.rules.specs.Calls.{toTurnOn, toTurnOff, rising, turnOn, turnOff, arrange, switchCalls, statusNeeded}
 use Rattle.rules.specs.Check.{offWord}
-use Rattle.rules.specs.Outcomes.{Outcome, planRoom, planOutcome}
-use Rattle.rules.specs.BringUp.{butPowerVerdict, bringUpStages, bringUpCalls, statusBroughtUp, bringUpList, stateBroughtUp, bringUpWords}
+use Rattle.rules.specs.Outcomes.{Outcome, listRoom, planOutcome}
+use Rattle.rules.specs.BringUp.{butPowerVerdict, bringUpStages, bringUpCalls, bringUpList, stateBroughtUp, bringUpWords}
 use Rattle.rules.specs.BringUp.{bringUpBytes}
 use Rattle.rules.proofs.Answers.{first-both, done-passes, refused-stops, lowest-at, lowest-of}
 use Rattle.laws.specs.Demand2.{ExactlyNeeded}
@@ -36,7 +34,7 @@ use Rattle.laws.proofs.Consistency.{Apart, apart-of, apart-is}
 use Rattle.laws.proofs.States.{station-rules, needed-small, ConsistentStatus, GoodValues, values-of, consistent-of, entries-out}
 use Rattle.laws.proofs.States.{needs-on, powered-apart, image-reads, image-consistent}
 use Rattle.laws.proofs.Stages.{BringUpPassed, bring-up-of, bring-up-pass}
-use Rattle.laws.proofs.Lists.{number-passes, plan-outcome, plan-passes, plan-state, left-plan, one-each}
+use Rattle.laws.proofs.Lists.{number-passes, plan-outcome, plan-passes, plan-state, left-plan, one-each, written-none}
 use Rattle.laws.proofs.Sort.{times-none}
 use Rattle.laws.proofs.Order.{times-rising}
 use Rattle.laws.proofs.Demand2.{exactly-needed}
@@ -59,6 +57,26 @@ module _ (s : Station) (n on target : ℕ) where
   unfolding turnOff toTurnOff
   offs-none h sub = rw (minus-none n on target h sub, rising-none s) refl
 
+-- ---- the image of a status that has on exactly what its entries need: bring-up has nothing to do
+pub record Settled (t b : List ℕ) : Type 0 where
+  pub on : status t b .on ≡ neededBefore t b
+  pub image : imageOf (width t) (status t b) ≡ b
+
+module _ (t b : List ℕ) (z : Settled t b) where
+  -- it leaves the state as it is
+  pub settled-state : stateBroughtUp t b ≡ b
+  unfolding stateBroughtUp statusNeeded
+  settled-state = rw (← z .on) (z .image)
+
+  -- there are no calls
+  pub settled-list : passes (tableVerdict t) ≡ true → bringUpList t b ≡ []
+  unfolding bringUpList bringUpCalls switchCalls arrange
+  settled-list e =
+      let s = station t in
+      let n = neededBefore t b in
+      let h = needed-small t e (status t b .entries) in
+      rw (z .on, ons-none s (s .resources) n n h (λ r m. m), offs-none s (s .resources) n n h (λ r m. m)) refl
+
 -- ---- the state afterwards
 module _ (t b : List ℕ) (g : BringUpPassed t b) where
   kept : GoodValues t b
@@ -70,8 +88,8 @@ module _ (t b : List ℕ) (g : BringUpPassed t b) where
       apart-of (station t) (status t b .entries) d (not-false (consistentButPower (station t) (status t b .entries) d)
       (lowest-at _ (station t .devices) (Refused Inconsistent) (refused-stops Inconsistent) (g .apart) d h))
 
-  up : ConsistentStatus (limit (width t)) (station t) (statusBroughtUp (station t) (status t b))
-  unfolding statusBroughtUp
+  up : ConsistentStatus (limit (width t)) (station t) (statusNeeded (station t) (status t b))
+  unfolding statusNeeded
   up =
       record {
         entries = kept .entries;
@@ -81,28 +99,31 @@ module _ (t b : List ℕ) (g : BringUpPassed t b) where
             (station-rules t (accepted t (g .table)) .sets d h);
       }
 
-  up-out : (k : ℕ) → limit (width t) ≤ k → statusBroughtUp (station t) (status t b) .entries k ≡ noEntry
-  unfolding statusBroughtUp
+  up-out : (k : ℕ) → limit (width t) ≤ k → statusNeeded (station t) (status t b) .entries k ≡ noEntry
+  unfolding statusNeeded
   up-out k h = entries-out (width t) b k h
 
-  pub up-reads : status t (stateBroughtUp t b) ≡ statusBroughtUp (station t) (status t b)
+  pub up-reads : status t (stateBroughtUp t b) ≡ statusNeeded (station t) (status t b)
   unfolding stateBroughtUp
-  up-reads = image-reads t (g .table) (statusBroughtUp (station t) (status t b)) up up-out
+  up-reads = image-reads t (g .table) (statusNeeded (station t) (status t b)) up up-out
 
   pub up-consistent : stateVerdict t (stateBroughtUp t b) ≡ Done 0
   unfolding stateBroughtUp
-  up-consistent = image-consistent t (g .table) (statusBroughtUp (station t) (status t b)) up up-out
+  up-consistent = image-consistent t (g .table) (statusNeeded (station t) (status t b)) up up-out
+
+  -- the state afterwards is such an image
+  pub up-settled : Settled t (stateBroughtUp t b)
+  unfolding statusNeeded stateBroughtUp
+  up-settled = record { on = rw up-reads refl; image = ap (imageOf (width t)) up-reads }
 
   up-exactly : ExactlyNeeded t (stateBroughtUp t b)
-  up-exactly =
-      exactly-needed t (stateBroughtUp t b) up-consistent
-      (rw up-reads (unfold statusBroughtUp in refl))
+  up-exactly = exactly-needed t (stateBroughtUp t b) up-consistent (up-settled .on)
 
-  up-entries : (d : ℕ) → status t (stateBroughtUp t b) .entries d ≡ status t b .entries d
-  up-entries d = rw up-reads (unfold statusBroughtUp in refl)
+  pub up-entries : (d : ℕ) → status t (stateBroughtUp t b) .entries d ≡ status t b .entries d
+  up-entries d = rw up-reads (unfold statusNeeded in refl)
 
 -- a consistent state passes what bring-up asks
-consistent-passes : (t b : List ℕ) → passes (tableVerdict t) ≡ true → passes (stateVerdict t b) ≡ true → BringUpPassed t b
+pub consistent-passes : (t b : List ℕ) → passes (tableVerdict t) ≡ true → passes (stateVerdict t b) ≡ true → BringUpPassed t b
 unfolding stateVerdict butPowerVerdict
 consistent-passes t b e f =
     record {
@@ -114,8 +135,8 @@ consistent-passes t b e f =
 
 -- with what it needs on, a state can be inconsistent only for another reason
 eight-is : (t b : List ℕ) → passes (tableVerdict t) ≡ true
-    → butPowerVerdict (station t) (status t b .entries) ≡ consistencyVerdict (station t) (statusBroughtUp (station t) (status t b))
-unfolding statusBroughtUp
+    → butPowerVerdict (station t) (status t b .entries) ≡ consistencyVerdict (station t) (statusNeeded (station t) (status t b))
+unfolding statusNeeded
 eight-is t b e =
     sym (powered-apart (station t) (status t b .entries) (neededBefore t b)
     (λ d h. all-powered (station t .resources) (station t) (status t b .entries) d h (station-rules t (accepted t e) .sets d h)))
@@ -123,37 +144,22 @@ eight-is t b e =
 -- ---- the list
 module _ (t b : List ℕ) (e : passes (tableVerdict t) ≡ true) where
   -- of a consistent state
-  offs-alone : passes (stateVerdict t b) ≡ true → bringUpList t b ≡ map offWord (turnOff (station t) (status t b .on) (neededBefore t b))
+  pub offs-alone : passes (stateVerdict t b) ≡ true
+      → bringUpList t b ≡ map offWord (turnOff (station t) (status t b .on) (neededBefore t b))
   unfolding bringUpList bringUpCalls switchCalls arrange
   offs-alone f =
       rw (ons-none (station t) (station t .resources) (status t b .on) (neededBefore t b) (needed-small t e (status t b .entries))
       (needs-on t b f))
       (simp map-map)
 
--- of a state after bring-up
-none-again : (t b : List ℕ) (g : BringUpPassed t b) → bringUpList t (stateBroughtUp t b) ≡ []
-unfolding bringUpList bringUpCalls switchCalls arrange statusBroughtUp
-none-again t b g =
-    let s = station t in
-    let n = needed s (status t b .entries) in
-    let h = needed-small t (g .table) (status t b .entries) in
-    rw (up-reads t b g, ons-none s (s .resources) n n h (λ r m. m), offs-none s (s .resources) n n h (λ r m. m)) refl
-
 -- ---- bring-up, on words and on bytes
-none : (l : List ℕ) → length l ≡ 0 → l ≡ []
-none [] e = refl
-none (x ∷ l) e = absurd (omega (arith, e))
-
 module _ (size : ℕ) (written : List ℕ → List ℕ) (long : (ws : List ℕ) → length (written ws) ≡ size * length ws)
     (bringUp : List ℕ → List ℕ → List ℕ → Outcome)
-    (is : (t b plan : List ℕ) → bringUp t b plan ≡ planOutcome written (bringUpStages (leb (size * planRoom (width t)) (length plan)) t b) b
+    (is : (t b plan : List ℕ) → bringUp t b plan ≡ planOutcome written (bringUpStages (leb (size * listRoom (width t)) (length plan)) t b) b
     plan (stateBroughtUp t b) (bringUpList t b)) where
-  written-none : written [] ≡ []
-  written-none = none (written []) (omega (arith, long []))
-
   module _ (t b plan : List ℕ) where
     abbrev room : Bool
-    room = leb (size * planRoom (width t)) (length plan)
+    room = leb (size * listRoom (width t)) (length plan)
 
     abbrev checks : Verdict
     checks = bringUpStages room t b
@@ -177,13 +183,14 @@ module _ (size : ℕ) (written : List ℕ → List ℕ) (long : (ws : List ℕ) 
       left-state = plan-state written checks b plan (stateBroughtUp t b) (bringUpList t b) e
 
   -- a second time
-  again : (t b p : List ℕ) (g : BringUpPassed t b) → leb (size * planRoom (width t)) (length p) ≡ true
+  again : (t b p : List ℕ) (g : BringUpPassed t b) → leb (size * listRoom (width t)) (length p) ≡ true
       → bringUp t (stateBroughtUp t b) p ≡ record { verdict = Done 0; state = stateBroughtUp t b; plan = p }
   again t b p g r =
       let b′ = stateBroughtUp t b in
-      let same : stateBroughtUp t b′ ≡ b′ = unfold stateBroughtUp statusBroughtUp in rw (up-reads t b g) refl in
+      let z = up-settled t b g in
       let good = consistent-passes t b′ (g .table) (ap passes (up-consistent t b g) ∙ done-passes 0) in
-      is t b′ p ∙ accepted-of t b′ p good r ∙ rw (none-again t b g, same, written-none) (unfold put in refl)
+      is t b′ p ∙ accepted-of t b′ p good r
+      ∙ rw (settled-list t b′ z (g .table), settled-state t b′ z, written-none size written long) (unfold put in refl)
 
   holds : (t b plan : List ℕ) → let o = bringUp t b plan in
       BringsUp size written bringUp t b plan (numberOf (o .verdict)) (countOf (o .verdict)) (o .state) (o .plan)
@@ -204,7 +211,7 @@ module _ (size : ℕ) (written : List ℕ → List ℕ) (long : (ws : List ℕ) 
 
 pub brings-up-words : (t b plan : List ℕ) → let o = bringUpWords t b plan in
     BringsUpWords t b plan (numberOf (o .verdict)) (countOf (o .verdict)) (o .state) (o .plan)
-brings-up-words = holds 1 (λ ws. ws) one-each bringUpWords (λ t b plan. unfold bringUpWords in rw (one-mul (planRoom (width t))) refl)
+brings-up-words = holds 1 (λ ws. ws) one-each bringUpWords (λ t b plan. unfold bringUpWords in rw (one-mul (listRoom (width t))) refl)
 
 pub brings-up-bytes : (t b plan : List ℕ) → let o = bringUpBytes t b plan in
     BringsUpBytes t b plan (numberOf (o .verdict)) (countOf (o .verdict)) (o .state) (o .plan)

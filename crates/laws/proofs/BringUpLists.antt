@@ -11,7 +11,7 @@ use Rattle.words.specs.Words.{wordBytes, byteWords}
 use Rattle.rules.specs.Answers.{numberOf, countOf, passes}
 use Rattle.rules.specs.Station.{width, station}
 use Rattle.rules.specs.Status.{status}
-use Rattle.rules.specs.Outcomes.{planRoom}
+use Rattle.rules.specs.Outcomes.{listRoom}
 use Rattle.rules.specs.BringUp.{bringUpStages, bringUpCalls, bringUpList, stateBroughtUp, bringUpWords, bringUpBytes}
 use Rattle.rules.specs.BringUp.{ConformsToBringUp, conformingToBringUp, checkBringUpWords, checkBringUpBytes}
 use Rattle.rules.proofs.Answers.{done-passes}
@@ -57,7 +57,7 @@ brought-words : (t b plan : List ℕ) → numberOf (bringUpWords t b plan .verdi
     → PassedBringUp t b (take (countOf (bringUpWords t b plan .verdict)) (bringUpWords t b plan .plan))
 unfolding bringUpWords checkBringUpWords
 brought-words t b plan e =
-    let stages = bringUpStages (leb (planRoom (width t)) (length plan)) t b in
+    let stages = bringUpStages (leb (listRoom (width t)) (length plan)) t b in
     let g = bring-up-of _ t b (plan-passes (λ ws. ws) stages b plan (stateBroughtUp t b) (bringUpList t b) e) .0 in
     own-words stages (bringUpStages true t b) (conformingToBringUp (station t) (status t b)) b plan (stateBroughtUp t b) (bringUpList t b)
     (ap passes (bring-up-pass true t b g refl) ∙ done-passes 0) (up-iff t b g _ .1 (own-conforms t b g)) e
@@ -66,7 +66,7 @@ brought-bytes : (t b plan : List ℕ) → numberOf (bringUpBytes t b plan .verdi
     → numberOf (checkBringUpBytes t b (take (4 * countOf (bringUpBytes t b plan .verdict)) (bringUpBytes t b plan .plan))) ≡ 0
 unfolding bringUpBytes checkBringUpBytes
 brought-bytes t b plan e =
-    let stages = bringUpStages (leb (4 * planRoom (width t)) (length plan)) t b in
+    let stages = bringUpStages (leb (4 * listRoom (width t)) (length plan)) t b in
     let g = bring-up-of _ t b (plan-passes wordBytes stages b plan (stateBroughtUp t b) (bringUpList t b) e) .0 in
     own-bytes stages (bringUpStages true t b) (conformingToBringUp (station t) (status t b)) b plan (stateBroughtUp t b) (bringUpList t b)
     (ap passes (bring-up-pass true t b g refl) ∙ done-passes 0) (up-iff t b g _ .1 (own-conforms t b g)) (own-fit t b g) e

@@ -20,7 +20,8 @@ use Rattle.rules.specs.Status.{status}
 use Rattle.rules.specs.Request.{isMove, isArm, formGood}
 use Rattle.rules.specs.Calls.{wordOf, listOf, only, methodFor, moveCall, wakeCall, ownCall, ownCalls, ownLast}
 use Rattle.rules.specs.Check.{conformingTo}
-use Rattle.rules.specs.Outcomes.{planRoom, stagesVerdict, permittedVerdict, planned, stateAfter, planBytes, checkWords, checkBytes}
+use Rattle.rules.specs.Sleep.{isSleep}
+use Rattle.rules.specs.Outcomes.{listRoom, stagesVerdict, permittedVerdict, planned, stateAfter, planBytes, checkWords, checkBytes}
 use Rattle.rules.proofs.Answers.{done-passes}
 use Rattle.rules.proofs.Width.{width-wide}
 use Rattle.laws.specs.Carried.{All}
@@ -29,6 +30,7 @@ use Rattle.laws.proofs.Accepted.{accepted}
 use Rattle.laws.proofs.States.{small, form-passed, form-device}
 use Rattle.laws.proofs.Stages.{Stages, stages-of, stages-pass}
 use Rattle.laws.proofs.Lists.{number-passes, plan-passes, own-bytes, bytes-words, bytes-multiple}
+use Rattle.laws.proofs.Plans.{bytes-request}
 use Rattle.laws.proofs.Arrange.{Fits, all-fit, conforms-fits}
 use Rattle.laws.proofs.Demand3.{able, test-iff, planner-conforms, demand3}
 
@@ -69,14 +71,17 @@ module _ (t b : List ℕ) (q : Request) (g : Stages t b q) where
       (planned t b q) (planner-conforms t b q g) own)
 
 -- ---- demand 3
-planner-bytes : (t b : List ℕ) (q : Request) (plan : List ℕ) → numberOf (planBytes t b q plan .verdict) ≡ 0
+planner-bytes : (t b : List ℕ) (q : Request) → isSleep q ≡ false → (plan : List ℕ) → numberOf (planBytes t b q plan .verdict) ≡ 0
     → numberOf (checkBytes t b q (take (4 * countOf (planBytes t b q plan .verdict)) (planBytes t b q plan .plan))) ≡ 0
-unfolding planBytes checkBytes
-planner-bytes t b q plan e =
-    let stages = stagesVerdict (leb (4 * planRoom (width t)) (length plan)) t b q in
-    let g = stages-of _ t b q (plan-passes wordBytes stages b plan (stateAfter t b q) (planned t b q) e) in
-    own-bytes stages (permittedVerdict t b q) (conformingTo (station t) (status t b) q) b plan (stateAfter t b q) (planned t b q)
-    (ap passes (stages-pass true t b q g refl) ∙ done-passes 0) (test-iff t b q g _ .1 (planner-conforms t b q g)) (words-fit t b q g) e
+unfolding checkBytes
+planner-bytes t b q kind plan e =
+    let room = leb (4 * listRoom (width t)) (length plan) in
+    let stages = stagesVerdict room t b q in
+    let done = rw (bytes-request t b q plan kind) at e in
+    let g = stages-of room t b q (plan-passes wordBytes stages b plan (stateAfter t b q) (planned t b q) done) in
+    rw (bytes-request t b q plan kind)
+    (own-bytes stages (permittedVerdict t b q) (conformingTo (station t) (status t b) q) b plan (stateAfter t b q) (planned t b q)
+    (ap passes (stages-pass true t b q g refl) ∙ done-passes 0) (test-iff t b q g _ .1 (planner-conforms t b q g)) (words-fit t b q g) done)
 
 pub demand3-bytes : (t b : List ℕ) (q : Request) (list : List ℕ) → Demand3Bytes t b q list
 unfolding checkBytes checkWords

@@ -1,7 +1,7 @@
--- Demand 2 holds of every outcome of the planner: from the law of the needed set, from consistency after an accepted request, and from what
--- a plan leaves.
+-- Demand 2 holds of every outcome of the planner for a request of kinds 1 to 3: from the law of the needed set, from consistency after an
+-- accepted request, and from what a plan leaves.
 use mathlib.Core.Path.{_≡_, refl, sym, ap, _∙_}
-use mathlib.Core.Bool.{Bool, true}
+use mathlib.Core.Bool.{Bool, true, false}
 use mathlib.Core.List.{List}
 use mathlib.Core.Logic.{_↔_, inl, inr, ⊎-elim}
 use Prim.Native.Nat.{ℕ, _*_}
@@ -20,7 +20,8 @@ use Rattle.rules.specs.Station.{absent, width, station}
 use Rattle.rules.specs.Power.{needed}
 use Rattle.rules.specs.Status.{Status, status, parentAllows, stateVerdict}
 use Rattle.rules.specs.Calls.{endSet, statusAfter}
-use Rattle.rules.specs.Outcomes.{Outcome, planRoom, stagesVerdict, planned, planOutcome, stateAfter, planWords, planBytes}
+use Rattle.rules.specs.Sleep.{isSleep}
+use Rattle.rules.specs.Outcomes.{Outcome, listRoom, stagesVerdict, planned, planOutcome, stateAfter, planWords, planBytes}
 use Rattle.rules.proofs.Answers.{done-passes}
 use Rattle.laws.specs.Demand2.{SomeNeeds, NotShallower, ExactlyNeeded, LeftState, Demand2, Demand2Words, Demand2Bytes}
 use Rattle.laws.specs.Demand3.{Permitted}
@@ -29,6 +30,7 @@ use Rattle.laws.proofs.Needed.{needed-of, needed-by}
 use Rattle.laws.proofs.Consistency.{after-same, after-other}
 use Rattle.laws.proofs.States.{consistent-of, after-reads, after-consistent}
 use Rattle.laws.proofs.Stages.{Stages, stages-of, stages-pass, room-passed}
+use Rattle.laws.proofs.Plans.{words-request, bytes-request}
 use Rattle.laws.proofs.Lists.{number-passes, plan-outcome, plan-passes, plan-state, left-plan, one-each}
 
 -- ---- the state afterwards
@@ -91,7 +93,7 @@ module _ (size : ℕ) (written : List ℕ → List ℕ) (long : (ws : List ℕ) 
       ap (λ (x : Outcome). numberOf (x .verdict))
       (plan-outcome written checks b plan (stateAfter t b q) (planned t b q) (ap passes stages ∙ done-passes 0))
 
-  holds : room ≡ leb (size * planRoom (width t)) (length plan)
+  holds : room ≡ leb (size * listRoom (width t)) (length plan)
       → Demand2 size written t b q plan (numberOf (o .verdict)) (countOf (o .verdict)) (o .state) (o .plan)
   unfolding planned
   holds is = record {
@@ -104,13 +106,12 @@ module _ (size : ℕ) (written : List ℕ → List ℕ) (long : (ws : List ℕ) 
     calls = λ e. left-plan written checks b plan (stateAfter t b q) (planned t b q) e size long;
   }
 
-pub demand2-words : (t b : List ℕ) (q : Request) (plan : List ℕ) → let o = planWords t b q plan in
+pub demand2-words : (t b : List ℕ) (q : Request) (plan : List ℕ) → isSleep q ≡ false → let o = planWords t b q plan in
     Demand2Words t b q plan (numberOf (o .verdict)) (countOf (o .verdict)) (o .state) (o .plan)
-unfolding planWords
-demand2-words t b q plan = holds 1 (λ ws. ws) one-each _ t b q plan (ap (λ (k : ℕ). leb k (length plan))
-    (sym (one-mul (planRoom (width t)))))
+demand2-words t b q plan e =
+    rw (words-request t b q plan e) (holds 1 (λ ws. ws) one-each _ t b q plan (ap (λ (k : ℕ). leb k (length plan))
+    (sym (one-mul (listRoom (width t))))))
 
-pub demand2-bytes : (t b : List ℕ) (q : Request) (plan : List ℕ) → let o = planBytes t b q plan in
+pub demand2-bytes : (t b : List ℕ) (q : Request) (plan : List ℕ) → isSleep q ≡ false → let o = planBytes t b q plan in
     Demand2Bytes t b q plan (numberOf (o .verdict)) (countOf (o .verdict)) (o .state) (o .plan)
-unfolding planBytes
-demand2-bytes t b q plan = holds 4 wordBytes word-bytes-length _ t b q plan refl
+demand2-bytes t b q plan e = rw (bytes-request t b q plan e) (holds 4 wordBytes word-bytes-length _ t b q plan refl)

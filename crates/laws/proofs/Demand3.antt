@@ -25,7 +25,8 @@ use Rattle.rules.specs.Calls.{wordOf, listOf, ownCall, ownCalls, ownLast, endSe
 use Rattle.rules.specs.Conforms.{ConformsTo}
 use Rattle.rules.specs.Check.{conformingTo, firstCalls, lastCalls, onWord, offWord}
 use Rattle.rules.specs.Execution.{execution}
-use Rattle.rules.specs.Outcomes.{planRoom, stagesVerdict, permittedVerdict, planned, stateAfter, planWords, checkWords}
+use Rattle.rules.specs.Sleep.{isSleep}
+use Rattle.rules.specs.Outcomes.{listRoom, stagesVerdict, permittedVerdict, planned, stateAfter, planWords, checkWords}
 use Rattle.rules.proofs.Answers.{done-passes}
 use Rattle.laws.specs.Carried.{All, Other, listed, Carried}
 use Rattle.laws.specs.Demand3.{Passed, neededBefore, neededAfter, ownEntry, ownNeeds, onAfter, Demand3}
@@ -34,6 +35,7 @@ use Rattle.laws.proofs.Needed.{needed-of}
 use Rattle.laws.proofs.States.{nameable, needed-small, consistent-of, needs-on, form-passed, form-device}
 use Rattle.laws.proofs.Stages.{Stages, stages-of, stages-pass}
 use Rattle.laws.proofs.Lists.{number-passes, plan-passes, own-words, list-of, list-at}
+use Rattle.laws.proofs.Plans.{words-request}
 use Rattle.laws.proofs.Conform.{Switchable, conforming-iff, calls-conform}
 use Rattle.laws.proofs.Place.{other-place}
 use Rattle.laws.proofs.Arrange.{own-other, conforms-listed, conforms-carried, conforms-keeps, conforms-ends}
@@ -153,14 +155,17 @@ unfolding listOf All
 other-word s e q c one = (rw one at (own-other s e q)) .0
 
 -- ---- demand 3
-planner-words : (t b : List ℕ) (q : Request) (plan : List ℕ) → numberOf (planWords t b q plan .verdict) ≡ 0
+planner-words : (t b : List ℕ) (q : Request) → isSleep q ≡ false → (plan : List ℕ) → numberOf (planWords t b q plan .verdict) ≡ 0
     → Passed t b q (take (countOf (planWords t b q plan .verdict)) (planWords t b q plan .plan))
-unfolding planWords checkWords
-planner-words t b q plan e =
-    let stages = stagesVerdict (leb (planRoom (width t)) (length plan)) t b q in
-    let g = stages-of _ t b q (plan-passes (λ ws. ws) stages b plan (stateAfter t b q) (planned t b q) e) in
-    own-words stages (permittedVerdict t b q) (conformingTo (station t) (status t b) q) b plan (stateAfter t b q) (planned t b q)
-    (ap passes (stages-pass true t b q g refl) ∙ done-passes 0) (test-iff t b q g _ .1 (planner-conforms t b q g)) e
+unfolding checkWords
+planner-words t b q kind plan e =
+    let room = leb (listRoom (width t)) (length plan) in
+    let stages = stagesVerdict room t b q in
+    let done = rw (words-request t b q plan kind) at e in
+    let g = stages-of room t b q (plan-passes (λ ws. ws) stages b plan (stateAfter t b q) (planned t b q) done) in
+    rw (words-request t b q plan kind)
+    (own-words stages (permittedVerdict t b q) (conformingTo (station t) (status t b) q) b plan (stateAfter t b q) (planned t b q)
+    (ap passes (stages-pass true t b q g refl) ∙ done-passes 0) (test-iff t b q g _ .1 (planner-conforms t b q g)) done)
 
 pub demand3 : (t b : List ℕ) (q : Request) (ws : List ℕ) → Demand3 t b q ws
 demand3 t b q ws =

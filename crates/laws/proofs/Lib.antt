@@ -19,6 +19,7 @@ pub mod Kept
 pub mod States
 pub mod Stages
 pub mod Lists
+pub mod Plans
 pub mod Sort
 pub mod Chain
 pub mod Order
@@ -27,10 +28,15 @@ pub mod Take
 pub mod Conform
 pub mod Arrange
 pub mod Place
+pub mod Moves
+pub mod Choice
 pub mod Demand3
 pub mod Demand2
-pub mod Runs
 pub mod Bytes
 pub mod BringUp
 pub mod BringUpLists
 pub mod Bounds
+pub mod SleepMoves
+pub mod SleepStages
+pub mod Sleep
+pub mod Runs

@@ -1,8 +1,8 @@
 -- A plan whose checks pass is done with the count of its words, which stand at its front, the rest being as it was; and a list passes
 -- exactly if its checks pass and its test holds. Of words and of bytes, for any checks, words and test.
 use mathlib.Core.Path.{_≡_, refl, sym, ap, _∙_}
-use mathlib.Core.Bool.{Bool, true}
-use mathlib.Core.List.{List}
+use mathlib.Core.Bool.{Bool, true, true≢false}
+use mathlib.Core.List.{List, [], _∷_}
 use Prim.Native.Nat.{ℕ, _+_, _*_, _/_, _%_, _^_, _<_}
 use native.Mathlib.Omega.{arith}
 use native.Mathlib.Nat.{zero-add, one-mul}
@@ -10,6 +10,7 @@ use borrow.Author.Tests.{eqb-true, eq-eqb}
 use lib.Dec.{eqb}
 use lib.ListN.{length, getD, take, drop}
 use lib.Seq.{drop-at}
+use Rattle.sets.proofs.Laws.{decide}
 use Rattle.words.specs.Words.{put, wordBytes, byteWords}
 use Rattle.words.proofs.Put.{take-put}
 use Rattle.words.proofs.Laws.{word-bytes-length, words-of-bytes}
@@ -18,7 +19,8 @@ use Rattle.rules.specs.declared.Verdict.the-variants.{Done, Refused}
 use Rattle.rules.specs.declared.Reason.the-variants.{NotConforming}
 use Rattle.rules.specs.Answers.{numberOf, countOf, passes}
 use Rattle.rules.specs.Outcomes.{Outcome, outcome, planVerdict, planOutcome, listVerdict, ofBytes}
-use Rattle.rules.proofs.Answers.{first-both, first-pass, first-none, done-passes, no-reason-0, unless-at, unless-of}
+use Rattle.rules.proofs.Answers.{first-both, first-pass, first-stop, first-none, done-passes, refused-stops, no-reason-0}
+use Rattle.rules.proofs.Answers.{unless-at, unless-of}
 use Rattle.laws.specs.Demand2.{LeftPlan}
 use Rattle.laws.proofs.Tests.{both-true}
 
@@ -26,6 +28,11 @@ use Rattle.laws.proofs.Tests.{both-true}
 pub number-passes : (v : Verdict) → numberOf v ≡ 0 → passes v ≡ true
 number-passes (Done n) e = done-passes n
 number-passes (Refused why at) e = absurd (no-reason-0 why e)
+
+-- what passes has number 0
+pub passes-number : (v : Verdict) → passes v ≡ true → numberOf v ≡ 0
+passes-number (Done n) e = refl
+passes-number (Refused why at) e = absurd (true≢false (sym e ∙ refused-stops why at))
 
 -- ---- plans
 drop-put : (d ws : List ℕ) → drop (length ws) (put d 0 ws) ≡ drop (length ws) d
@@ -41,6 +48,12 @@ module _ (checks : Verdict) (words : List ℕ) where
   unfolding planVerdict
   plan-done e = first-pass _ _ _ e ∙ first-none _
 
+  -- the number is that of the checks
+  plan-number : numberOf (planVerdict checks words) ≡ numberOf checks
+  unfolding planVerdict
+  plan-number =
+      decide (passes checks) (λ e. ap numberOf (plan-done e) ∙ sym (passes-number checks e)) (λ e. ap numberOf (first-stop checks _ _ e))
+
 module _ (written : List ℕ → List ℕ) (checks : Verdict) (b plan b′ words : List ℕ) where
   abbrev o : Outcome
   o = planOutcome written checks b plan b′ words
@@ -48,6 +61,10 @@ module _ (written : List ℕ → List ℕ) (checks : Verdict) (b plan b′ words
   pub plan-outcome : passes checks ≡ true → o ≡ record { verdict = Done (length words); state = b′; plan = put plan 0 (written words) }
   unfolding planOutcome outcome passes
   plan-outcome e = rw (plan-done checks words e) refl
+
+  pub outcome-number : numberOf (o .verdict) ≡ numberOf checks
+  unfolding planOutcome outcome
+  outcome-number = plan-number checks words
 
   module _ (e : numberOf (o .verdict) ≡ 0) where
     pub plan-passes : passes checks ≡ true
@@ -74,6 +91,14 @@ module _ (written : List ℕ → List ℕ) (checks : Verdict) (b plan b′ words
         front = rw left (take-put plan (written words) _ size-is);
         kept = rw (left, ← size-is) (drop-put plan (written words));
       }
+
+-- no words, no elements
+none : (l : List ℕ) → length l ≡ 0 → l ≡ []
+none [] e = refl
+none (x ∷ l) e = absurd (omega (arith, e))
+
+pub written-none : (size : ℕ) (written : List ℕ → List ℕ) → ((ws : List ℕ) → length (written ws) ≡ size * length ws) → written [] ≡ []
+written-none size written long = none (written []) (omega (arith, long []))
 
 pub one-each : (ws : List ℕ) → length ws ≡ 1 * length ws
 one-each ws = sym (one-mul (length ws))

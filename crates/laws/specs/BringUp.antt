@@ -12,11 +12,11 @@ use Rattle.rules.specs.Answers.{numberOf, countOf}
 use Rattle.rules.specs.Station.{width, station}
 use Rattle.rules.specs.Table.{tableVerdict}
 use Rattle.rules.specs.Status.{status, consistencyVerdict, stateVerdict}
-use Rattle.rules.specs.Calls.{turnOff}
+use Rattle.rules.specs.Calls.{turnOff, statusNeeded}
 use Rattle.rules.specs.Check.{offWord}
 use Rattle.rules.specs.Execution.{execution}
-use Rattle.rules.specs.Outcomes.{Outcome, planRoom}
-use Rattle.rules.specs.BringUp.{butPowerVerdict, bringUpStages, statusBroughtUp, bringUpList, bringUpWords, bringUpBytes, ConformsToBringUp}
+use Rattle.rules.specs.Outcomes.{Outcome, listRoom}
+use Rattle.rules.specs.BringUp.{butPowerVerdict, bringUpStages, bringUpList, bringUpWords, bringUpBytes, ConformsToBringUp}
 use Rattle.rules.specs.BringUp.{checkBringUpWords, checkBringUpBytes}
 use Rattle.laws.specs.Demand2.{ExactlyNeeded, LeftPlan}
 use Rattle.laws.specs.Demand3.{neededBefore}
@@ -30,19 +30,19 @@ CanBringUp t b = numberOf (bringUpStages true t b) ≡ 0
 pub record BringsUp (size : ℕ) (written : List ℕ → List ℕ) (bringUp : List ℕ → List ℕ → List ℕ → Outcome) (t b plan : List ℕ)
     (number count : ℕ) (b′ plan′ : List ℕ) : Type 0 where
   -- the answer is 0 exactly if the checks pass and the plan has room
-  pub accepts : (number ≡ 0) ↔ (CanBringUp t b × (size * planRoom (width t) ≤ length plan))
+  pub accepts : (number ≡ 0) ↔ (CanBringUp t b × (size * listRoom (width t) ≤ length plan))
   -- and then the state is consistent, with exactly the needed set on, and its entries are as before
   pub state : number ≡ 0 → ExactlyNeeded t b′
   pub entries : number ≡ 0 → (d : ℕ) → status t b′ .entries d ≡ status t b .entries d
   pub calls : number ≡ 0 → LeftPlan size written (bringUpList t b) plan count plan′
   -- of the definitions, whatever is answered: 8 is for what would be inconsistent even with exactly the needed set on
   pub eight : numberOf (tableVerdict t) ≡ 0
-      → butPowerVerdict (station t) (status t b .entries) ≡ consistencyVerdict (station t) (statusBroughtUp (station t) (status t b))
+      → butPowerVerdict (station t) (status t b .entries) ≡ consistencyVerdict (station t) (statusNeeded (station t) (status t b))
   -- a state that was consistent gets no ONs
   pub offs : number ≡ 0 → numberOf (stateVerdict t b) ≡ 0
       → take (size * count) plan′ ≡ written (map offWord (turnOff (station t) (status t b .on) (neededBefore t b)))
   -- a second time, with room, there are no calls, and nothing changes
-  pub again : number ≡ 0 → (p : List ℕ) → size * planRoom (width t) ≤ length p
+  pub again : number ≡ 0 → (p : List ℕ) → size * listRoom (width t) ≤ length p
       → bringUp t b′ p ≡ record { verdict = Done 0; state = b′; plan = p }
 
 -- of a plan of words, and of one of bytes, four a word

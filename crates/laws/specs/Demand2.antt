@@ -1,5 +1,6 @@
--- RULES.md 8.5, demand 2 as one statement, over table bytes, state bytes, a request and any plan: which requests are accepted, and what an
--- accepted one leaves. The place of such an answer, 0, is left to the equations with `planWords` and `planBytes`.
+-- RULES.md 8.5, demand 2 as one statement, over table bytes, state bytes, a request of any kind but 4 and any plan: which requests are
+-- accepted, and what an accepted one leaves. Of kind 4 it is Sleep.antt. The place of such an answer, 0, is left to the equations with
+-- `planWords` and `planBytes`.
 use Prim.Native.Nat.{ℕ, _*_, _<_, _≤_}
 use mathlib.Core.Path.{_≡_}
 use mathlib.Core.Bool.{true}
@@ -15,7 +16,7 @@ use Rattle.rules.specs.Power.{needs}
 use Rattle.rules.specs.Status.{status, stateVerdict}
 use Rattle.rules.specs.Request.{newEntry}
 use Rattle.rules.specs.Calls.{wordOf, calls}
-use Rattle.rules.specs.Outcomes.{planRoom}
+use Rattle.rules.specs.Outcomes.{listRoom}
 use Rattle.laws.specs.Demand3.{Permitted}
 
 -- some device below D needs resource r with its entry in the state b
@@ -56,7 +57,7 @@ pub record LeftPlan (size : ℕ) (written : List ℕ → List ℕ) (words plan :
 pub record Demand2 (size : ℕ) (written : List ℕ → List ℕ) (t b : List ℕ) (q : Request) (plan : List ℕ) (number count : ℕ)
     (b′ plan′ : List ℕ) : Type 0 where
   -- the answer is 0 exactly if the request is permitted and the plan has room
-  pub accepts : (number ≡ 0) ↔ (Permitted t b q × (size * planRoom (width t) ≤ length plan))
+  pub accepts : (number ≡ 0) ↔ (Permitted t b q × (size * listRoom (width t) ≤ length plan))
   -- and then
   pub state : number ≡ 0 → LeftState t b q b′
   pub calls : number ≡ 0 → LeftPlan size written (map wordOf (calls (station t) (status t b) q)) plan count plan′

@@ -1,7 +1,7 @@
 -- RULES.md 8.3, demand 3 as one statement, over table bytes, state bytes, a request and any list of words.
 use Prim.Native.Nat.{ℕ, _*_, _/_, _%_, _<_}
 use mathlib.Core.Path.{_≡_}
-use mathlib.Core.Bool.{Bool, true, cond}
+use mathlib.Core.Bool.{Bool, true, false, cond}
 use mathlib.Core.List.{List}
 use mathlib.Core.Logic.{_↔_}
 use lib.Dec.{eqb}
@@ -20,6 +20,7 @@ use Rattle.rules.specs.Request.{entriesAfter}
 use Rattle.rules.specs.Calls.{wordOf, ownCall, endSet}
 use Rattle.rules.specs.Conforms.{ConformsTo}
 use Rattle.rules.specs.Execution.{execution}
+use Rattle.rules.specs.Sleep.{isSleep}
 use Rattle.rules.specs.Outcomes.{permittedVerdict, planWords, planBytes, checkWords, checkBytes}
 
 -- by the rules, the checker owes the request no answer but 0 or 19
@@ -62,8 +63,9 @@ pub record Demand3 (t b : List ℕ) (q : Request) (ws : List ℕ) : Type 0 where
       → (r : ℕ) → member (ownNeeds t b q) r ≡ true → onAfter t b ws n r ≡ true
   -- the list ends with exactly the needed set
   pub ends : Passed t b q ws → (r : ℕ) → execution (member (status t b .on)) ws r ≡ member (neededAfter t b q) r
-  -- the planner's own list, the first words of its plan, as many as its count, passes
-  pub planner : (plan : List ℕ) → numberOf (planWords t b q plan .verdict) ≡ 0
+  -- the planner's own list, the first words of its plan, as many as its count, passes; the plan of sleep entry is cut into its moves
+  -- (Sleep.antt)
+  pub planner : isSleep q ≡ false → (plan : List ℕ) → numberOf (planWords t b q plan .verdict) ≡ 0
       → Passed t b q (take (countOf (planWords t b q plan .verdict)) (planWords t b q plan .plan))
 
 -- the same of a list of bytes, four fed as one word
@@ -74,5 +76,5 @@ pub record Demand3Bytes (t b : List ℕ) (q : Request) (list : List ℕ) : Type 
   pub words : length list % 4 ≡ 0 → checkBytes t b q list ≡ checkWords t b q (byteWords (length list / 4) list)
   pub demand : Demand3 t b q (byteWords (length list / 4) list)
   -- the planner's own list passes
-  pub planner : (plan : List ℕ) → numberOf (planBytes t b q plan .verdict) ≡ 0
+  pub planner : isSleep q ≡ false → (plan : List ℕ) → numberOf (planBytes t b q plan .verdict) ≡ 0
       → numberOf (checkBytes t b q (take (4 * countOf (planBytes t b q plan .verdict)) (planBytes t b q plan .plan))) ≡ 0

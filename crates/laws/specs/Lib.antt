@@ -3,4 +3,5 @@ pub mod Runs
 pub mod Demand2
 pub mod Demand3
 pub mod BringUp
+pub mod Sleep
 pub mod Inverse

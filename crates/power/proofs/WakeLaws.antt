@@ -1,13 +1,13 @@
 -- How a device may wake the system, a law for each way that the code answers. The wake range stays shut: no law here depends on how it is
 -- decided.
-use mathlib.Core.Path.{_≡_, refl, sym, _∙_}
+use mathlib.Core.Path.{_≡_, refl, sym, ap, _∙_}
 use mathlib.Core.Bool.{Bool, true, false, not, _||_}
 use mathlib.Core.List.{List}
 use Prim.Native.Nat.{ℕ, _≤_, _<_}
 use borrow.Author.Tests.{lt-ltb, le-ltb, not-true, not-false}
 use lib.Dec.{leb, ltb}
 use Rattle.rules.specs.Station.{Station, hasPRW, countR, stationOf, station}
-use Rattle.rules.specs.Power.{supported, wakeRange, wakeFrom, wakePowered, wakeState, wakePair}
+use Rattle.rules.specs.Power.{supported, poweredIn, wakeRange, wakeFrom, wakePowered, wakeState, wakePair}
 use Rattle.power.proofs.Members.{everyIn}
 
 -- ---- the sleep state
@@ -32,10 +32,13 @@ resources-are : (t : List ℕ) → station t .resources ≡ countR t
 unfolding stationOf
 resources-are t = refl
 
-pub powered-starts : (t : List ℕ) (d x set : ℕ) → set ≡ station t .device d .sets 4
-    → everyIn (λ r. leb x (station t .resource r .level)) set (countR t) ≡ wakePowered (station t) d x
-unfolding wakePowered everyIn
-powered-starts t d x set p = rw (p, resources-are t) refl
+pub powered-starts : (t : List ℕ) (x set : ℕ)
+    → everyIn (λ r. leb x (station t .resource r .level)) set (countR t) ≡ poweredIn (station t) x set
+unfolding poweredIn everyIn
+powered-starts t x set = rw (resources-are t) refl
+
+pub wake-set : (s : Station) (d x set : ℕ) (b : Bool) → b ≡ poweredIn s x set → set ≡ s .device d .sets 4 → b ≡ wakePowered s d x
+wake-set s d x set b e p = e ∙ ap (poweredIn s x) p
 
 -- ---- the device state, and the pair
 module _ (s : Station) (d x y : ℕ) where

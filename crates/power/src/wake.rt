@@ -6,7 +6,7 @@ ghost use lib.Dec.{leb, ltb};
 ghost use Rattle.sets.specs.Sets.{member};
 ghost use Rattle.rules.specs.Index.{least};
 ghost use Rattle.rules.specs.Station.{countR, countD, station};
-ghost use Rattle.rules.specs.Power.{wakeFrom, wakePowered, wakeRange, wakeState, wakePair};
+ghost use Rattle.rules.specs.Power.{poweredIn, wakeFrom, wakePowered, wakeRange, wakeState, wakePair};
 ghost use Rattle.table.specs.Layout.{WellSized};
 
 // `_PRW` exists, and x is not above its deepest state.
@@ -39,12 +39,12 @@ fn lowest(set: u32) -> u32
     u32::trailing_zeros(set)
 }
 
-// Every `_PRW` resource has systemlevel x or more: from one member of the set to the next, so that a small set takes few turns.
-pub fn wake_powered(table: &[u8], d: usize, x: u8) -> bool
-    requires { ⌜ WellSized (now table) × (d < countD (now table)) ⌝ }
-    ensures { λ r. ⌜ r ≡ wakePowered (station (now (table .entry))) d x ⌝ }
+// Every resource of a set has systemlevel x or more: from one member to the next, so that a small set takes few turns.
+pub fn powered_in(table: &[u8], set: u32, x: u8) -> bool
+    requires { ⌜ WellSized (now table) ⌝ }
+    ensures { λ r. ⌜ r ≡ poweredIn (station (now (table .entry))) x set ⌝ }
 {
-    let mut rest = table::fields::set(table, d, 4);
+    let mut rest = set;
     while 0 < rest {
         let r = lowest(rest);
         rest = sets::without(rest, r);
@@ -53,6 +53,14 @@ pub fn wake_powered(table: &[u8], d: usize, x: u8) -> bool
         }
     }
     true
+}
+
+// Every `_PRW` resource has systemlevel x or more.
+pub fn wake_powered(table: &[u8], d: usize, x: u8) -> bool
+    requires { ⌜ WellSized (now table) × (d < countD (now table)) ⌝ }
+    ensures { λ r. ⌜ r ≡ wakePowered (station (now (table .entry))) d x ⌝ }
+{
+    powered_in(table, table::fields::set(table, d, 4), x)
 }
 
 // The wake range of each `_SxD` and `_SxW`: a row for each pair, and in it a digit for each state, from D3cold down to D0; 150 verdicts in

@@ -51,32 +51,34 @@ module _ (t b : List ℕ) (q : Request) (g : PermittedRequest t b q) where
   stages : Stages t b q
   stages = stages-of true t b q (g .passed)
 
+  own-entry : (e : Entry) → e ≡ entryAt b (4 * q .device) → e ≡ entries t b (q .device)
+  own-entry e read = entry-ready t b (q .device) e (g .ready) (g .device) read
+
+  -- ---- the needed set, with the new entry f for e
+  pub needed-is : (n : ℕ) (e f : Entry) → e ≡ entryAt b (4 * q .device) → f ≡ newEntry e q
+      → n ≡ needed (station t) (replaceEntry (entries t b) (q .device) f) → n ≡ endSet (station t) (entries t b) q
+  unfolding endSet
+  needed-is n e f read new need = need ∙ rw (new, own-entry e read) refl
+
   -- ---- the parts together
   module _ (on n : ℕ) (e f : Entry) (o : OptionalCall) (l : Bool) (w : Switching) (is : w ≡ switchingOf o l on n) where
     abbrev made : Change
     made = record { entry = f; needed = n; switching = w }
 
-    module _ (read : e ≡ entryAt b (4 * q .device)) (new : f ≡ newEntry e q)
-        (need : n ≡ needed (station t) (replaceEntry (entries t b) (q .device) f)) (own : o ≡ ownCall (station t) e q) where
-      same : e ≡ entries t b (q .device)
-      same = entry-ready t b (q .device) e (g .ready) (g .device) read
-
-      needed-is : n ≡ endSet (station t) (entries t b) q
-      unfolding endSet
-      needed-is = need ∙ rw (new, same) refl
-
+    module _ (read : e ≡ entryAt b (4 * q .device)) (new : f ≡ newEntry e q) (need : n ≡ endSet (station t) (entries t b) q)
+        (own : o ≡ ownCall (station t) e q) where
       pub change-is : l ≡ ownLast q → made ≡ changeOf (station t) (statusWith t b on) q
-      change-is last = rw (is, own, last, needed-is, new, same) refl
+      change-is last = rw (is, own, last, need, new, own-entry e read) refl
 
       needed-lt : n < 2 ^ countR t
       unfolding statusOf
-      needed-lt = rw needed-is (unfold stationOf in able t b q stages .end)
+      needed-lt = rw need (unfold stationOf in able t b q stages .end)
 
       pub change-good : on < 2 ^ countR t → GoodSwitching t w
       change-good h =
           rw is (switching-good o l on n t h needed-lt (own-in-range t e q o own (g .ready .sized) (g .device) (g .first) (g .second)))
 
-pub ruleset changes = (change-is, change-good)
+pub ruleset changes = (needed-is, change-is, change-good)
 
 -- the status of an image is that of its entries with its own on-set
 pub status-with : (t b : List ℕ) (on : ℕ) → on ≡ status t b .on → statusWith t b on ≡ status t b

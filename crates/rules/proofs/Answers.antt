@@ -12,7 +12,7 @@ use Rattle.rules.specs.declared.Reason.{Reason}
 use Rattle.rules.specs.declared.Reason.the-variants.{NotATable, TooMany, WrongLength, BadResource, BadDevice, BadObjects}
 use Rattle.rules.specs.declared.Reason.the-variants.{BadState, Inconsistent, NoRoom, BadRequest, Unsupported, Shallower}
 use Rattle.rules.specs.declared.Reason.the-variants.{ParentDeeper, ChildShallower, TooDeepToWake, NoWake, WakeUnpowered}
-use Rattle.rules.specs.declared.Reason.the-variants.{BadWakeState, NotConforming}
+use Rattle.rules.specs.declared.Reason.the-variants.{BadWakeState, NotConforming, ArmedForOther, NoChoice}
 use Rattle.rules.specs.Index.{least}
 use Rattle.rules.specs.Answers.{reasonNumber, passes, firstOf, unless, lowest}
 use Rattle.rules.proofs.Index.{none-below, no-hit}
@@ -127,6 +127,8 @@ no-reason-0 NoWake e = omega arith
 no-reason-0 WakeUnpowered e = omega arith
 no-reason-0 BadWakeState e = omega arith
 no-reason-0 NotConforming e = omega arith
+no-reason-0 ArmedForOther e = omega arith
+no-reason-0 NoChoice e = omega arith
 
 -- ---- v is an answer as code has it, w what it is by the rules, p whether it passes
 module _ (v w : Verdict) (p : Bool) (e : v ≡ w) (f : p ≡ passes v) where

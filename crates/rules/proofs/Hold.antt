@@ -18,29 +18,37 @@ use Rattle.rules.specs.Write.{describedResourceGood, describedFieldsGood
 use Rattle.rules.specs.Write.{writeVerdict, write, describeVerdict, describe}
 use Rattle.rules.specs.WriteRows.{benchResources, writeRows, answered, describing}
 use Rattle.rules.specs.Power.{supported, ownSet, listedSet, stateNeeds, wakeNeeds, needs, neededBelow, needed, wakeRange}
-use Rattle.rules.specs.Power.{wakeFrom, wakePowered, wakeState, wakePair}
+use Rattle.rules.specs.Power.{wakeFrom, poweredIn, wakeState, wakePair}
 use Rattle.rules.specs.Status.{entryAt, entryBytes, entriesOf, statusOf, imageOf, freshStatus, entryGood}
 use Rattle.rules.specs.Status.{entryZero, entriesGood, onGood, parentAllows, wakeConsistent, consistentButPower, powered}
 use Rattle.rules.specs.Status.{consistent, valuesGood, imageGood, valuesVerdict, consistencyVerdict, stateVerdict}
 use Rattle.rules.specs.Request.{numbersGood, formGood, notShallowerOrD0, childBars, wakeAllows, moveVerdict, armVerdict}
 use Rattle.rules.specs.Request.{kindVerdict, requestVerdict, newEntry, replaceEntry}
 use Rattle.rules.specs.Calls.{wakeOf, callOfBytes, callOf, listOf, only, methodFor, callsMethod, moveCall, wakeCall, ownCall}
+use Rattle.rules.specs.Calls.{statusNeeded}
 use Rattle.rules.specs.Calls.{ownLast, endSet, toTurnOn, toTurnOff, membersFrom, earlier, insert, sort, rising, turnOn, turnOff}
 use Rattle.rules.specs.Calls.{arrange, switchCalls, calls, statusAfter, switchingWords}
 use Rattle.rules.specs.Check.{onWord, offWord, andThen, takeWords, mayCome, takeSet, firstCalls, lastCalls, isEnd, conforming}
-use Rattle.rules.specs.Outcomes.{outcome, freshVerdict, fresh, requestStage, stagesVerdict, planVerdict, planOutcome, planned}
+use Rattle.rules.specs.Outcomes.{outcome, freshVerdict, fresh, readyVerdict, requestStage, stagesVerdict, planVerdict, planOutcome}
+use Rattle.rules.specs.Outcomes.{planned}
 use Rattle.rules.specs.Outcomes.{stateAfter}
-use Rattle.rules.specs.Outcomes.{planWords, planBytes, listVerdict, ofBytes, checkWords, checkBytes, recordPart}
-use Rattle.rules.specs.BringUp.{butPowerVerdict, stateButPowerVerdict, bringUpStages, bringUpCalls, statusBroughtUp, bringUpList}
+use Rattle.rules.specs.Outcomes.{planRoom, planStages, planList, planState, planWords, planBytes, listVerdict, ofBytes, checkWords}
+use Rattle.rules.specs.Outcomes.{checkBytes, recordPart}
+use Rattle.rules.specs.BringUp.{butPowerVerdict, stateButPowerVerdict, bringUpStages, bringUpCalls, bringUpList}
 use Rattle.rules.specs.BringUp.{stateBroughtUp, bringUpWords}
 use Rattle.rules.specs.BringUp.{bringUpBytes, checkBringUpWords, checkBringUpBytes}
 use Rattle.rules.specs.BringUpRows.{doneRows, refusedRows}
+use Rattle.rules.specs.Sleep.{sleepFormGood, armedForOther, sxdAllows, wakeDIfArmed, mayTake, mayTakeUnder, leastState, leastBelow}
+use Rattle.rules.specs.Sleep.{leastChoice, hasChoice, armedVerdict, sleepVerdict, moves, noneMoves, offsAlone}
+use Rattle.rules.specs.Outcomes.{sleepStage, sleepStages, plannedEach, stateAfterEach, sleepList, stateForSleep}
+use Rattle.rules.specs.SleepRows.{sleepDoneRows, sleepRefusedRows, stepsTable, portTable, scannerTable}
 use Rattle.rules.specs.Execution.{carryOut, execution}
 use Rattle.rules.specs.Rows.{bytes, rows, benchTable, benchDevices}
 use Rattle.rules.specs.OwnStation.{ownTable, ownState, wideTable}
 use Rattle.rules.specs.OwnRows.{ownRows, callWords, otherWords}
 use Rattle.rules.specs.Holds.{same, answers, freshAnswers, startOf, stateOf, endState, leaves, wordRead, wordsRead, agree}
 use Rattle.rules.specs.Holds.{changes, carried, checks, checksAll, holdsFrom, holdsIn, holds, wrong, holdsBringUpIn, holdsBringUp}
+use Rattle.rules.specs.Holds.{plans, holdsSleepIn, holdsSleep}
 
 pub all-hold : (wrong holds 1 rows ≡ []) × (wrong holds 1 ownRows ≡ [])
 unfolding member union minus single firstN subset readLE bytesLE put wordBytes byteWords leastFrom every below eachFrom passes firstOf
@@ -48,16 +56,16 @@ unfolding member union minus single firstN subset readLE bytesLE put wordBytes b
     resourceGood parentGood present setGood sxdGood sxwGood deepestGood headFields setFields sxdFields sxwFields deepestFields valueFields
     zeroFields deviceFields badField fieldsGood objectsGood fieldsOrObjects deviceGood tableVerdict supported ownSet listedSet stateNeeds
     wakeNeeds needs neededBelow needed wakeRange
-    wakeFrom wakePowered wakeState wakePair entryAt entryBytes entriesOf statusOf joinFrom imageOf freshStatus entryGood entryZero
+    wakeFrom poweredIn wakeState wakePair entryAt entryBytes entriesOf statusOf joinFrom imageOf freshStatus entryGood entryZero
     entriesGood onGood parentAllows wakeConsistent consistentButPower powered consistent valuesGood imageGood valuesVerdict
     consistencyVerdict stateVerdict
     numbersGood formGood notShallowerOrD0 childBars wakeAllows moveVerdict armVerdict kindVerdict requestVerdict newEntry replaceEntry
     listOf only methodFor callsMethod moveCall wakeCall ownCall ownLast endSet toTurnOn toTurnOff membersFrom earlier insert sort rising
     turnOn turnOff arrange switchCalls calls statusAfter andThen takeWords mayCome takeSet firstCalls lastCalls isEnd conforming outcome
-    freshVerdict fresh requestStage stagesVerdict planVerdict planOutcome planned stateAfter planBytes listVerdict ofBytes checkBytes
-    carryOut execution wakeOf
+    freshVerdict fresh readyVerdict requestStage stagesVerdict planVerdict planOutcome planned stateAfter planRoom planStages
+    planList planState planBytes listVerdict ofBytes checkBytes carryOut execution wakeOf
     callOfBytes callOf planWords checkWords recordPart same answers freshAnswers startOf stateOf endState leaves wordRead wordsRead
-    agree switchingWords changes carried checks checksAll holdsFrom holdsIn wrong ownTable ownState wideTable
+    agree switchingWords changes carried checks checksAll plans holdsFrom holdsIn wrong ownTable ownState wideTable
 all-hold = (refl, refl)
 
 -- and so do the rows of bring-up
@@ -66,15 +74,33 @@ unfolding member union minus single readLE bytesLE put wordBytes byteWords least
     unless lowest versionGood versionWidth width deviceStart resourceAt deviceAt stationOf headerGood countsGood lengthGood firstBad
     resourceGood parentGood present setGood sxdGood sxwGood deepestGood headFields setFields sxdFields sxwFields deepestFields valueFields
     zeroFields deviceFields badField fieldsGood objectsGood fieldsOrObjects deviceGood tableVerdict supported ownSet listedSet stateNeeds
-    wakeNeeds needs neededBelow needed wakeRange wakeFrom wakePowered wakeState wakePair entryAt entryBytes entriesOf statusOf joinFrom
+    wakeNeeds needs neededBelow needed wakeRange wakeFrom poweredIn wakeState wakePair entryAt entryBytes entriesOf statusOf joinFrom
     imageOf entryGood entryZero entriesGood onGood parentAllows wakeConsistent consistentButPower valuesGood imageGood valuesVerdict
     toTurnOn
     toTurnOff membersFrom earlier insert sort rising turnOn turnOff arrange switchCalls andThen takeWords mayCome takeSet firstCalls
     lastCalls isEnd conforming outcome planVerdict planOutcome listVerdict ofBytes carryOut execution wakeOf callOfBytes callOf
-    butPowerVerdict stateButPowerVerdict bringUpStages bringUpCalls statusBroughtUp bringUpList stateBroughtUp bringUpWords bringUpBytes
+    butPowerVerdict stateButPowerVerdict bringUpStages bringUpCalls statusNeeded bringUpList stateBroughtUp bringUpWords bringUpBytes
     checkBringUpWords
-    checkBringUpBytes same answers endState leaves wordRead wordsRead agree carried checks checksAll holdsBringUpIn wrong ownTable wideTable
+    checkBringUpBytes same answers endState leaves wordRead wordsRead agree carried checks checksAll plans holdsBringUpIn wrong ownTable
+    wideTable
 bring-up-holds = (refl, refl)
+
+-- and those of sleep entry
+pub sleep-holds : (wrong holdsSleep 1 sleepDoneRows ≡ []) × (wrong holdsSleep 1 sleepRefusedRows ≡ [])
+unfolding member union minus subset readLE bytesLE put wordBytes byteWords leastFrom every below eachFrom passes firstOf
+    unless lowest versionGood versionWidth width deviceStart resourceAt deviceAt stationOf headerGood countsGood lengthGood firstBad
+    resourceGood parentGood present setGood sxdGood sxwGood deepestGood headFields setFields sxdFields sxwFields deepestFields valueFields
+    zeroFields deviceFields badField fieldsGood objectsGood fieldsOrObjects deviceGood tableVerdict supported ownSet listedSet stateNeeds
+    wakeNeeds needs neededBelow needed wakeRange wakeFrom poweredIn wakeState wakePair entryAt entryBytes entriesOf statusOf joinFrom
+    imageOf entryGood entryZero entriesGood onGood parentAllows wakeConsistent consistentButPower powered consistent valuesGood imageGood
+    valuesVerdict consistencyVerdict stateVerdict numbersGood formGood requestVerdict newEntry replaceEntry listOf only methodFor
+    callsMethod moveCall ownCall ownLast endSet toTurnOn toTurnOff membersFrom earlier insert sort rising turnOn turnOff arrange switchCalls
+    calls statusAfter statusNeeded outcome readyVerdict requestStage stagesVerdict planVerdict planOutcome planned stateAfter planRoom
+    planStages planList planState planBytes planWords listVerdict ofBytes checkBytes checkWords carryOut execution wakeOf callOfBytes callOf
+    sleepFormGood armedForOther sxdAllows wakeDIfArmed mayTake mayTakeUnder leastState leastBelow leastChoice hasChoice armedVerdict
+    sleepVerdict moves noneMoves offsAlone sleepStage sleepStages plannedEach stateAfterEach sleepList stateForSleep same answers endState
+    leaves wordRead wordsRead agree carried checks plans holdsSleepIn wrong ownTable stepsTable portTable scannerTable
+sleep-holds = (refl, refl)
 
 -- a word is read as the call with this word, or as none; words that are none leave any set
 pub codes-hold :

@@ -10,7 +10,7 @@ use Rattle.rules.specs.declared.Reason.{Reason}
 use Rattle.rules.specs.declared.Reason.the-variants.{NotATable, TooMany, WrongLength, BadResource, BadDevice, BadObjects}
 use Rattle.rules.specs.declared.Reason.the-variants.{BadState, Inconsistent, NoRoom, BadRequest, Unsupported, Shallower}
 use Rattle.rules.specs.declared.Reason.the-variants.{ParentDeeper, ChildShallower, TooDeepToWake, NoWake, WakeUnpowered}
-use Rattle.rules.specs.declared.Reason.the-variants.{BadWakeState, NotConforming}
+use Rattle.rules.specs.declared.Reason.the-variants.{BadWakeState, NotConforming, ArmedForOther, NoChoice}
 
 -- the number of a refusal
 abbrev pub reasonNumber : Reason → ℕ
@@ -33,6 +33,8 @@ reasonNumber NoWake = 16
 reasonNumber WakeUnpowered = 17
 reasonNumber BadWakeState = 18
 reasonNumber NotConforming = 19
+reasonNumber ArmedForOther = 20
+reasonNumber NoChoice = 21
 
 -- the number of the answer: 0 is done
 abbrev pub numberOf : Verdict → ℕ

@@ -15,10 +15,10 @@ use Rattle.rules.specs.Station.{Station, width, station}
 use Rattle.rules.specs.Table.{tableVerdict}
 use Rattle.rules.specs.Power.{needed}
 use Rattle.rules.specs.Status.{Status, status, imageOf, consistentButPower, valuesVerdict}
-use Rattle.rules.specs.Calls.{wordOf, switchCalls}
+use Rattle.rules.specs.Calls.{wordOf, switchCalls, statusNeeded}
 use Rattle.rules.specs.Conforms.{Conforms}
 use Rattle.rules.specs.Check.{conforming}
-use Rattle.rules.specs.Outcomes.{Outcome, planRoom, planOutcome, listVerdict, ofBytes}
+use Rattle.rules.specs.Outcomes.{Outcome, listRoom, planOutcome, listVerdict, ofBytes}
 
 -- 8 (RULES.md 12.1): the lowest device that breaks a rule of 4.3 other than that what it needs is on
 unfoldable pub butPowerVerdict : Station → (ℕ → Entry) → Verdict
@@ -36,25 +36,21 @@ bringUpStages room t b = firstOf (tableVerdict t ∷ stateButPowerVerdict t b �
 unfoldable pub bringUpCalls : Station → Status → List Call
 bringUpCalls s st = switchCalls s [] false (st .on) (needed s (st .entries))
 
--- the entries as they are, and the needed set on
-unfoldable pub statusBroughtUp : Station → Status → Status
-statusBroughtUp s st = record { entries = st .entries; on = needed s (st .entries) }
-
 -- the words of the list, and the state image afterwards
 unfoldable pub bringUpList : List ℕ → List ℕ → List ℕ
 bringUpList t b = map wordOf (bringUpCalls (station t) (status t b))
 
 unfoldable pub stateBroughtUp : List ℕ → List ℕ → List ℕ
-stateBroughtUp t b = imageOf (width t) (statusBroughtUp (station t) (status t b))
+stateBroughtUp t b = imageOf (width t) (statusNeeded (station t) (status t b))
 
 -- bring-up on a plan of words, and on one of bytes, four a word
 unfoldable pub bringUpWords : List ℕ → List ℕ → List ℕ → Outcome
 bringUpWords t b plan =
-    planOutcome (λ ws. ws) (bringUpStages (leb (planRoom (width t)) (length plan)) t b) b plan (stateBroughtUp t b) (bringUpList t b)
+    planOutcome (λ ws. ws) (bringUpStages (leb (listRoom (width t)) (length plan)) t b) b plan (stateBroughtUp t b) (bringUpList t b)
 
 unfoldable pub bringUpBytes : List ℕ → List ℕ → List ℕ → Outcome
 bringUpBytes t b plan =
-    planOutcome wordBytes (bringUpStages (leb (4 * planRoom (width t)) (length plan)) t b) b plan (stateBroughtUp t b) (bringUpList t b)
+    planOutcome wordBytes (bringUpStages (leb (4 * listRoom (width t)) (length plan)) t b) b plan (stateBroughtUp t b) (bringUpList t b)
 
 -- RULES.md 12.3: a list conforms to bring-up from a status, and the test of it
 abbrev pub ConformsToBringUp : Station → Status → List ℕ → Type 0

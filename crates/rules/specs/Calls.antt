@@ -142,13 +142,17 @@ arrange last own ons offs =
 unfoldable pub switchCalls : Station → List Call → Bool → ℕ → ℕ → List Call
 switchCalls s own last on target = arrange last own (turnOn s on target) (turnOff s on target)
 
--- the planner's list
+-- the list of a request of kinds 1 to 3
 unfoldable pub calls : Station → Status → Request → List Call
 calls s st q = switchCalls s (ownCalls s st q) (ownLast q) (st .on) (endSet s (st .entries) q)
 
--- the status after an accepted request: the new entry, the others as before, and exactly the needed set on
+-- the status after it: the new entry, the others as before, and exactly the needed set on
 unfoldable pub statusAfter : Station → Status → Request → Status
 statusAfter s st q = record { entries = entriesAfter (st .entries) q; on = endSet s (st .entries) q }
+
+-- the entries as they are, and exactly the needed set on
+unfoldable pub statusNeeded : Station → Status → Status
+statusNeeded s st = record { entries = st .entries; on = needed s (st .entries) }
 
 -- the calls from an on-set to a target set as one value: what is turned on, what is turned off, the own call or none and whether it comes
 -- last

@@ -1,5 +1,5 @@
 -- What a row of requests must meet: the planner, the checker, a fresh state and a device's record, on bytes and on words, and the list
--- carried out; and what a row of bring-up must meet.
+-- carried out; and what a row of bring-up and one of sleep entry must meet.
 use Prim.Native.Nat.{ℕ, suc, _*_, _/_, _%_}
 use mathlib.Core.Bool.{Bool, true, false, _&&_, not, cond}
 use mathlib.Core.List.{List, [], _∷_, _++_}
@@ -22,6 +22,7 @@ use Rattle.rules.specs.Outcomes.{Outcome, fresh, planWords, planBytes, c
 use Rattle.rules.specs.BringUp.{bringUpWords, bringUpBytes, checkBringUpWords, checkBringUpBytes}
 use Rattle.rules.specs.Rows.{imageFrom, blank, Start, freshIn, given, Answer, Listed, Row}
 use Rattle.rules.specs.BringUpRows.{BringUpRow}
+use Rattle.rules.specs.SleepRows.{SleepRow}
 
 -- two lists are equal
 unfoldable pub same : List ℕ → List ℕ → Bool
@@ -100,12 +101,17 @@ unfoldable pub checksAll : (List ℕ → Verdict) → (List ℕ → Verdict) →
 checksAll onBytes onWords [] = true
 checksAll onBytes onWords (l ∷ ls) = checks onBytes onWords (l .list) (l .number) 0 && checksAll onBytes onWords ls
 
+-- a planner of bytes and one of words, with a plan of n bytes from state b: each leaves what the row says
+unfoldable pub plans : (List ℕ → Outcome) → (List ℕ → Outcome) → List ℕ → ℕ → Answer → Bool
+plans onBytes onWords b n a =
+    leaves (onBytes (blank n)) a (a .calls) (endState b a) (blank n)
+    && leaves (onWords (blank (n / 4))) a (wordsIn (a .calls)) (endState b a) (blank (n / 4))
+
 -- the last request, from state b and with a plan of n bytes: the planner of bytes and of words, the checker of the row's calls and of the
 -- other lists, the record that is handed out; where it is done, the list carried out, and the request as one value
 unfoldable pub holdsFrom : List ℕ → List ℕ → Request → ℕ → Answer → Row → Bool
 holdsFrom t b q n a r =
-    leaves (planBytes t b q (blank n)) a (a .calls) (endState b a) (blank n)
-    && leaves (planWords t b q (blank (n / 4))) a (wordsIn (a .calls)) (endState b a) (blank (n / 4))
+    plans (planBytes t b q) (planWords t b q) b n a
     && checks (checkBytes t b q) (checkWords t b q) (a .calls) (a .checked) (a .place)
     && checksAll (checkBytes t b q) (checkWords t b q) (r .lists)
     && same (recordPart t (q .device)) (r .part)
@@ -123,14 +129,24 @@ holds r = holdsIn (r .lent .table) r
 -- done, the list carried out
 unfoldable pub holdsBringUpIn : List ℕ → List ℕ → ℕ → Answer → List Listed → Bool
 holdsBringUpIn t b n a ls =
-    leaves (bringUpBytes t b (blank n)) a (a .calls) (endState b a) (blank n)
-    && leaves (bringUpWords t b (blank (n / 4))) a (wordsIn (a .calls)) (endState b a) (blank (n / 4))
+    plans (bringUpBytes t b) (bringUpWords t b) b n a
     && checks (checkBringUpBytes t b) (checkBringUpWords t b) (a .calls) (a .checked) (a .place)
     && checksAll (checkBringUpBytes t b) (checkBringUpWords t b) ls
     && cond (eqb (a .number) 0) (carried t b a) true
 
 abbrev pub holdsBringUp : BringUpRow → Bool
 holdsBringUp r = holdsBringUpIn (r .table) (r .state) (r .room) (r .answer) (r .lists)
+
+-- sleep entry from a row's state and with its room, of bytes and of words; the checker's answer to the row's calls; where
+-- it is done, the list carried out
+unfoldable pub holdsSleepIn : List ℕ → List ℕ → Request → ℕ → Answer → Bool
+holdsSleepIn t b q n a =
+    plans (planBytes t b q) (planWords t b q) b n a
+    && checks (checkBytes t b q) (checkWords t b q) (a .calls) (a .checked) (cond (eqb (a .checked) (a .number)) (a .place) 0)
+    && cond (eqb (a .number) 0) (carried t b a) true
+
+abbrev pub holdsSleep : SleepRow → Bool
+holdsSleep r = holdsSleepIn (r .table) (r .state) (r .asked) (r .room) (r .answer)
 
 -- the places, counted from i, of the rows that fail a test
 unfoldable pub wrong : {A : Type 0} → (A → Bool) → ℕ → List A → List ℕ

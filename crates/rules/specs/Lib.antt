@@ -11,11 +11,13 @@ pub mod Calls
 pub mod Conforms
 pub mod Execution
 pub mod Check
+pub mod Sleep
 pub mod Outcomes
 pub mod BringUp
 pub mod Rows
 pub mod OwnStation
 pub mod BringUpRows
+pub mod SleepRows
 pub mod Holds
 pub mod Damaged
 pub mod OwnRows

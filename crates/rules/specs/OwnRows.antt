@@ -96,7 +96,7 @@ ownRows =
     row (lend benchTable (freshIn 132) [] 131) (move 2 4) lamp (noRoom 0) ∷
     row (lend benchTable (freshIn 132) [] 131) (move 2 5) lamp (noRoom 10) ∷
     -- 10: kind, numbers, unused ones; device
-    row new (request 0 1 0 0) disk (refused 10 0) ∷ row new (request 4 1 0 0) disk (refused 10 0) ∷
+    row new (request 0 1 0 0) disk (refused 10 0) ∷ row new (request 5 1 0 0) disk (refused 10 0) ∷
     row new (request 257 1 0 0) disk (refused 10 0) ∷ row new (move 1 5) disk (refused 10 0) ∷
     row new (request 1 1 1 1) disk (refused 10 0) ∷
     row new (arm 1 5 1) disk (refused 10 0) ∷ row new (arm 1 1 5) disk (refused 10 0) ∷

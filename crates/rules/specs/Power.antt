@@ -57,9 +57,13 @@ wakeRange sxd sxw x =
 unfoldable pub wakeFrom : Station → ℕ → ℕ → Bool
 wakeFrom s d x = hasPRW (s .device d) && leb x (s .device d .deepest)
 
--- every `_PRW` resource has systemlevel at least S
-unfoldable pub wakePowered : Station → ℕ → ℕ → Bool
-wakePowered s d x = every (λ r. not (member (s .device d .sets 4) r) || leb x (s .resource r .level)) (s .resources)
+-- every resource of a set has systemlevel at least S
+unfoldable pub poweredIn : Station → ℕ → ℕ → Bool
+poweredIn s x set = every (λ r. not (member set r) || leb x (s .resource r .level)) (s .resources)
+
+-- every `_PRW` resource has
+abbrev pub wakePowered : Station → ℕ → ℕ → Bool
+wakePowered s d x = poweredIn s x (s .device d .sets 4)
 
 -- D is supported and in the wake range for S
 unfoldable pub wakeState : Station → ℕ → ℕ → ℕ → Bool

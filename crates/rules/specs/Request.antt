@@ -76,10 +76,14 @@ kindVerdict s entries q =
 unfoldable pub requestVerdict : Station → (ℕ → Entry) → Request → Verdict
 requestVerdict s entries q = firstOf (unless (formGood s q) BadRequest 0 ∷ kindVerdict s entries q ∷ []) (Done 0)
 
--- RULES.md 5.5: a move changes the state, arming writes the pair, any other kind is disarming and zeroes it
+-- an entry in another state
+abbrev pub inState : Entry → ℕ → Entry
+inState e x = record { state = x; armed = e .armed; sleep = e .sleep; wake = e .wake }
+
+-- RULES.md 5.5: a move changes the state, arming writes the pair, disarming zeroes it
 unfoldable pub newEntry : Entry → Request → Entry
 newEntry e q =
-    cond (isMove q) (record { state = q .a; armed = e .armed; sleep = e .sleep; wake = e .wake })
+    cond (isMove q) (inState e (q .a))
     (cond (isArm q) (record { state = e .state; armed = 1; sleep = q .a; wake = q .b })
     (record { state = e .state; armed = 0; sleep = 0; wake = 0 }))
 

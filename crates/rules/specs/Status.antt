@@ -79,9 +79,13 @@ entriesGood n s entries = every (λ k. entryGood (entries k) && (ltb k (s .devic
 unfoldable pub onGood : Station → ℕ → Bool
 onGood s on = ltb on (2 ^ s .resources)
 
+-- d's parent, if there is one, has in these states one that is not deeper than x
+abbrev pub underParent : Station → (ℕ → ℕ) → ℕ → ℕ → Bool
+underParent s states d x = eqb (s .device d .parent) absent || leb (states (s .device d .parent)) x
+
 -- d's parent, if there is one, is not deeper than state x
 unfoldable pub parentAllows : Station → (ℕ → Entry) → ℕ → ℕ → Bool
-parentAllows s entries d x = eqb (s .device d .parent) absent || leb (entries (s .device d .parent) .state) x
+parentAllows s entries d x = underParent s (λ k. entries k .state) d x
 
 -- if armed, its pair is legal and its state is not deeper than wake D
 unfoldable pub wakeConsistent : Station → ℕ → Entry → Bool

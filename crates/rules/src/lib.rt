@@ -65,7 +65,7 @@ pub struct State {
     pub on: u32,
 }
 
-// Why a table, a state, a request, a list, a description or a buffer is refused, in the order of the answers' numbers, 1 to 19.
+// Why a table, a state, a request, a list, a description or a buffer is refused, in the order of the answers' numbers, 1 to 21.
 pub enum Reason {
     NotATable,
     TooMany,
@@ -92,6 +92,10 @@ pub enum Reason {
     BadWakeState,
     // the list does not conform (RULES.md 7)
     NotConforming,
+    // a device is armed, and not for the sleep state asked for; the place is the device
+    ArmedForOther,
+    // no choice of states for all devices (RULES.md 13.2)
+    NoChoice,
 }
 
 // An answer: done with a count, of the calls in a plan or of the bytes that write and describe have written, else 0; or refused with a
@@ -125,6 +129,8 @@ fn reason_number(why: Reason) -> u8
         Reason::WakeUnpowered => 17,
         Reason::BadWakeState => 18,
         Reason::NotConforming => 19,
+        Reason::ArmedForOther => 20,
+        Reason::NoChoice => 21,
     }
 }
 

@@ -1,3 +1,2 @@
-pub mod Long
 pub mod Outer
 pub mod Numbers

@@ -1,12 +1,13 @@
 -- An answer as one number: from its three parts, read back, and handed on.
 use mathlib.Core.Path.{_≡_, refl}
-use mathlib.Core.Bool.{true}
+use mathlib.Core.Bool.{true, false}
 use mathlib.Core.List.{List}
 use Prim.Native.Nat.{ℕ, _+_, _*_, _/_, _%_, _≤_, _<_}
 use native.Mathlib.Nat.{mul-le-mul-right}
 use native.Mathlib.Omega.{arith}
 use lib.Dec.{leb}
 use lib.ListN.{length}
+use Rattle.sets.proofs.Laws.{decide}
 use Rattle.rules.specs.declared.Request.{Request}
 use Rattle.rules.specs.declared.Verdict.{Verdict}
 use Rattle.rules.specs.declared.Verdict.the-variants.{Done, Refused}
@@ -14,22 +15,30 @@ use Rattle.rules.specs.declared.Reason.{Reason}
 use Rattle.rules.specs.declared.Reason.the-variants.{NotATable, TooMany, WrongLength, BadResource, BadDevice, BadObjects, BadState}
 use Rattle.rules.specs.declared.Reason.the-variants.{Inconsistent, NoRoom, BadRequest, Unsupported, Shallower, ParentDeeper}
 use Rattle.rules.specs.declared.Reason.the-variants.{ChildShallower, TooDeepToWake, NoWake, WakeUnpowered, BadWakeState, NotConforming}
+use Rattle.rules.specs.declared.Reason.the-variants.{ArmedForOther, NoChoice}
 use Rattle.rules.specs.Answers.{reasonNumber, numberOf, placeOf, countOf, passes}
-use Rattle.rules.specs.Station.{versionWidth, width, Wide, recordSize}
-use Rattle.rules.specs.Outcomes.{outcome, planRoom, fresh, planned, planVerdict, planOutcome, planBytes, checkBytes}
+use Rattle.rules.specs.Station.{versionWidth, width, Wide, limit, recordSize}
+use Rattle.rules.specs.Sleep.{isSleep}
+use Rattle.rules.specs.Outcomes.{outcome, listRoom, fresh, planned, sleepList, planVerdict, planOutcome, planBytes, checkBytes}
 use Rattle.rules.specs.BringUp.{bringUpList, bringUpBytes, checkBringUpBytes}
 use Rattle.rules.specs.Write.{write, describe}
 use Rattle.rules.proofs.Width.{version-wide, width-wide}
 use Rattle.laws.specs.Inverse.{AllBytes, WrittenDescribes, DescribedMakes, AnswersAsReader}
 use Rattle.laws.specs.Demand2.{Demand2Bytes}
 use Rattle.laws.proofs.Demand2.{demand2-bytes}
+use Rattle.laws.specs.Sleep.{SleepEntryBytes}
+use Rattle.laws.proofs.Plans.{bytes-request, bytes-sleep}
+use Rattle.laws.proofs.SleepStages.{sleep-of}
+use Rattle.laws.proofs.Sleep.{sleeps-bytes}
 use Rattle.laws.specs.BringUp.{BringsUpBytes}
 use Rattle.laws.proofs.BringUp.{brings-up-bytes}
 use Rattle.laws.proofs.Stages.{stages-of, bring-up-of}
-use Rattle.laws.proofs.Bounds.{Bounded, fresh-bounded, stages-bounded, bring-up-bounded, plan-bounded, list-bounded, mostWritten}
-use Rattle.laws.proofs.Bounds.{mostDescribed, write-bounded, describe-bounded}
+use Rattle.laws.proofs.Bounds.{Bounded, fresh-bounded, stages-bounded, sleep-bounded, bring-up-bounded, plan-bounded, list-bounded}
+use Rattle.laws.proofs.Bounds.{mostWritten, mostDescribed, write-bounded, describe-bounded}
 use Rattle.laws.proofs.Inverse.{write-inverse, describe-inverse, write-answers}
-use Rattle.sailgarnet.proofs.Outer.{planned-short, up-short}
+use Rattle.switching.proofs.Short.{planned-short, up-short}
+use Rattle.planner.proofs.Room.{product-4160}
+use Rattle.planner.proofs.Choices.{sleep-short}
 use Rattle.sailgarnet.specs.Packed.{numberIn, countIn, placeIn, packed, Reads}
 
 reason-small : (why : Reason) → reasonNumber why < 0x100
@@ -52,6 +61,8 @@ reason-small NoWake = omega arith
 reason-small WakeUnpowered = omega arith
 reason-small BadWakeState = omega arith
 reason-small NotConforming = omega arith
+reason-small ArmedForOther = omega arith
+reason-small NoChoice = omega arith
 
 number-small : (v : Verdict) → numberOf v < 0x100
 number-small (Done n) = omega arith
@@ -92,17 +103,28 @@ module _ (t : List ℕ) where
   fresh-fits b = small (width t) 0 _ (width-wide t) (omega arith) (fresh-bounded t 0 b)
 
   -- a plan, with any stages, and a list
-  plan-small : (stages : Verdict) (words : List ℕ) → Bounded (width t) (planRoom (width t)) stages
-      → (passes stages ≡ true → length words ≤ planRoom (width t)) → Small (planVerdict stages words)
-  plan-small stages words h short =
-      let w = width-wide t in
-      small (width t) (planRoom (width t)) _ w (omega arith) (plan-bounded t (planRoom (width t)) stages h words short)
+  plan-small : (most : ℕ) (stages : Verdict) (words : List ℕ) → most ≤ 4160 → Bounded (width t) most stages
+      → (passes stages ≡ true → length words ≤ most) → Small (planVerdict stages words)
+  plan-small most stages words m h short =
+      small (width t) most _ (width-wide t) (omega arith) (plan-bounded t most stages h words short)
+
+  -- the room of one list, and of sleep entry
+  list-most : listRoom (width t) ≤ 4160
+  list-most = omega (arith, width-wide t .high)
+
+  sleep-most : limit (width t) * listRoom (width t) ≤ 4160
+  sleep-most = product-4160 (limit (width t)) (listRoom (width t)) (omega (arith, width-wide t .high)) (omega (arith, width-wide t .high))
 
   pub plan-fits : (b : List ℕ) (q : Request) (plan : List ℕ) → Small (planBytes t b q plan .verdict)
-  unfolding planBytes planOutcome outcome
+  unfolding planOutcome outcome
   plan-fits b q plan =
-      let room = leb (4 * planRoom (width t)) (length plan) in
-      plan-small _ (planned t b q) (stages-bounded t (planRoom (width t)) b q room) (λ e. planned-short t b q (stages-of room t b q e))
+      let room = leb (4 * listRoom (width t)) (length plan) in
+      let sleep = leb (4 * (limit (width t) * listRoom (width t))) (length plan) in
+      decide (isSleep q)
+      (λ k. rw (bytes-sleep t b q plan k) (plan-small _ _ (sleepList t b (q .a)) sleep-most (sleep-bounded t _ b q sleep)
+      (λ e. sleep-short t b q (sleep-of sleep t b q e .0))))
+      (λ k. rw (bytes-request t b q plan k) (plan-small _ _ (planned t b q) list-most (stages-bounded t _ b q room)
+      (λ e. planned-short t b q (stages-of room t b q e))))
 
   pub check-fits : (b : List ℕ) (q : Request) (list : List ℕ) → Small (checkBytes t b q list)
   unfolding checkBytes
@@ -111,8 +133,8 @@ module _ (t : List ℕ) where
   pub bring-up-fits : (b plan : List ℕ) → Small (bringUpBytes t b plan .verdict)
   unfolding bringUpBytes planOutcome outcome
   bring-up-fits b plan =
-      let room = leb (4 * planRoom (width t)) (length plan) in
-      plan-small _ (bringUpList t b) (bring-up-bounded t (planRoom (width t)) b room) (λ e. up-short t b (bring-up-of room t b e .0))
+      let room = leb (4 * listRoom (width t)) (length plan) in
+      plan-small _ _ (bringUpList t b) list-most (bring-up-bounded t _ b room) (λ e. up-short t b (bring-up-of room t b e .0))
 
   pub check-bring-up-fits : (b list : List ℕ) → Small (checkBringUpBytes t b list)
   unfolding checkBringUpBytes
@@ -147,11 +169,15 @@ pub described-inverse : (t rs ds : List ℕ) (r : ℕ) (rs′ ds′ : List ℕ) 
     → rs′ ≡ describe t rs ds .resources → ds′ ≡ describe t rs ds .devices → DescribedMakes t (numberIn r) rs′ ds′
 described-inverse t rs ds r rs′ ds′ bytes a e f = rw (a .number, e, f) (describe-inverse t rs ds bytes)
 
--- ---- what the planner on bytes leaves keeps demand 2, with number and count as they are read from the packed answer
-pub bytes-demand : (t b : List ℕ) (q : Request) (plan : List ℕ) (r : ℕ) (b′ plan′ : List ℕ) → Reads r (planBytes t b q plan .verdict)
-    → b′ ≡ planBytes t b q plan .state → plan′ ≡ planBytes t b q plan .plan
-    → Demand2Bytes t b q plan (numberIn r) (countIn r) b′ plan′
-bytes-demand t b q plan r b′ plan′ a s p = rw (a .number, a .count, s, p) (demand2-bytes t b q plan)
+-- ---- what the planner on bytes leaves keeps demand 2, or what sleep entry promises, with number and count as they are read from the
+-- packed answer
+module _ (t b : List ℕ) (q : Request) (plan : List ℕ) (r : ℕ) (b′ plan′ : List ℕ) (a : Reads r (planBytes t b q plan .verdict))
+    (s : b′ ≡ planBytes t b q plan .state) (p : plan′ ≡ planBytes t b q plan .plan) where
+  pub bytes-demand : isSleep q ≡ false → Demand2Bytes t b q plan (numberIn r) (countIn r) b′ plan′
+  bytes-demand k = rw (a .number, a .count, s, p) (demand2-bytes t b q plan k)
+
+  pub bytes-sleeps : isSleep q ≡ true → SleepEntryBytes t b q plan (numberIn r) (countIn r) b′ plan′
+  bytes-sleeps k = rw (a .number, a .count, s, p) (sleeps-bytes t b q plan k)
 
 -- and what bring-up leaves keeps what it promises
 pub bytes-brings : (t b plan : List ℕ) (r : ℕ) (b′ plan′ : List ℕ) → Reads r (bringUpBytes t b plan .verdict)

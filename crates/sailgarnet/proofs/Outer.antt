@@ -1,8 +1,8 @@
--- Plans and lists as bytes, from the same checks and the words: why a list of more than 33 words never conforms, and why a plan fits 33.
+-- Lists as bytes: why one of more than 33 words never conforms; and that bring-up's calls fit the buffer of one plan.
 use mathlib.Core.Path.{_≡_, refl, sym, ap, _∙_}
 use mathlib.Core.Bool.{Bool, true, false, _&&_, true≢false, and-false}
-use mathlib.Core.List.{List, []}
-use Prim.Native.Nat.{ℕ, _*_, _/_, _%_, _≤_, _<_}
+use mathlib.Core.List.{List}
+use Prim.Native.Nat.{ℕ, _+_, _*_, _/_, _%_, _≤_, _<_}
 use native.Mathlib.Omega.{arith}
 use borrow.Author.Tests.{eq-eqb, ne-eqb, eqb-true, leb-true, leb-false, le-leb, lt-leb}
 use lib.Dec.{eqb, leb}
@@ -10,72 +10,23 @@ use lib.ListN.{length, take}
 use Rattle.sets.proofs.Laws.{decide}
 use Rattle.words.specs.Words.{put, byteWords}
 use Rattle.words.proofs.Laws.{byte-words-length}
-use Rattle.words.proofs.Put.{length-put, take-put}
+use Rattle.words.proofs.Put.{take-put}
 use Rattle.rules.specs.declared.Request.{Request}
-use Rattle.rules.specs.Answers.{passes}
-use Rattle.rules.specs.Station.{versionWidth, width, limit, stationOf, station}
-use Rattle.rules.specs.Table.{tableVerdict}
+use Rattle.rules.specs.Station.{width, station}
 use Rattle.rules.specs.Status.{status}
-use Rattle.rules.specs.Calls.{ownCall, ownCalls, ownLast}
 use Rattle.rules.specs.Check.{conformingTo}
-use Rattle.rules.specs.Outcomes.{planRoom, planned, ofBytes}
-use Rattle.rules.specs.BringUp.{bringUpList, conformingToBringUp}
-use Rattle.laws.specs.Demand3.{neededBefore, neededAfter}
+use Rattle.rules.specs.Outcomes.{listRoom, ofBytes}
+use Rattle.rules.specs.BringUp.{bringUpList, stateBroughtUp, conformingToBringUp}
 use Rattle.laws.proofs.Tests.{both-true}
-use Rattle.laws.proofs.Accepted.{accepted}
-use Rattle.laws.proofs.Stages.{Stages, stages-of, BringUpPassed, bring-up-of}
-use Rattle.laws.proofs.Conform.{conforming-at}
-use Rattle.laws.proofs.Demand3.{able, planner-conforms}
-use Rattle.laws.proofs.BringUpLists.{up-able, own-conforms}
+use Rattle.laws.proofs.Stages.{stages-of, bring-up-of}
 use Rattle.switching.specs.Written.{WrittenPlan}
-use Rattle.switching.proofs.Run.{own-long}
 use Rattle.request.specs.Permitted.{PermittedRequest}
 use Rattle.bringup.specs.Passed.{BringUpState}
 use Rattle.sailgarnet.specs.declared.buffers.ListWords.{ListWords}
 use Rattle.sailgarnet.specs.declared.buffers.ListWords.the-variants.{Words, NotAList}
 use Rattle.sailgarnet.specs.Lists.{wordsInBytes}
-use Rattle.sailgarnet.proofs.Long.{conforms-long}
-
--- 33 words are room for any plan
-pub room-33 : (t : List ℕ) → planRoom (width t) ≡ 33
-unfolding versionWidth width
-room-33 t = refl
-
--- ---- a list that conforms, and the list that is planned, fits a plan
-few : (t : List ℕ) → passes (tableVerdict t) ≡ true → station t .resources ≤ limit (width t)
-unfolding stationOf
-few t e = accepted t e .resources
-
-module _ (t b : List ℕ) (q : Request) (g : Stages t b q) where
-  own-one : length (ownCalls (station t) (status t b) q) ≤ 1
-  own-one = own-long (ownCall (station t) (status t b .entries (q .device)) q)
-
-  pub list-short : (ws : List ℕ) → conformingTo (station t) (status t b) q ws ≡ true → length ws ≤ planRoom (width t)
-  list-short ws e =
-      let own = ownCalls (station t) (status t b) q in
-      let l = conforms-long (station t) own (ownLast q) (status t b .on) (neededAfter t b q) (able t b q g) ws
-      (conforming-at (station t) own (ownLast q) (status t b .on) (neededAfter t b q) ws e) in
-      omega (arith, few t (g .table), own-one)
-
-  pub planned-short : length (planned t b q) ≤ planRoom (width t)
-  planned-short =
-      let l = conforms-long (station t) (ownCalls (station t) (status t b) q) (ownLast q) (status t b .on) (neededAfter t b q)
-      (able t b q g)
-      (planned t b q) (planner-conforms t b q g) in
-      omega (arith, few t (g .table), own-one)
-
-module _ (t b : List ℕ) (g : BringUpPassed t b) where
-  pub up-list-short : (ws : List ℕ) → conformingToBringUp (station t) (status t b) ws ≡ true → length ws ≤ planRoom (width t)
-  up-list-short ws e =
-      let l = conforms-long (station t) [] false (status t b .on) (neededBefore t b) (up-able t b g) ws
-      (conforming-at (station t) [] false (status t b .on) (neededBefore t b) ws e) in
-      omega (arith, few t (g .table))
-
-  pub up-short : length (bringUpList t b) ≤ planRoom (width t)
-  up-short =
-      let l = conforms-long (station t) [] false (status t b .on) (neededBefore t b) (up-able t b g)
-      (bringUpList t b) (own-conforms t b g) in
-      omega (arith, few t (g .table))
+use Rattle.switching.proofs.Short.{list-short, up-list-short, up-short}
+use Rattle.planner.proofs.Room.{room-33, words-33, bytes-132}
 
 -- ---- lists
 
@@ -163,22 +114,16 @@ words-read d list ws n e =
 
 pub ruleset lists = (no-list, list-is, list-inside, list-33, words-read)
 
--- ---- the words of a plan as bytes: they fit the buffer of words that they are written into, and the lent bytes
-pub room-words : (t words : List ℕ) → length words ≡ 33 → planRoom (width t) ≤ length words
-room-words t words h = omega (arith, room-33 t)
-
-module _ (t list after : List ℕ) (short : length list ≤ planRoom (width t)) (n : ℕ) (b′ words words′ : List ℕ)
-    (w : WrittenPlan list after words n b′ words′) where
-  pub words-33 : length words ≡ 33 → n ≤ length words′
-  words-33 l =
-      let same = ap length (w .words) ∙ length-put words 0 list (omega (arith, room-33 t)) in
-      omega (arith, same, w .count, room-33 t)
-
-  pub bytes-132 : (m : ℕ) → 4 * planRoom (width t) ≤ m → 4 * n ≤ m
-  bytes-132 m h = omega (arith, w .count)
-
-pub request-room : (t b : List ℕ) (q : Request) → PermittedRequest t b q → length (planned t b q) ≤ planRoom (width t)
-request-room t b q g = planned-short t b q (stages-of true t b q (g .passed))
-
-pub bring-up-room : (t b : List ℕ) → BringUpState t b → length (bringUpList t b) ≤ planRoom (width t)
+pub bring-up-room : (t b : List ℕ) → BringUpState t b → length (bringUpList t b) ≤ listRoom (width t)
 bring-up-room t b g = up-short t b (bring-up-of true t b (g .passed) .0)
+
+-- ---- turn-off calls alone: what is copied from the buffer of one plan
+module _ (t b : List ℕ) (g : BringUpState t b) (n : ℕ) (b′ calls calls′ : List ℕ)
+    (w : WrittenPlan (bringUpList t b) (stateBroughtUp t b) calls n b′ calls′) where
+  pub offs-inside : length calls ≡ 33 → n ≤ length calls′
+  offs-inside l = words-33 t _ _ (bring-up-room t b g) n b′ calls calls′ w l
+
+  pub offs-room : (m : ℕ) → 4 * listRoom (width t) ≤ m → 4 * (0 + n) ≤ m
+  offs-room m h = bytes-132 t _ _ (bring-up-room t b g) n b′ calls calls′ w m h
+
+pub ruleset offs = (offs-inside, offs-room)

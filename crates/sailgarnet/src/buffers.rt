@@ -4,9 +4,13 @@ use rules::Reason;
 use rules::Request;
 use rules::Verdict;
 ghost use mathlib.Core.Path.{_≡_};
+ghost use mathlib.Core.Bool.{true, false};
 ghost use Rattle.rules.specs.Station.{station};
 ghost use Rattle.rules.specs.Status.{status};
 ghost use Rattle.rules.specs.Check.{conformingTo};
+ghost use Rattle.rules.specs.declared.Verdict.the-variants.{Done};
+ghost use Rattle.rules.specs.Table.{tableVerdict};
+ghost use Rattle.rules.specs.Sleep.{isSleep};
 ghost use Rattle.request.specs.Permitted.{PermittedRequest};
 ghost use Rattle.rules.specs.Outcomes.{ofBytes, planBytes, checkBytes};
 ghost use Rattle.rules.specs.BringUp.{bringUpBytes, conformingToBringUp, checkBringUpBytes};
@@ -15,13 +19,46 @@ ghost use Rattle.laws.specs.BringUp.{BringUpCheckedBytes};
 ghost use Rattle.bringup.specs.Passed.{BringUpState};
 ghost use Rattle.sailgarnet.specs.Lists.{wordsInBytes};
 
+// Plans a request of any kind but 4 on a plan of bytes, for an accepted table.
+fn request_bytes(table: &[u8], state: &mut [u8], q: Request, plan: &mut [u8]) -> Verdict
+    requires { ⌜ (isSleep q ≡ false) × (tableVerdict (now table) ≡ Done 0) ⌝ }
+    ensures { λ r. ⌜ (r ≡ planBytes (now (table .entry)) (now (state .entry)) q (now (plan .entry)) .verdict)
+        × (now (state .exit) ≡ planBytes (now (table .entry)) (now (state .entry)) q (now (plan .entry)) .state)
+        × (now (plan .exit) ≡ planBytes (now (table .entry)) (now (state .entry)) q (now (plan .entry)) .plan) ⌝ }
+{
+    let room = plan.len() >= 4 * switching::write::room(table);
+    let v = request::stages::past_table(table, state, room, q);
+    if !rules::passes(v) {
+        return v;
+    }
+    let mut calls = [0u32; 33];
+    let n = planner::plan::write_plan(table, state, q, &mut calls);
+    words::write_words(&calls, n, plan, 0);
+    Verdict::Done(n)
+}
+
+// Plans sleep entry on a plan of bytes, for an accepted table.
+fn sleep_bytes(table: &[u8], state: &mut [u8], q: Request, plan: &mut [u8]) -> Verdict
+    requires { ⌜ (isSleep q ≡ true) × (tableVerdict (now table) ≡ Done 0) ⌝ }
+    ensures { λ r. ⌜ (r ≡ planBytes (now (table .entry)) (now (state .entry)) q (now (plan .entry)) .verdict)
+        × (now (state .exit) ≡ planBytes (now (table .entry)) (now (state .entry)) q (now (plan .entry)) .state)
+        × (now (plan .exit) ≡ planBytes (now (table .entry)) (now (state .entry)) q (now (plan .entry)) .plan) ⌝ }
+{
+    let room = plan.len() >= 4 * planner::moves::room(table);
+    let mut chosen = [0u8; 32];
+    let v = sleep::stages::past_table(table, state, room, q, &mut chosen);
+    if !rules::passes(v) {
+        return v;
+    }
+    Verdict::Done(crate::moves::write_choice(table, state, &chosen, plan))
+}
+
 // Plans one request on a plan of bytes.
 pub fn plan_bytes(table: &[u8], state: &mut [u8], q: Request, plan: &mut [u8]) -> Verdict
     ensures { λ r. ⌜ (r ≡ planBytes (now (table .entry)) (now (state .entry)) q (now (plan .entry)) .verdict)
         × (now (state .exit) ≡ planBytes (now (table .entry)) (now (state .entry)) q (now (plan .entry)) .state)
         × (now (plan .exit) ≡ planBytes (now (table .entry)) (now (state .entry)) q (now (plan .entry)) .plan) ⌝ }
 {
-    let room = plan.len() >= 4 * switching::write::room(table);
     if !table::header::header_good(table) {
         return Verdict::Refused(Reason::NotATable, 0);
     }
@@ -29,14 +66,10 @@ pub fn plan_bytes(table: &[u8], state: &mut [u8], q: Request, plan: &mut [u8]) -
     if !rules::passes(of_table) {
         return of_table;
     }
-    let v = request::stages::past_table(table, state, room, q);
-    if !rules::passes(v) {
-        return v;
+    if q.kind == 4 {
+        return sleep_bytes(table, state, q, plan);
     }
-    let mut calls = [0u32; 33];
-    let n = planner::plan::write_plan(table, state, q, &mut calls);
-    words::write_words(&calls, n, plan);
-    Verdict::Done(n)
+    request_bytes(table, state, q, plan)
 }
 
 // How many words a list of bytes has, or that it cannot conform.
@@ -114,7 +147,7 @@ pub fn bring_up_bytes(table: &[u8], state: &mut [u8], plan: &mut [u8]) -> Verdic
     }
     let mut calls = [0u32; 33];
     let n = bringup::bring_up::write_bring_up(table, state, &mut calls);
-    words::write_words(&calls, n, plan);
+    words::write_words(&calls, n, plan, 0);
     Verdict::Done(n)
 }
 

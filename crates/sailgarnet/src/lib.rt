@@ -1,18 +1,22 @@
 // The functions for C: numbers and byte slices in, one number out.
 pub mod buffers;
+mod moves;
 
 use rules::Request;
 use rules::Verdict;
 ghost use mathlib.Core.Path.{_≡_};
+ghost use mathlib.Core.Bool.{true, false};
 ghost use Prim.Native.Nat.{_<_};
 ghost use lib.ListN.{length};
 ghost use Rattle.rules.specs.Answers.{placeOf, countOf};
+ghost use Rattle.rules.specs.Sleep.{isSleep};
 ghost use Rattle.rules.specs.Outcomes.{fresh, planBytes, checkBytes};
 ghost use Rattle.rules.specs.BringUp.{bringUpBytes, checkBringUpBytes};
 ghost use Rattle.rules.specs.Write.{write, describe};
 ghost use Rattle.laws.specs.Inverse.{WrittenDescribes, DescribedMakes, AnswersAsReader};
 ghost use Rattle.laws.specs.Demand2.{Demand2Bytes};
 ghost use Rattle.laws.specs.Demand3.{Demand3Bytes};
+ghost use Rattle.laws.specs.Sleep.{SleepEntryBytes};
 ghost use Rattle.laws.specs.BringUp.{BringsUpBytes, BringUpCheckedBytes};
 ghost use Rattle.sailgarnet.specs.Packed.{packed, numberIn, countIn, placeIn, Reads, asked};
 
@@ -53,8 +57,10 @@ pub extern "C" fn sailgarnet_plan(
         (now (plan .entry)) .state ⌝ }
     ensures plan { λ _. ⌜ now (plan .exit) ≡ planBytes (now (table .entry)) (now (state .entry)) (asked kind device a b)
         (now (plan .entry)) .plan ⌝ }
-    ensures demand { λ r. ⌜ Demand2Bytes (now (table .entry)) (now (state .entry)) (asked kind device a b) (now (plan .entry))
-        (numberIn r) (countIn r) (now (state .exit)) (now (plan .exit)) ⌝ }
+    ensures demand { λ r. ⌜ (isSleep (asked kind device a b) ≡ false → Demand2Bytes (now (table .entry)) (now (state .entry))
+        (asked kind device a b) (now (plan .entry)) (numberIn r) (countIn r) (now (state .exit)) (now (plan .exit))) ⌝ }
+    ensures sleep { λ r. ⌜ (isSleep (asked kind device a b) ≡ true → SleepEntryBytes (now (table .entry)) (now (state .entry))
+        (asked kind device a b) (now (plan .entry)) (numberIn r) (countIn r) (now (state .exit)) (now (plan .exit))) ⌝ }
 {
     pack(crate::buffers::plan_bytes(table, state, Request { kind, device, a, b }, plan))
 }

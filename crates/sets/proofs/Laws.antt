@@ -2,11 +2,12 @@
 -- its members.
 use mathlib.Core.Path.{_≡_, refl, sym, ap, _∙_}
 use mathlib.Core.Bool.{Bool, true, false, cond, not, _||_, _&&_, and-true, and-false, true≢false}
-use Prim.Native.Nat.{ℕ, zero, suc, _-_, _/_, _%_, _^_, _≤_, _<_, suc-le-suc}
+use Prim.Native.Nat.{ℕ, zero, suc, _+_, _-_, _/_, _%_, _^_, _≤_, _<_, suc-le-suc}
 use native.Mathlib.Nat.{pow-suc, zero-div, div-eq-of-lt, le-trans, lt-of-le-of-lt, le-max-left}
 use native.Mathlib.Omega.{arith}
 use lib.Arith.{bin-ind}
-use lib.Bits.{bitAnd, bitOr, bitXor, or-step, and-le-l, or-lt, xor-lt, and-shr, or-shr, xor-shr, and-mod, or-mod, xor-mod}
+use lib.Bits.{bitAnd, bitOr, bitXor, or-step, or-zero-l, or-comm, and-le-l, or-lt, xor-lt, and-shr, or-shr, xor-shr}
+use lib.Bits.{and-mod, or-mod, xor-mod}
 use lib.Dec.{eqb, ltb, eqb·zero-suc, eqb·suc-zero, eqb·suc-suc, leb·suc-suc}
 use lib.Pow.{pow-pos, pow-mono}
 use borrow.Author.Tests.{eqb-true, eqb-false, eq-eqb, ne-eqb, ltb-true, ltb-false, lt-ltb, le-ltb, not-false}
@@ -110,6 +111,36 @@ ext (suc w) a b ha hb e =
 
 pub empty : (w s : ℕ) → s < 2 ^ w → ((r : ℕ) → r < w → member s r ≡ false) → s ≡ 0
 empty w s h f = ext w s 0 h (pow-pos w) (λ r l. f r l ∙ sym (member-none r))
+
+-- ---- unions of several sets
+
+-- every number is a set of some width, so the laws of members hold of any
+bounded : (n : ℕ) → n < 2 ^ n
+bounded zero = omega arith
+bounded (suc n) = omega (arith, pow-suc 2 n, bounded n)
+
+or-thrice : (x y z : Bool) → (x || y) || z ≡ x || (y || z)
+or-thrice true y z = refl
+or-thrice false y z = refl
+
+pub union-assoc : (a b c : ℕ) → union (union a b) c ≡ union a (union b c)
+union-assoc a b c =
+    let w = a + b + c in
+    let wide = bounded w in
+    let small : (n : ℕ) → n ≤ w → n < 2 ^ w = λ n h. omega (arith, wide) in
+    let ab = union-lt w a b (small a (omega arith)) (small b (omega arith)) in
+    let bc = union-lt w b c (small b (omega arith)) (small c (omega arith)) in
+    ext w _ _ (union-lt w (union a b) c ab (small c (omega arith))) (union-lt w a (union b c) (small a (omega arith)) bc)
+    (λ r l. rw (member-union (union a b) c r, member-union a b r, member-union a (union b c) r, member-union b c r)
+    (or-thrice (member a r) (member b r) (member c r)))
+
+pub union-comm : (a b : ℕ) → union a b ≡ union b a
+unfolding union
+union-comm a b = or-comm a b
+
+pub union-empty : (a : ℕ) → union 0 a ≡ a
+unfolding union
+union-empty a = or-zero-l a
 
 -- ---- all of a is in b
 

@@ -4,4 +4,5 @@ pub mod Ranges
 pub mod Loops
 pub mod Keeps
 pub mod Chains
+pub mod Filled
 pub mod NeededLaws

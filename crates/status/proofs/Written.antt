@@ -15,10 +15,11 @@ use Rattle.rules.specs.declared.State.{State}
 use Rattle.rules.specs.declared.Entry.{Entry}
 use Rattle.rules.specs.declared.Request.{Request}
 use Rattle.rules.specs.Station.{versionWidth, width, limit, station}
-use Rattle.rules.specs.Status.{entryAt, entryBytes, entriesOf, statusOf, status, imageOf, imageSize}
-use Rattle.rules.specs.Request.{newEntry, replaceEntry, entriesAfter}
+use Rattle.rules.specs.Status.{entryAt, entryBytes, entriesOf, entries, statusOf, status, imageOf, imageSize}
+use Rattle.rules.specs.Request.{inState, newEntry, replaceEntry, entriesAfter}
 use Rattle.rules.specs.Calls.{endSet, statusAfter}
 use Rattle.rules.specs.Outcomes.{stateAfter}
+use Rattle.status.specs.Ready.{statusWith, inStateWith}
 use Rattle.status.specs.State.{loadState, storeState, statusIn, withEntry}
 use Rattle.status.proofs.Held.{entry-in, entry-out, entry-same, entries-of, image-of}
 
@@ -84,6 +85,49 @@ with-replaced st d e h l =
 pub with-long : (st : State) (d : ℕ) (e : Entry) → length (withEntry st d e .devices) ≡ length (st .devices)
 unfolding withEntry
 with-long st d e = length-sets (st .devices) (4 * d) (entryBytes e)
+
+-- a state written in the image itself
+module _ (t b : List ℕ) (d y : ℕ) (h : d < limit (width t)) (l : length b ≡ imageSize (width t)) where
+  abbrev changed : List ℕ
+  changed = set b (4 * d) y
+
+  state-in : entries t changed d ≡ inState (entries t b d) y
+  unfolding entryAt
+  state-in =
+      let other : (j : ℕ) → 0 < j → getD changed (4 * d + j) 0 ≡ getD b (4 * d + j) 0 =
+      λ j g. getD-set-other b (4 * d) (4 * d + j) y 0 (λ e. omega arith) in
+      entry-in (width t) changed d h
+      ∙ rw (getD-set-same b (4 * d) y 0 (omega arith), other 1 (omega arith), other 2 (omega arith), other 3 (omega arith))
+      (ap (λ (e : Entry). inState e y) (sym (entry-in (width t) b d h)))
+
+  others-in : (k : ℕ) → (k ≡ d → ⊥) → entries t changed k ≡ entries t b k
+  others-in k n =
+      decide (ltb k (limit (width t)))
+      (λ a. entry-in (width t) changed k (ltb-true k _ a)
+      ∙ entry-same changed b (4 * k) (λ i g. getD-set-other b (4 * d) (4 * k + i) y 0 (λ e. n (omega arith)))
+      ∙ sym (entry-in (width t) b k (ltb-true k _ a)))
+      (λ a. entry-out (width t) changed k (ltb-false k _ a) ∙ sym (entry-out (width t) b k (ltb-false k _ a)))
+
+  pub state-replaced : entries t changed ≡ replaceEntry (entries t b) d (inState (entries t b d) y)
+  unfolding replaceEntry
+  state-replaced =
+      fun-ext (λ k. decide (eqb k d) (λ z. rw (z, eqb-true k d z) state-in) (λ z. rw z (others-in k (eqb-false k d z))))
+
+  pub state-image : (on : ℕ) (b′ : List ℕ) → b′ ≡ imageOf (width t) (statusWith t changed on)
+      → b′ ≡ imageOf (width t) (inStateWith t b d y on)
+  state-image on b′ e = e ∙ rw state-replaced refl
+
+  pub state-inside : 4 * d < length b
+  state-inside = omega arith
+
+  pub state-long : length changed ≡ imageSize (width t)
+  state-long = simp length-set l
+
+-- and what has its length has the length of the whole
+pub set-same : (b b′ : List ℕ) (i y : ℕ) → length b′ ≡ length (set b i y) → length b′ ≡ length b
+set-same b b′ i y e = e ∙ length-set b i y
+
+pub ruleset in-image = (state-image, state-inside, state-long, set-same)
 
 -- the state with the request's new entry and the set at its end is the one after the request
 pub after-image : (t b : List ℕ) (q : Request) (e : Entry) (on : ℕ) → length b ≡ imageSize (width t) → q .device < limit (width t)

@@ -7,6 +7,7 @@ use lib.ListN.{length}
 use Rattle.rules.specs.Station.{width, limit, countD, station}
 use Rattle.rules.specs.Table.{parentGood}
 use Rattle.rules.specs.Status.{Status, entriesSize, entries, entriesGood}
+use Rattle.rules.specs.Request.{inState, replaceEntry}
 use Rattle.table.specs.Layout.{WellSized}
 
 pub record Ready (t b : List ℕ) : Type 0 where
@@ -18,3 +19,7 @@ pub record Ready (t b : List ℕ) : Type 0 where
 -- the status of these bytes with an on-set
 abbrev pub statusWith : List ℕ → List ℕ → ℕ → Status
 statusWith t b on = record { entries = entries t b; on = on }
+
+-- the same with device d in state y
+abbrev pub inStateWith : List ℕ → List ℕ → ℕ → ℕ → ℕ → Status
+inStateWith t b d y on = record { entries = replaceEntry (entries t b) d (inState (entries t b d) y); on = on }

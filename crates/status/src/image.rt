@@ -2,9 +2,9 @@
 ghost use mathlib.Core.Path.{_≡_};
 ghost use Prim.Native.Nat.{_+_, _*_, _<_, _≤_};
 ghost use lib.ListN.{length};
-ghost use Rattle.rules.specs.Station.{width};
+ghost use Rattle.rules.specs.Station.{width, limit};
 ghost use Rattle.rules.specs.Status.{entryAt, imageSize, imageOf, status};
-ghost use Rattle.status.specs.Ready.{statusWith};
+ghost use Rattle.status.specs.Ready.{statusWith, inStateWith};
 ghost use Rattle.status.specs.State.{loadState, storeState, freshState, withEntry};
 
 // Every device in D0, none armed, the given number of resources on.
@@ -71,6 +71,16 @@ pub fn set_on(table: &[u8], image: &mut [u8], on: u32)
         (statusWith (now (table .entry)) (now (image .entry)) on) ⌝ }
 {
     words::write32(image, 32 * table::fields::width(table), on);
+}
+
+// Device d in state y and another on-set, in the image itself: a state by value would be copied twice for it.
+pub fn set_state(table: &[u8], image: &mut [u8], d: usize, y: u8, on: u32)
+    requires { ⌜ (length (now image) ≡ imageSize (width (now table))) × (d < limit (width (now table))) ⌝ }
+    ensures { λ _. ⌜ now (image .exit) ≡ imageOf (width (now (table .entry)))
+        (inStateWith (now (table .entry)) (now (image .entry)) d y on) ⌝ }
+{
+    image[4 * d] = y;
+    set_on(table, image, on);
 }
 
 // Device d's entry, of bytes that start with the device part.

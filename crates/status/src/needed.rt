@@ -8,7 +8,7 @@ ghost use Rattle.rules.specs.Power.{needed};
 ghost use Rattle.rules.specs.Status.{entriesSize, entries};
 ghost use Rattle.rules.specs.Request.{replaceEntry};
 ghost use Rattle.table.specs.Layout.{WellSized};
-ghost use Rattle.status.specs.Needs.{neededFrom};
+ghost use Rattle.status.specs.Needs.{neededFrom, belowEach};
 
 // A set with what the devices from one number up to another need.
 fn needed_from(table: &[u8], devices: &[u8], set: u32, from: usize, end: usize) -> u32
@@ -34,8 +34,25 @@ pub fn needed(table: &[u8], devices: &[u8]) -> u32
     needed_from(table, devices, 0, 0, table::fields::devices(table))
 }
 
-// The same with e for device d's entry: so no caller writes an entry to learn what it would need. The devices before d and after it go by
-// turns of their own, so that no turn asks which device it is at.
+// For each device what those below it need, from the start of `out`.
+pub fn needed_below(table: &[u8], devices: &[u8], out: &mut [u32])
+    requires { ⌜ WellSized (now table) × (entriesSize (width (now table)) ≤ length (now devices))
+        × (countD (now table) ≤ length (now out)) ⌝ }
+    ensures { λ _. ⌜ now (out .exit) ≡ belowEach (now (table .entry)) (now (devices .entry)) (now (out .entry)) ⌝ }
+{
+    let n = table::fields::devices(table);
+    let mut all: u32 = 0;
+    let mut i = 0;
+    while i < n {
+        out[i] = all;
+        let e = crate::image::entry(devices, i);
+        all = sets::union(all, power::needs(table, i, e));
+        i += 1;
+    }
+}
+
+// The needed set with e for device d's entry: so no caller writes an entry to learn what it would need. The devices before d and after it
+// go by turns of their own, so that no turn asks which device it is at.
 pub fn needed_with(table: &[u8], devices: &[u8], d: usize, e: Entry) -> u32
     requires { ⌜ WellSized (now table) × (entriesSize (width (now table)) ≤ length (now devices)) × (d < countD (now table)) ⌝ }
     ensures { λ r. ⌜ r ≡ needed (station (now (table .entry))) (replaceEntry (entries (now (table .entry)) (now (devices .entry))) d e) ⌝ }

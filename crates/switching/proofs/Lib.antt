@@ -4,3 +4,5 @@ pub mod Run
 pub mod Switched
 pub mod Phase
 pub mod Walks
+pub mod Long
+pub mod Short

@@ -16,7 +16,7 @@ use Rattle.rules.specs.declared.OptionalCall.{OptionalCall}
 use Rattle.rules.specs.declared.OptionalCall.the-variants.{Is, NoCall}
 use Rattle.rules.specs.declared.Switching.{Switching}
 use Rattle.rules.specs.Calls.{wordOf, listOf, membersFrom, earlier, orderIn, rising, arrange, switchingWords}
-use Rattle.rules.specs.Outcomes.{planRoom}
+use Rattle.rules.specs.Outcomes.{listRoom}
 use Rattle.laws.proofs.Sort.{length-sort}
 use Rattle.table.specs.Layout.{WellSized}
 use Rattle.calls.specs.Ranges.{OptionalInRange}
@@ -140,7 +140,7 @@ module _ (t : List ℕ) (c : Switching) where
     pub own-good : OptionalInRange (c .own)
     own-good = g .own
 
-    module _ (d : List ℕ) (z : WellSized t) (h : planRoom (width t) ≤ length d) where
+    module _ (d : List ℕ) (z : WellSized t) (h : listRoom (width t) ≤ length d) where
       pub own-first-room : 0 + length (listOf (c .own)) ≤ length d
       own-first-room = omega (arith, runs-fit, z .resources)
 

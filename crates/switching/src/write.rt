@@ -5,20 +5,21 @@ use rules::OptionalCall;
 use rules::Switching;
 ghost use mathlib.Core.Path.{_≡_};
 ghost use mathlib.Core.List.{map};
+ghost use mathlib.Core.Bool.{false};
 ghost use Prim.Native.Nat.{_+_, _≤_};
 ghost use lib.ListN.{length};
 ghost use Rattle.words.specs.Words.{put};
 ghost use Rattle.rules.specs.Station.{width, station};
 ghost use Rattle.rules.specs.Calls.{wordOf, listOf, switchingWords};
-ghost use Rattle.rules.specs.Outcomes.{planRoom};
+ghost use Rattle.rules.specs.Outcomes.{listRoom};
 ghost use Rattle.table.specs.Layout.{WellSized};
 ghost use Rattle.calls.specs.Ranges.{OptionalInRange};
 ghost use Rattle.calls.specs.Phases.{phaseWords};
 ghost use Rattle.switching.specs.Switching.{GoodSwitching};
 
-// The words that a plan must have room for.
+// The words that a list has room for in a plan.
 pub fn room(table: &[u8]) -> usize
-    ensures { λ r. ⌜ (r ≡ planRoom (width (now (table .entry)))) × (r ≤ 65) ⌝ }
+    ensures { λ r. ⌜ (r ≡ listRoom (width (now (table .entry)))) × (r ≤ 65) ⌝ }
 {
     table::fields::limit(table) + 1
 }
@@ -48,17 +49,29 @@ pub fn write_switches(table: &[u8], added: u32, removed: u32, plan: &mut [u32], 
     emit(table, true, removed, plan, p)
 }
 
-// The words of all calls, from the start of the plan. The answer is their count.
-pub fn write_calls(table: &[u8], c: Switching, plan: &mut [u32]) -> usize
-    requires { ⌜ WellSized (now table) × GoodSwitching (now table) c × (planRoom (width (now table)) ≤ length (now plan)) ⌝ }
+// The words of all calls where the own call comes first, from the start of the plan. The answer is their count. Small enough for the
+// compiler to put it into both its callers.
+pub fn write_own_first(table: &[u8], c: Switching, plan: &mut [u32]) -> usize
+    requires { ⌜ WellSized (now table) × GoodSwitching (now table) c × (listRoom (width (now table)) ≤ length (now plan))
+        × (c .last ≡ false) ⌝ }
     ensures { λ r. ⌜ (r ≡ length (switchingWords (station (now (table .entry))) c))
         × (now (plan .exit) ≡ put (now (plan .entry)) 0 (switchingWords (station (now (table .entry))) c)) ⌝ }
 {
     let own = c.own;
+    let p = write_own(own, plan, 0);
+    write_switches(table, c.added, c.removed, plan, p)
+}
+
+// The words of all calls, from the start of the plan. The answer is their count.
+pub fn write_calls(table: &[u8], c: Switching, plan: &mut [u32]) -> usize
+    requires { ⌜ WellSized (now table) × GoodSwitching (now table) c × (listRoom (width (now table)) ≤ length (now plan)) ⌝ }
+    ensures { λ r. ⌜ (r ≡ length (switchingWords (station (now (table .entry))) c))
+        × (now (plan .exit) ≡ put (now (plan .entry)) 0 (switchingWords (station (now (table .entry))) c)) ⌝ }
+{
     if c.last {
+        let own = c.own;
         let p = write_switches(table, c.added, c.removed, plan, 0);
         return write_own(own, plan, p);
     }
-    let p = write_own(own, plan, 0);
-    write_switches(table, c.added, c.removed, plan, p)
+    write_own_first(table, c, plan)
 }

@@ -15,43 +15,58 @@ use Rattle.words.proofs.Put.{Emitted, emitted-none, emitted-run, emitte
 pub copy-starts : (d from : List ℕ) (at : ℕ) → Emitted d at (take 0 from) d (at + 0)
 copy-starts d from at = rw (add-zero at) (emitted-none d at)
 
-pub copy-next : {d l : List ℕ} {at : ℕ} (from : List ℕ) (i : ℕ) → Emitted d at (take i from) l (at + i) → i < length from
-    → at + length from ≤ length d → Emitted d at (take (i + 1) from) (set l (at + i) (getD from i 0)) (at + (i + 1))
-copy-next {at = at} from i e h k =
-    let p : at + (i + 1) ≡ at + i + 1 = omega arith in
-    rw p (emitted-copy from i e h (omega arith))
+-- the first n of them
+module _ {d l : List ℕ} {at : ℕ} (from : List ℕ) (i n : ℕ) (e : Emitted d at (take i from) l (at + i)) where
+  pub part-next : i < n → n ≤ length from → at + n ≤ length d
+      → Emitted d at (take (i + 1) from) (set l (at + i) (getD from i 0)) (at + (i + 1))
+  part-next h m k =
+      let p : at + (i + 1) ≡ at + i + 1 = omega arith in
+      rw p (emitted-copy from i e (omega arith) (omega arith))
 
-pub copy-done : {d l : List ℕ} {at : ℕ} (from : List ℕ) (i : ℕ) → Emitted d at (take i from) l (at + i) → i ≤ length from → length from ≤ i
-    → l ≡ put d at from
-copy-done from i e h k = rw (take-all i from k) at (e .list)
+  pub part-done : i ≤ n → n ≤ i → l ≡ put d at (take n from)
+  part-done h k = let q : i ≡ n = omega arith in rw q at (e .list)
 
--- each store has room
-pub copy-room : {d l : List ℕ} {at : ℕ} (from : List ℕ) (i : ℕ) → Emitted d at (take i from) l (at + i) → i < length from
-    → at + length from ≤ length d → at + i < length l
-copy-room from i e h k = omega (arith, e .long)
+  -- each store has room
+  pub part-room : i < n → at + n ≤ length d → at + i < length l
+  part-room h k = omega (arith, e .long)
+
+pub ruleset parting = (copy-starts, part-next, part-done, part-room)
+
+-- all of them
+module _ {d l : List ℕ} {at : ℕ} (from : List ℕ) (i : ℕ) (e : Emitted d at (take i from) l (at + i)) where
+  pub copy-next : i < length from → at + length from ≤ length d
+      → Emitted d at (take (i + 1) from) (set l (at + i) (getD from i 0)) (at + (i + 1))
+  copy-next h k = part-next from i (length from) e h (omega arith) k
+
+  pub copy-done : i ≤ length from → length from ≤ i → l ≡ put d at from
+  copy-done h k = rw (take-all (length from) from (omega arith)) at (part-done from i (length from) e h k)
+
+  pub copy-room : i < length from → at + length from ≤ length d → at + i < length l
+  copy-room h k = part-room from i (length from) e h k
 
 pub ruleset copying = (copy-starts, copy-next, copy-done, copy-room)
 
 -- ---- words into bytes
-pub write-starts : (d from : List ℕ) → Emitted d 0 (wordBytes (take 0 from)) d (4 * 0)
-unfolding wordBytes
-write-starts d from = emitted-none d 0
+module _ (d from : List ℕ) (at : ℕ) where
+  pub write-starts : Emitted d (4 * at) (wordBytes (take 0 from)) d (4 * (at + 0))
+  unfolding wordBytes
+  write-starts = rw (add-zero at) (emitted-none d (4 * at))
 
--- a turn: the next word has room, and is put after those that stand there
-module _ (d l from : List ℕ) (i n : ℕ) (e : Emitted d 0 (wordBytes (take i from)) l (4 * i)) (h : i < n) (k : 4 * n ≤ length d) where
-  pub write-room : 4 * i + 4 ≤ length l
-  write-room = omega (arith, e .long)
+  -- a turn: the next word has room, and is put after those that stand there
+  module _ (l : List ℕ) (i n : ℕ) (e : Emitted d (4 * at) (wordBytes (take i from)) l (4 * (at + i))) where
+    pub write-room : i < n → 4 * (at + n) ≤ length d → 4 * (at + i) + 4 ≤ length l
+    write-room h k = omega (arith, e .long)
 
-  pub write-next : (l′ : List ℕ) → n ≤ length from → l′ ≡ put l (4 * i) (bytesLE 4 (getD from i 0))
-      → Emitted d 0 (wordBytes (take (i + 1) from)) l′ (4 * (i + 1))
-  write-next l′ m p =
-      let w = bytesLE 4 (getD from i 0) in
-      let size = bytes-length 4 (getD from i 0) in
-      rw (word-bytes-one from i (omega arith)) (emitted-run w e (omega arith, p) (omega arith))
+    pub write-next : i < n → 4 * (at + n) ≤ length d → (l′ : List ℕ) → n ≤ length from
+        → l′ ≡ put l (4 * (at + i)) (bytesLE 4 (getD from i 0))
+        → Emitted d (4 * at) (wordBytes (take (i + 1) from)) l′ (4 * (at + (i + 1)))
+    write-next h k l′ m p =
+        let w = bytesLE 4 (getD from i 0) in
+        let size = bytes-length 4 (getD from i 0) in
+        rw (word-bytes-one from i (omega arith)) (emitted-run w e (omega arith, p) (omega arith))
 
-pub write-done : (d l from : List ℕ) (i n : ℕ) → Emitted d 0 (wordBytes (take i from)) l (4 * i) → i ≤ n → n ≤ i
-    → l ≡ put d 0 (wordBytes (take n from))
-write-done d l from i n e h k = let q : i ≡ n = omega arith in rw q at (e .list)
+    pub write-done : i ≤ n → n ≤ i → l ≡ put d (4 * at) (wordBytes (take n from))
+    write-done h k = let q : i ≡ n = omega arith in rw q at (e .list)
 
 pub ruleset writing = (write-starts, write-room, write-next, write-done)
 

@@ -73,14 +73,26 @@ pub fn copy(from: &[u8], out: &mut [u8], at: usize)
     }
 }
 
-// The first n words, written from the start of the bytes.
-pub fn write_words(from: &[u32], n: usize, out: &mut [u8])
-    requires { ⌜ (n ≤ length (now from)) × (4 * n ≤ length (now out)) ⌝ }
-    ensures { λ _. ⌜ now (out .exit) ≡ put (now (out .entry)) 0 (wordBytes (take n (now (from .entry)))) ⌝ }
+// The first n words, from word `at` on.
+pub fn copy_words(from: &[u32], n: usize, out: &mut [u32], at: usize)
+    requires { ⌜ (n ≤ length (now from)) × (at + n ≤ length (now out)) ⌝ }
+    ensures { λ _. ⌜ now (out .exit) ≡ put (now (out .entry)) at (take n (now (from .entry))) ⌝ }
 {
     let mut i = 0;
     while i < n {
-        write32(out, 4 * i, from[i]);
+        out[at + i] = from[i];
+        i += 1;
+    }
+}
+
+// The first n words, written as bytes, from the bytes of word `at` on.
+pub fn write_words(from: &[u32], n: usize, out: &mut [u8], at: usize)
+    requires { ⌜ (n ≤ length (now from)) × (4 * (at + n) ≤ length (now out)) ⌝ }
+    ensures { λ _. ⌜ now (out .exit) ≡ put (now (out .entry)) (4 * at) (wordBytes (take n (now (from .entry)))) ⌝ }
+{
+    let mut i = 0;
+    while i < n {
+        write32(out, 4 * (at + i), from[i]);
         i += 1;
     }
 }

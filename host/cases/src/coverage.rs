@@ -2,11 +2,16 @@
 
 use std::fmt;
 
-use reference::Answer;
+use reference::{Answer, Request};
+
+use crate::sleep::SLEEP;
+
+/// There are answers with the numbers below this one.
+const ANSWERS: u8 = 22;
 
 /// How often a function gave each answer number at each place.
 #[derive(Clone, Default)]
-pub struct Counts([[u64; 32]; 20]);
+pub struct Counts([[u64; 32]; ANSWERS as usize]);
 
 impl Counts {
     /// Counts one answer.
@@ -21,7 +26,7 @@ impl Counts {
 
     /// Fails unless exactly these answers were given, each at least `least` times.
     pub fn must_be(&self, name: &str, answers: &[u8], least: u64) {
-        for number in 0..20 {
+        for number in 0..ANSWERS {
             let count = self.of(number);
             if answers.contains(&number) {
                 assert!(count >= least, "{name} gave {number} only {count} times");
@@ -41,10 +46,12 @@ impl Counts {
     }
 }
 
-/// The answers the planner can give: 19 is the checker's.
+/// The answers the planner can give, but to sleep entry: 19 is the checker's.
 pub const PLANNER: &[u8] = &[
     0, 1, 2, 3, 4, 5, 6, 7, 8, 9, 10, 11, 12, 13, 14, 15, 16, 17, 18,
 ];
+/// The answers the planner can give to sleep entry.
+pub const SLEEP_ENTRY: &[u8] = &[0, 1, 2, 3, 4, 5, 6, 7, 8, 9, 10, 20, 21];
 /// The answers the checker can give: 9 is the planner's.
 pub const CHECKER: &[u8] = &[
     0, 1, 2, 3, 4, 5, 6, 7, 8, 10, 11, 12, 13, 14, 15, 16, 17, 18, 19,
@@ -62,14 +69,18 @@ pub const BRING_UP_CHECKER: &[u8] = &[0, 1, 2, 3, 4, 5, 6, 7, 8, 19];
 
 /// The answers of the writer that must be given at every place.
 pub const WRITER_PLACES: &[u8] = &[4, 5, 6];
+/// Those of sleep entry.
+pub const SLEEP_PLACES: &[u8] = &[4, 5, 6, 8, 20];
 /// Those of bring-up and of its checker.
 pub const BRING_UP_PLACES: &[u8] = &[4, 5, 6, 8];
 
 /// The answers of all functions.
 #[derive(Clone, Default)]
 pub struct Coverage {
-    /// The planner's.
+    /// The planner's, but to sleep entry.
     pub planner: Counts,
+    /// The planner's to sleep entry.
+    pub sleep_entry: Counts,
     /// The checker's.
     pub checker: Counts,
     /// Those for a fresh state.
@@ -89,9 +100,18 @@ pub struct Coverage {
 type Function<'a> = (&'static str, &'a Counts, &'static [u8], &'static [u8]);
 
 impl Coverage {
-    fn functions(&self) -> [Function<'_>; 7] {
+    /// Counts an answer of the planner.
+    pub fn add_planned(&mut self, request: Request, answer: Answer) {
+        match request.kind {
+            SLEEP => self.sleep_entry.add(answer),
+            _ => self.planner.add(answer),
+        }
+    }
+
+    fn functions(&self) -> [Function<'_>; 8] {
         [
             ("planner", &self.planner, PLANNER, &[]),
+            ("sleep entry", &self.sleep_entry, SLEEP_ENTRY, SLEEP_PLACES),
             ("checker", &self.checker, CHECKER, &[]),
             ("fresh", &self.fresh, FRESH, &[]),
             ("writer", &self.writer, WRITER, WRITER_PLACES),
@@ -107,8 +127,8 @@ impl Coverage {
     }
 
     /// Fails unless every answer that can be given was given at least `least`
-    /// times, and no other, and those of the writer and of bring-up that name a
-    /// record or a device were given at every place.
+    /// times, and no other, and those of sleep entry, of the writer and of bring-up
+    /// that name a record or a device were given at every place.
     pub fn must_be_whole(&self, least: u64) {
         for (name, counts, answers, placed) in self.functions() {
             counts.must_be(name, answers, least);
@@ -123,7 +143,7 @@ impl Coverage {
         for (name, ..) in self.functions() {
             write!(f, "{name:>0$}", width(name))?;
         }
-        for number in 0..20 {
+        for number in 0..ANSWERS {
             write!(f, "\n{number:6}")?;
             for (name, counts, answers, _) in self.functions() {
                 let width = width(name);

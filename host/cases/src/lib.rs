@@ -2,18 +2,22 @@
 //!
 //! [`Cases`] gives one case after the other without end. A station is drawn, a
 //! walk of requests leads it from its fresh state or a drawn one through others,
-//! and each step of the walk is a case. Bring-up has the entries of the step and
-//! any resources on. Some cases are damaged on purpose: the table, a state, the
-//! request, the room for the plan, a list, or the description of the station and
-//! the version and room for its table. The same seed gives the same cases.
-//! [`Coverage`] counts the answers they get.
+//! and each step of the walk is a case. Many are sleep entries, for which the armed
+//! devices are in most cases armed for the sleep state asked for. Bring-up has the
+//! entries of the step and any resources on. Some cases are damaged on purpose: the
+//! table, a state, the request, the room for the plan, a list, or the description of
+//! the station and the version and room for its table. The same seed gives the same
+//! cases. [`Coverage`] counts the answers they get.
 //!
-//! [`workloads`] are the inputs to measure, [`sweep`] has small sets of inputs that are gone through completely, and
-//! [`Guarded`] lends a buffer between two runs of bytes that must stay as they are.
+//! [`workloads`] are the inputs to measure, [`sweep`] has small sets of inputs that
+//! are gone through completely, and [`Guarded`] lends a buffer between two runs of
+//! bytes that must stay as they are. [`choices`] finds the choices of a sleep entry
+//! by trying all.
 
 #![forbid(unsafe_code)]
 
 mod bring_up;
+mod choices;
 mod coverage;
 mod damage;
 mod description;
@@ -23,6 +27,7 @@ mod inverse;
 mod lists;
 mod requests;
 mod rng;
+mod sleep;
 mod states;
 mod station;
 pub mod sweep;
@@ -32,11 +37,12 @@ use std::fmt;
 
 use reference::{
     bring_up, fresh, plan, Answer, Request, DESCRIBED_DEVICE_BYTES, DESCRIBED_RESOURCE_BYTES,
-    PLAN_BYTES, STATE_BYTES,
+    PLAN_BYTES, SLEEP_PLAN_BYTES, STATE_BYTES,
 };
 use states::switch_more_on;
 
 pub use bring_up::BringUp;
+pub use choices::{choices, least, may_take, FEW_DEVICES};
 pub use coverage::{Counts, Coverage, WRITER_PLACES};
 pub use damage::{damage_description, damage_state, damage_table};
 pub use description::{Description, VERSIONS};
@@ -44,9 +50,10 @@ pub use faults::{entries_with_fault, faults, good_entries, put_fault, FAULTS};
 pub use guard::Guarded;
 pub use inverse::{inverse_holds, Describe, Write};
 pub use lists::{permute_equal_orders, turn_on_all_needed, vary_bring_up_list, vary_list};
-pub use requests::{any_request, likely_request};
+pub use requests::{any_request, any_sleep, likely_request};
 pub use rng::Rng;
-pub use states::{draw_state, report_any_on};
+pub use sleep::{Sleep, SLEEP};
+pub use states::{arm_for, arm_one_for_another, draw_state, report_any_on};
 pub use station::{Record, Resource, Station, SHAPES};
 pub use workload::{filled_station, workloads, Workload};
 
@@ -111,6 +118,17 @@ impl Case {
             reported: reported.to_vec(),
             plan: vec![0x5a; PLAN_BYTES],
             bring_up_list,
+            ..Self::default()
+        }
+    }
+
+    /// A sleep entry for Sx with room for the plan.
+    pub fn of_sleep(table: &[u8], state: &[u8], x: u32) -> Self {
+        Self {
+            table: table.to_vec(),
+            state: state.to_vec(),
+            request: Request::sleep(x),
+            plan: vec![0x5a; SLEEP_PLAN_BYTES],
             ..Self::default()
         }
     }
@@ -183,8 +201,8 @@ impl Cases {
             self.draw_station();
         }
         self.steps -= 1;
-        self.lend_table_and_state();
         self.lend_request();
+        self.lend_table_and_state();
         self.lend_list_and_step();
         self.lend_buffers();
         self.lend_bring_up();
@@ -230,15 +248,20 @@ impl Cases {
 
     fn lend_table_and_state(&mut self) {
         let (rng, case) = (&mut self.rng, &mut self.case);
+        // There are fewer sleep entries, and every place counts.
+        let rarity = if case.request.kind == SLEEP { 4 } else { 8 };
         case.table.clone_from(&self.table);
-        if rng.one_in(8) {
+        if rng.one_in(rarity) {
             damage_table(rng, &mut case.table);
         }
         case.state.clone_from(&self.state);
+        if case.request.kind == SLEEP {
+            arm_for_sleep(rng, &self.table, &mut case.state, case.request.a);
+        }
         if rng.one_in(4) {
             switch_more_on(rng, &self.table, &mut case.state);
         }
-        if rng.one_in(8) {
+        if rng.one_in(rarity) {
             damage_state(rng, self.table[6].into(), &mut case.state);
         }
     }
@@ -247,18 +270,21 @@ impl Cases {
         let rng = &mut self.rng;
         self.case.request = match rng.below(8) {
             0 => any_request(rng, self.table[6].into()),
+            1..=3 => any_sleep(rng),
             _ => likely_request(rng, &self.table, &self.state),
         };
     }
 
-    /// Plans the request for the sake of its list, and walks on if all was undamaged.
+    /// Plans the request for the sake of its list, and walks on if all was undamaged;
+    /// seldom from a sleep entry, after which few devices can move.
     fn lend_list_and_step(&mut self) {
         let (rng, case) = (&mut self.rng, &mut self.case);
         let mut state = case.state.clone();
         let accepted = set_planned(&mut case.list, |buffer| {
             plan(&case.table, &mut state, case.request, buffer)
         });
-        if accepted && case.table == self.table && !rng.one_in(8) {
+        let times_in_8 = if case.request.kind == SLEEP { 1 } else { 7 };
+        if accepted && case.table == self.table && rng.below(8) < times_in_8 {
             self.state = state;
         }
         let planned = case.list.clone();
@@ -270,12 +296,8 @@ impl Cases {
 
     fn lend_buffers(&mut self) {
         let (rng, case) = (&mut self.rng, &mut self.case);
-        let room = match rng.below(16) {
-            0 => rng.below(PLAN_BYTES),
-            1 => PLAN_BYTES + rng.below(200),
-            _ => PLAN_BYTES,
-        };
-        rng.fill(&mut case.plan, room);
+        let length = room(rng, plan_room(case.request));
+        rng.fill(&mut case.plan, length);
         let room = match rng.below(16) {
             0 => rng.below(2 * STATE_BYTES),
             _ => STATE_BYTES,
@@ -330,9 +352,28 @@ impl Cases {
     }
 }
 
+/// The room for the plan of a request, in bytes.
+fn plan_room(request: Request) -> usize {
+    match request.kind {
+        SLEEP => SLEEP_PLAN_BYTES,
+        _ => PLAN_BYTES,
+    }
+}
+
+/// Arms the devices of a consistent state as a sleep entry for Sx asks for it, in
+/// some cases but for one or two devices, or leaves them.
+fn arm_for_sleep(rng: &mut Rng, table: &[u8], state: &mut [u8], x: u32) {
+    let x = x as u8;
+    let others = rng.pick(&[0, 0, 0, 0, 0, 1, 2]);
+    if !rng.one_in(8) {
+        arm_for(rng, table, state, x);
+        (0..others).for_each(|_| arm_one_for_another(rng, table, state, x));
+    }
+}
+
 /// Makes `list` what a planner writes, and says whether it does.
 fn set_planned(list: &mut Vec<u8>, plan: impl FnOnce(&mut [u8]) -> Answer) -> bool {
-    let mut buffer = [0; PLAN_BYTES];
+    let mut buffer = [0; SLEEP_PLAN_BYTES];
     let answer = plan(&mut buffer);
     list.clear();
     list.extend_from_slice(&buffer[..4 * usize::from(answer.count)]);

@@ -3,6 +3,7 @@
 use reference::{effect, wake_range, Request, Table};
 
 use crate::rng::Rng;
+use crate::sleep::SLEEP;
 
 /// A request of any four numbers, some of them at the edge of their range.
 pub fn any_request(rng: &mut Rng, device_count: usize) -> Request {
@@ -19,10 +20,22 @@ pub fn any_request(rng: &mut Rng, device_count: usize) -> Request {
         }
     };
     Request {
-        kind: number(5),
+        kind: number(6),
         device: number(device_count as u32 + 1),
         a: number(6),
         b: number(6),
+    }
+}
+
+/// A request of sleep entry, in most cases one with good numbers.
+pub fn any_sleep(rng: &mut Rng) -> Request {
+    match rng.below(16) {
+        0 => Request {
+            kind: SLEEP,
+            ..any_request(rng, 1)
+        },
+        1 => Request::sleep(rng.pick(&[0, 5])),
+        _ => Request::sleep(1 + rng.below(4) as u32),
     }
 }
 

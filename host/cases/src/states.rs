@@ -1,4 +1,5 @@
-//! Random consistent states, and random sets of resources that are on.
+//! Random consistent states, random sets of resources that are on, and random
+//! arming.
 
 use reference::{wake_range, Device, Entry, State, Table, STATE_BYTES};
 
@@ -72,6 +73,51 @@ fn change_on(state: &mut [u8], change: impl FnOnce(u32) -> u32) {
 pub(crate) fn switch_more_on(rng: &mut Rng, table: &[u8], state: &mut [u8]) {
     let more = rng.next() as u32 & rng.next() as u32;
     change_on(state, |on| on | more & all_resources(table));
+}
+
+/// Arms devices of a consistent state for Sx: those that are armed for another
+/// sleep state, which are disarmed where Sx is not legal, and some others.
+pub fn arm_for(rng: &mut Rng, table: &[u8], state: &mut [u8], x: u8) {
+    let Ok(table) = Table::read(table) else {
+        return;
+    };
+    for d in 0..table.device_count() {
+        let [_, armed, wake_s, _] = state.as_chunks().0[d];
+        if armed == 1 && wake_s == x || armed == 0 && !rng.one_in(4) {
+            continue;
+        }
+        state[4 * d + 1..4 * d + 4].fill(0);
+        arm(rng, &table, state, d, |s| s == x);
+    }
+}
+
+/// Arms some device of a consistent state for a sleep state other than Sx, if it
+/// has one.
+pub fn arm_one_for_another(rng: &mut Rng, table: &[u8], state: &mut [u8], x: u8) {
+    let Ok(table) = Table::read(table) else {
+        return;
+    };
+    if table.device_count() > 0 {
+        let d = rng.below(table.device_count());
+        arm(rng, &table, state, d, |s| s != x);
+    }
+}
+
+/// Arms device `d` for some legal pair with such a sleep state, if there is one,
+/// and switches on what it then needs.
+fn arm(rng: &mut Rng, table: &Table, state: &mut [u8], d: usize, is_wanted: impl Fn(u8) -> bool) {
+    let device = table.device(d);
+    let present = state[4 * d];
+    let is_legal = |&(s, wake_d): &(u8, u8)| {
+        is_wanted(s) && wake_d >= present && table.wake_pair(device, s, wake_d).is_ok()
+    };
+    let pairs = (0..25).map(|pair| (pair / 5, pair % 5));
+    let legal: Vec<(u8, u8)> = pairs.filter(is_legal).collect();
+    if !legal.is_empty() {
+        let (s, wake_d) = rng.pick(&legal);
+        state[4 * d + 1..4 * d + 4].copy_from_slice(&[1, s, wake_d]);
+        change_on(state, |on| on | device.prw_set());
+    }
 }
 
 /// Gives a state of a good table any set of resources that are on: as it was,

@@ -1,6 +1,7 @@
 //! Small sets of inputs, gone through completely.
 
 pub mod bring_up;
+pub mod sleep;
 
 use reference::Request;
 

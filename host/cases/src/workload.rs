@@ -1,7 +1,7 @@
 //! The inputs on which the functions are measured: the bench station, stations
 //! of full size, and a refusal at each stage of the checks.
 
-use reference::{fresh, plan, Request, PLAN_BYTES, STATE_BYTES};
+use reference::{fresh, plan, Request, PLAN_BYTES, SLEEP_PLAN_BYTES, STATE_BYTES};
 
 use crate::station::{Record, Resource, Station};
 use crate::sweep::{bench_station, image};
@@ -107,6 +107,7 @@ pub fn workloads() -> Vec<Workload> {
     let mut all = accepted();
     all.extend(refused_bytes());
     all.extend(refused_requests());
+    all.extend(sleep_entries());
     all.extend(bring_ups());
     all.extend(descriptions());
     all
@@ -165,12 +166,12 @@ fn refused_requests() -> Vec<Workload> {
         change(&mut case.list);
         case
     };
-    let kind_4 = Request {
-        kind: 4,
+    let kind_5 = Request {
+        kind: 5,
         ..Request::default()
     };
     vec![
-        Workload::both("request, kind", 10, full_case(kind_4)),
+        Workload::both("request, kind", 10, full_case(kind_5)),
         Workload::both(
             "request, child",
             14,
@@ -189,6 +190,41 @@ fn refused_requests() -> Vec<Workload> {
             19,
             with_list(|list| list.resize(8000, 0)),
         ),
+    ]
+}
+
+/// Sleep entry for S3 of the bench station, with the camera armed for D2, and of
+/// the full one, where every device moves or none does; and its own refusals.
+fn sleep_entries() -> Vec<Workload> {
+    let bench = bench_station().table();
+    let armed = walk(&bench, &[Request::arm(1, 3, 2)]);
+    let full = sleeping_station().table();
+    let before = walk(&full, &armings());
+    let after = walk(&full, &[&armings()[..], &[Request::sleep(3)]].concat());
+    let on_last = |request| walk(&full, &[request]);
+    vec![
+        Workload::planner(
+            "sleep entry, bench station",
+            0,
+            Case::of_sleep(&bench, &armed, 3),
+        ),
+        Workload::planner(
+            "sleep entry, full table, 32 moves",
+            0,
+            Case::of_sleep(&full, &before, 3),
+        ),
+        Workload::planner(
+            "sleep entry, full table, none moves",
+            0,
+            Case::of_sleep(&full, &after, 3),
+        ),
+        Workload::planner("sleep entry, last device armed for another", 20, {
+            Case::of_sleep(&full, &on_last(Request::arm(LAST, 2, 3)), 3)
+        }),
+        Workload::planner("sleep entry, last device without a state", 21, {
+            // It is armed for D0, and its parent goes to D3hot.
+            Case::of_sleep(&full, &on_last(Request::arm(LAST, 4, 0)), 4)
+        }),
     ]
 }
 
@@ -286,6 +322,20 @@ fn full_device(d: u32) -> Record {
     }
 }
 
+/// The full station with other needs: device d needs resource d in D0 to D2, and
+/// the next one in D3hot, to which all go for S3 and S4. So most moves have an own
+/// call, turn on what the move before turned off, and turn off what the device
+/// needed.
+fn sleeping_station() -> Station {
+    let mut station = full_station();
+    for (d, device) in station.devices.iter_mut().enumerate() {
+        let own = 1 << d;
+        device.sets = [own, own, own, own.rotate_left(1), 1];
+        device.sxd = [0, 0, 3, if d == LAST as usize { 0 } else { 3 }];
+    }
+    station
+}
+
 /// As large as a station can be, with every bit of every set.
 pub fn filled_station() -> Station {
     let mut station = full_station();
@@ -319,7 +369,7 @@ fn walk(table: &[u8], requests: &[Request]) -> Vec<u8> {
     let mut state = vec![0; STATE_BYTES];
     assert!(fresh(table, &mut state).is_done());
     for &request in requests {
-        let answer = plan(table, &mut state, request, &mut [0; PLAN_BYTES]);
+        let answer = plan(table, &mut state, request, &mut [0; SLEEP_PLAN_BYTES]);
         assert!(answer.is_done(), "{request:?}");
     }
     state

@@ -1,12 +1,13 @@
 //! The cases reach every answer and every rule. The reference alone is run.
 
 use cases::{
-    faults, sweep, workloads, Case, Cases, Counts, Coverage, Description, Rng, Station, FAULTS,
-    SHAPES,
+    faults, may_take, sweep, workloads, Case, Cases, Counts, Coverage, Description, Rng, Station,
+    FAULTS, SHAPES, SLEEP,
 };
 use reference::{
-    bring_up, check, check_bring_up, describe, effect, fresh, plan, wake_range, write, Answer,
-    Call, Effect, Entry, State, Table,
+    bring_up, check, check_bring_up, describe, effect, fresh, numbers, plan, sleep_obstacles,
+    wake_range, write, Answer, Call, Effect, Entry, Obstacle, Request, State, Table,
+    SLEEP_PLAN_BYTES,
 };
 
 const CASES: usize = 200_000;
@@ -45,8 +46,9 @@ fn every_answer_is_given() {
     let mut coverage = Coverage::default();
     let mut cases = Cases::new(1);
     for _ in 0..CASES {
-        let answers = Answers::of(cases.next_case());
-        coverage.planner.add(answers.planner);
+        let case = cases.next_case();
+        let answers = Answers::of(case);
+        coverage.add_planned(case.request, answers.planner);
         coverage.checker.add(answers.checker);
         coverage.fresh.add(answers.fresh);
         coverage.writer.add(answers.writer);
@@ -271,6 +273,125 @@ fn fault_alone(table: &Table, reported: &[u8]) -> Option<(usize, bool)> {
     (found.len() == 1).then(|| (found[0], needed & !on == 0))
 }
 
+/// What a sleep entry that is done can have.
+const SLEEP_ENTRIES: [&str; 16] = [
+    "all of some devices move",
+    "some move and some stay",
+    "none of some moves",
+    "32 moves",
+    "none moves, with turn-off calls",
+    "none moves, without calls",
+    "moves without calls",
+    "turn-on calls",
+    "more calls than a request can have",
+    "more was on than needed",
+    "a state because of the parent's alone",
+    "a state because of _SxD",
+    "a state because of a resource that cannot be on",
+    "a state because of wake D",
+    "an armed device that stays",
+    "an armed device in D3cold",
+];
+
+fn sleep_entry_has(
+    table: &Table,
+    before: &State,
+    after: &State,
+    x: u8,
+    calls: &[[u8; 4]],
+) -> [bool; 16] {
+    let states: Vec<u8> = devices(table).map(|d| after.entry(d).state).collect();
+    let some = |is: &dyn Fn(usize) -> bool| devices(table).any(is);
+    let moves = |d: usize| before.entry(d).state != states[d];
+    let move_count = devices(table).filter(|&d| moves(d)).count();
+    let is_lost = |r: usize| table.system_level(r) < x;
+    let (has_some, none_moves) = (states.len() > 1, move_count == 0);
+    [
+        has_some && move_count == states.len(),
+        move_count > 0 && move_count < states.len(),
+        has_some && none_moves,
+        move_count == 32,
+        none_moves && !calls.is_empty(),
+        none_moves && calls.is_empty(),
+        move_count > 0 && calls.is_empty(),
+        calls.iter().any(|word| word[0] == 1),
+        calls.len() > 33,
+        before.on() & !before.needed(table) != 0,
+        some(&|d| moves(d) && only_parent_forbids(table, before, x, &states, d)),
+        some(&|d| moves(d) && table.device(d).sxd(x) == Some(states[d])),
+        some(&|d| numbers(table.device(d).needs(before.entry(d))).any(is_lost)),
+        some(&|d| moves(d) && after.entry(d).armed),
+        some(&|d| !moves(d) && after.entry(d).armed),
+        some(&|d| states[d] == 4 && after.entry(d).armed),
+    ]
+}
+
+fn devices(table: &Table) -> std::ops::Range<usize> {
+    0..table.device_count()
+}
+
+/// Whether a device could take a shallower state if its parent were in D0.
+fn only_parent_forbids(table: &Table, before: &State, x: u8, states: &[u8], d: usize) -> bool {
+    (0..states[d]).any(|shallower| {
+        let mut others = vec![0; states.len()];
+        others[d] = shallower;
+        may_take(table, before, x, &others, d)
+    })
+}
+
+/// Why a sleep entry can have no state for a device.
+const OBSTACLES: [&str; 6] = [
+    "not supported",
+    "shallower than the present state",
+    "shallower than _SxD",
+    "needs what cannot be on",
+    "not wake D",
+    "shallower than the parent",
+];
+
+fn obstacle_index(obstacle: Obstacle) -> usize {
+    match obstacle {
+        Obstacle::NotSupported => 0,
+        Obstacle::ShallowerThanPresent => 1,
+        Obstacle::ShallowerThanSxd(_) => 2,
+        Obstacle::Unpowered { .. } => 3,
+        Obstacle::NotWakeState(_) => 4,
+        Obstacle::ShallowerThanParent { .. } => 5,
+    }
+}
+
+#[test]
+fn every_kind_of_sleep_entry_is_met() {
+    let mut entries = [0; SLEEP_ENTRIES.len()];
+    let mut obstacles = [0; OBSTACLES.len()];
+    let mut cases = Cases::new(4);
+    for _ in 0..CASES {
+        let case = cases.next_case();
+        if case.request.kind != SLEEP {
+            continue;
+        }
+        let (mut end, mut buffer) = (case.state.clone(), [0; SLEEP_PLAN_BYTES]);
+        let answer = plan(&case.table, &mut end, case.request, &mut buffer);
+        if answer.is_done() {
+            let table = Table::read(&case.table).expect("accepted");
+            let before = State::read(&table, &case.state).expect("accepted");
+            let after = State::read(&table, &end).expect("consistent");
+            let calls = &buffer.as_chunks().0[..answer.count.into()];
+            let has = sleep_entry_has(&table, &before, &after, case.request.a as u8, calls);
+            for (count, has) in entries.iter_mut().zip(has) {
+                *count += usize::from(has);
+            }
+        } else if answer.number == 21 {
+            let found = sleep_obstacles(&case.table, &case.state, case.request.a);
+            for obstacle in found.expect("refused with 21").1 {
+                obstacles[obstacle_index(obstacle)] += 1;
+            }
+        }
+    }
+    must_be_met(&SLEEP_ENTRIES, &entries);
+    must_be_met(&OBSTACLES, &obstacles);
+}
+
 #[test]
 fn a_seed_gives_the_same_cases_again() {
     let (mut first, mut second) = (Cases::new(7), Cases::new(7));
@@ -355,6 +476,48 @@ fn sweeps_of_bring_up_reach_their_answers() {
 }
 
 #[test]
+fn sweeps_of_sleep_entry_have_their_sizes() {
+    let mut count = 0;
+    // Sleep state, shape of masks, `_SxD`, what cannot be on, state, and arming.
+    sweep::sleep::each_device(|_, _, _| count += 1);
+    assert_eq!(count, 4 * 21 * 5 * 16 * 5 * 7);
+    count = 0;
+    // Of each device 16 sets of states with D3cold, and 8 without.
+    sweep::sleep::each_three_devices(|_, _, _| count += 1);
+    assert_eq!(count, 6 * 24 * 24 * 24);
+    count = 0;
+    sweep::sleep::each_on_the_bench(|_, _, _| count += 1);
+    assert_eq!(count, 125 * 6 * 8 * 6);
+    count = 0;
+    sweep::sleep::each_armed_for_another(|_, _, _, _| count += 1);
+    assert_eq!(count, 3 * 3 * 32 * 2);
+}
+
+#[test]
+fn sweeps_of_sleep_entry_reach_their_answers() {
+    let answer = |table: &[u8], state: &[u8], x| {
+        let buffer = &mut [0; SLEEP_PLAN_BYTES];
+        plan(table, &mut state.to_vec(), Request::sleep(x), buffer)
+    };
+    let mut counts = Counts::default();
+    sweep::sleep::each_device(|table, state, x| counts.add(answer(table, state, x)));
+    counts.must_be("one device", &[0, 8, 20, 21], 1000);
+    let mut counts = Counts::default();
+    sweep::sleep::each_three_devices(|table, state, x| counts.add(answer(table, state, x)));
+    counts.must_be("three devices", &[0, 21], 1000);
+    let mut counts = Counts::default();
+    sweep::sleep::each_on_the_bench(|table, state, x| counts.add(answer(table, state, x)));
+    counts.must_be("the bench station", &[0, 8, 10, 20], 50);
+    let mut counts = Counts::default();
+    sweep::sleep::each_armed_for_another(|table, state, x, d| {
+        let answer = answer(table, state, x);
+        assert_eq!(answer, Answer::refused(20, d as u64));
+        counts.add(answer);
+    });
+    counts.must_reach_places("sleep entry", &[20]);
+}
+
+#[test]
 fn sweeps_reach_their_answers() {
     let mut moves = Counts::default();
     sweep::each_move(|table, state, request| {
@@ -409,12 +572,26 @@ fn workloads_get_their_answers() {
             numbers.extend(expected);
         }
     }
-    // Accepted, and refused at each stage: table, state, consistency, room, request, list.
+    // Accepted, and refused at each stage: table, state, consistency, room, request, list;
+    // and sleep entry by a wake pair and by its choice.
     let [planner, checker, writer, describer, bring_up, bring_up_checker] = numbers;
-    assert!([0, 1, 5, 7, 8, 9, 10].iter().all(|n| planner.contains(n)));
+    assert!([0, 1, 5, 7, 8, 9, 10, 20, 21]
+        .iter()
+        .all(|n| planner.contains(n)));
     assert!([0, 1, 5, 7, 8, 10, 19].iter().all(|n| checker.contains(n)));
     assert_eq!(writer, [0, 0, 5]);
     assert_eq!(describer, [0, 0, 9]);
     assert_eq!(bring_up, [0, 0, 0, 8, 9]);
     assert_eq!(bring_up_checker, [0, 0, 0, 8, 19]);
+}
+
+#[test]
+fn measured_sleep_entries_have_their_calls() {
+    let counts: Vec<u16> = workloads()
+        .iter()
+        .filter(|workload| workload.case.request.kind == SLEEP)
+        .map(|workload| Answers::of(&workload.case).planner.count)
+        .collect();
+    // All of 32 moves have an own call, 31 an _ON and 31 an _OFF.
+    assert_eq!(counts, [2, 94, 0, 0, 0]);
 }

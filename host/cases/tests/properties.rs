@@ -2,7 +2,8 @@
 //! where that is possible.
 
 use cases::{
-    faults, inverse_holds, permute_equal_orders, sweep, BringUp, Case, Cases, Rng, Station, FAULTS,
+    faults, inverse_holds, permute_equal_orders, sweep, BringUp, Case, Cases, Rng, Sleep, Station,
+    FAULTS, SLEEP,
 };
 use reference::{
     bring_up, check, check_bring_up, check_table, check_words, demand3, demand3_words, describe,
@@ -16,6 +17,15 @@ fn for_each_case(seed: u64, mut each: impl FnMut(&Case)) {
     for _ in 0..CASES {
         each(cases.next_case());
     }
+}
+
+/// The cases whose request is about one device.
+fn for_each_request(seed: u64, mut each: impl FnMut(&Case)) {
+    for_each_case(seed, |case| {
+        if case.request.kind != SLEEP {
+            each(case);
+        }
+    });
 }
 
 /// The words of a byte list, without a rest that is no word.
@@ -64,7 +74,7 @@ fn places_are_zero_but_where_the_paper_names_one() {
         for answer in [planned(case).answer, checked] {
             let limit = match answer.number {
                 4 => u64::from(case.table[3]),
-                5 | 6 | 8 | 14 => u64::from(case.table[6]),
+                5 | 6 | 8 | 14 | 20 => u64::from(case.table[6]),
                 13 => u64::from(case.request.device),
                 _ => 1,
             };
@@ -76,7 +86,7 @@ fn places_are_zero_but_where_the_paper_names_one() {
 
 #[test]
 fn an_accepted_request_leaves_the_new_entry_and_the_needed_set() {
-    for_each_case(13, |case| {
+    for_each_request(13, |case| {
         let planned = planned(case);
         if !planned.answer.is_done() {
             return;
@@ -102,7 +112,7 @@ fn an_accepted_request_leaves_the_new_entry_and_the_needed_set() {
 #[test]
 fn the_planners_list_passes_and_its_rest_is_kept() {
     let mut rng = Rng::new(14);
-    for_each_case(14, |case| {
+    for_each_request(14, |case| {
         let planned = planned(case);
         if !planned.answer.is_done() {
             return;
@@ -123,7 +133,7 @@ fn the_planners_list_passes_and_its_rest_is_kept() {
 
 #[test]
 fn the_checker_answers_as_the_planner_but_for_9_and_19() {
-    for_each_case(15, |case| {
+    for_each_request(15, |case| {
         let checked = check(&case.table, &case.state, case.request, &case.list).number;
         match planned(case).answer.number {
             0 => assert!(checked == 0 || checked == 19),
@@ -271,6 +281,30 @@ fn bring_up_leaves_what_is_needed_on_and_its_list_passes() {
         let case = Case::of_bring_up(table, state);
         assert_eq!(REFERENCE.holds(&case), Ok(()), "{case:?}");
     });
+}
+
+/// The reference's functions that sleep entry is checked with.
+const REFERENCE_SLEEP: Sleep = Sleep {
+    plan: |table, state, request, plan_buffer| plan(table, state, request, plan_buffer).pack(),
+    check: REFERENCE.check,
+};
+
+#[test]
+fn sleep_entry_takes_the_least_choice_move_by_move() {
+    let run = |case: &Case| assert_eq!(REFERENCE_SLEEP.holds(case), Ok(()), "{case:?}");
+    let mut count = 0;
+    for_each_case(27, |case| {
+        if case.request.kind == SLEEP {
+            run(case);
+            count += 1;
+        }
+    });
+    assert!(count > CASES / 4);
+    let each = |table: &[u8], state: &[u8], x| run(&Case::of_sleep(table, state, x));
+    sweep::sleep::each_device(each);
+    sweep::sleep::each_three_devices(each);
+    sweep::sleep::each_on_the_bench(each);
+    sweep::sleep::each_armed_for_another(|table, state, x, _| each(table, state, x));
 }
 
 /// The lowest device that has a fault, whatever is on.

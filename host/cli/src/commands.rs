@@ -198,8 +198,9 @@ fn plan_list(help: &Help, args: &Args) -> Outcome {
     if !answer.is_done() {
         return Ok(subject.refusal(answer));
     }
+    let calls = subject.call_lines(&list)?;
     if let Some(path) = svg_output {
-        let trace = subject.trace(&list).map_err(disagreement)?;
+        let trace = subject.trace(&list)?;
         files::write(path, svg::draw(&trace, subject.task, answer).as_bytes())?;
     }
     if let Some(path) = list_output {
@@ -209,11 +210,10 @@ fn plan_list(help: &Help, args: &Args) -> Outcome {
         files::write(path, &state)?;
     }
     Ok(Report::done(format!(
-        "{}\n{}{}{}On afterwards: {}\n",
+        "{}\n{}{}{calls}On afterwards: {}\n",
         subject.task.heading(),
         words::answer_line(answer),
         subject.on_at_the_start(),
-        words::call_lines(&list),
         words::resources(words::on_set(&state)),
     )))
 }
@@ -232,7 +232,7 @@ fn check_list(help: &Help, args: &Args) -> Outcome {
             ))
         }
         Some(Verdict::NotConforming) => {
-            let trace = subject.trace(&list).map_err(disagreement)?;
+            let trace = subject.trace(&list)?;
             let faults = subject.on_at_the_start() + &grid::faults(&trace);
             Report::refused(line + &faults + &subject.planned_instead(answer))
         }
@@ -253,12 +253,11 @@ fn trace_list(help: &Help, args: &Args) -> Outcome {
     let (table_path, state_path) = (Some(subject.table_path), Some(subject.state_path));
     files::must_keep(svg_output, &[table_path, state_path, list_path])?;
     let (answer, list) = subject.answered_list(list_path)?;
-    let trace = match subject.trace(&list) {
-        Ok(trace) => trace,
-        // The request itself is refused, so there is nothing to trace.
-        Err(_) if !answer.is_done() => return Ok(subject.refusal(answer)),
-        Err(refusal) => return Err(disagreement(refusal)),
+    // If the request itself is refused, there is nothing to trace.
+    let Some(Verdict::Done | Verdict::NotConforming) = answer.verdict() else {
+        return Ok(subject.refusal(answer));
     };
+    let trace = subject.trace(&list)?;
     if let Some(path) = svg_output {
         files::write(path, svg::draw(&trace, subject.task, answer).as_bytes())?;
     }

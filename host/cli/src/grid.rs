@@ -2,24 +2,33 @@
 
 use std::fmt::Write;
 
-use crate::trace::{Row, Step, Trace};
+use crate::trace::{Needed, Row, Step, Trace};
 use crate::words;
 
 /// How many calls stand beside each other.
 const CALLS_ACROSS: usize = 12;
 
-/// The calls, and a grid with a row for each resource and a column for each call.
+/// The calls of each part, and a grid with a row for each resource and a column for
+/// each call.
 pub fn draw(trace: &Trace) -> String {
-    let mut text = words::calls_title(trace.steps.len());
-    for (i, step) in trace.steps.iter().enumerate() {
-        text += &call_line(i + 1, step);
+    let parts: Vec<String> = (0..trace.parts.len())
+        .map(|part| draw_part(trace, part))
+        .collect();
+    parts.join("\n") + &faults(trace)
+}
+
+fn draw_part(trace: &Trace, part: usize) -> String {
+    let calls = trace.parts[part].calls.clone();
+    let mut text = trace.parts[part].title();
+    for i in calls.clone() {
+        text += &call_line(i + 1, &trace.steps[i]);
     }
-    // Point 0 is the start; the others are after a call.
-    let points: Vec<usize> = (0..=trace.steps.len()).collect();
-    for part in points.chunks(CALLS_ACROSS + 1) {
-        text += &block(trace, part);
+    // The first point is the start of the part; the others are after a call.
+    let points: Vec<usize> = (calls.start..=calls.end).collect();
+    for points in points.chunks(CALLS_ACROSS + 1) {
+        text += &block(trace, part, points);
     }
-    text + &faults(trace)
+    text
 }
 
 /// What went wrong, a line each.
@@ -29,17 +38,16 @@ pub fn faults(trace: &Trace) -> String {
 }
 
 fn call_line(number: usize, step: &Step) -> String {
-    let bytes = words::hexadecimal(step.bytes);
     let own = if step.own { ", own call" } else { "" };
-    format!("{number:4}  {bytes}  {}{own}\n", words::call(step.call))
+    format!("{}{own}\n", words::call_line(number, step.bytes))
 }
 
-fn block(trace: &Trace, points: &[usize]) -> String {
+fn block(trace: &Trace, part: usize, points: &[usize]) -> String {
     let mut text = String::from("\nresource  order  needed      ");
-    for point in points {
-        let title = match point {
-            0 => "start".into(),
-            call => call.to_string(),
+    for &point in points {
+        let title = match point == trace.parts[part].calls.start {
+            true => "start".into(),
+            false => point.to_string(),
         };
         let _ = write!(text, "{title:>6}");
     }
@@ -48,14 +56,14 @@ fn block(trace: &Trace, points: &[usize]) -> String {
         text += "(the table has no resources)\n";
     }
     for row in &trace.rows {
-        text += &grid_line(row, points);
+        text += &grid_line(row, needed(row.needed[part]), points);
     }
     text
 }
 
-fn grid_line(row: &Row, points: &[usize]) -> String {
+fn grid_line(row: &Row, needed: &str, points: &[usize]) -> String {
     let name = format!("r{}", row.resource);
-    let mut text = format!("{name:<8}  {:>5}  {:<12}", row.order, needed(row));
+    let mut text = format!("{name:<8}  {:>5}  {needed:<12}", row.order);
     for &point in points {
         let on = if row.on[point] { "on" } else { "off" };
         let mark = if row.fails_at(point) { "!" } else { "" };
@@ -65,8 +73,8 @@ fn grid_line(row: &Row, points: &[usize]) -> String {
 }
 
 /// When a resource is needed.
-fn needed(row: &Row) -> &'static str {
-    match (row.needed_before, row.needed_after) {
+fn needed(needed: Needed) -> &'static str {
+    match (needed.before, needed.after) {
         (true, true) => "before+after",
         (true, false) => "before",
         (false, true) => "after",

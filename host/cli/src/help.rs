@@ -17,6 +17,7 @@ REQUEST is one of:
   move DEVICE STATE         STATE is D0, D1, D2, D3hot or D3cold
   arm DEVICE SLEEP STATE    SLEEP is S0 to S4
   disarm DEVICE
+  sleep SLEEP               sleep entry, for all devices; SLEEP is S1 to S4
 for example: move 1 D2
 ";
 
@@ -110,6 +111,16 @@ pub const PLAN: Help = Help {
 The calls are shown in the order in which they must be made. Nothing is written
 without an option, or if the request is refused.
 
+Sleep entry brings each device to the shallowest state that it may take, and the
+calls are shown move by move. If no device moves, they switch off what is on and
+not needed. A device may take a state
+  that it supports, and that is not shallower than the present one or _SxD,
+  in which it needs only resources that can be on in SLEEP,
+  that is its wake state, if it is armed, and
+  that is not shallower than the state its parent takes.
+S0 is refused with 10. Answer 20 says which device is armed for another sleep state,
+and answer 21 which device has no state to take, with what is against each.
+
   -o STATE       write the new state; it may be the file that was read
   --list FILE    write the calls, four bytes each
 ",
@@ -124,6 +135,10 @@ pub const CHECK: Help = Help {
 LIST is a file of calls, four bytes each. It conforms if it has exactly the
 calls of the request, each once and in order. Else its faults, as trace has them,
 and the planner's list are shown. STATE is the state before the request.
+
+Sleep entry is refused with 10: a list is checked for one move at a time, as
+  sailgarnet check TABLE STATE move DEVICE STATE LIST
+from the state that the moves before it leave. plan shows the moves.
 ",
 };
 
@@ -144,6 +159,10 @@ Faults are below the grid: words that are no call of the table, resources that
 are off though needed, and resources that are on at the end though not needed.
 A list without a fault may still not conform: a call may be missing, or not in
 its place.
+
+Sleep entry is traced without LIST, and refused with 10 with one, as by check. Each
+move has its calls and a grid of its own; before and after are of the move. The
+drawing has a band for each move, and bars where a resource must stay on.
 
   --svg FILE    draw the trace as a timing diagram, for a browser
 ",

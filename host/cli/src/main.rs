@@ -19,6 +19,7 @@ mod reader;
 mod request;
 mod resources;
 mod show;
+mod sleep;
 mod subject;
 mod svg;
 mod trace;

@@ -31,8 +31,10 @@ fn word_count(kind: &str) -> Result<usize, String> {
     match kind.to_ascii_lowercase().as_str() {
         "move" => Ok(3),
         "arm" => Ok(4),
-        "disarm" => Ok(2),
-        _ => Err(format!("{kind:?} is no request; write move, arm or disarm")),
+        "disarm" | "sleep" => Ok(2),
+        _ => Err(format!(
+            "{kind:?} is no request; write move, arm, disarm or sleep"
+        )),
     }
 }
 
@@ -45,9 +47,11 @@ fn from_words(words: &[&str]) -> Result<Request, String> {
             device_state(state)?.into(),
         )),
         ("disarm", [d]) => Ok(Request::disarm(device(d)?)),
+        ("sleep", [s]) => Ok(Request::sleep(sleep_state(s)?.into())),
         ("move", _) => Err("a move is written like: move 1 D2".into()),
         ("arm", _) => Err("arming is written like: arm 1 S3 D2".into()),
-        _ => Err("disarming is written like: disarm 1".into()),
+        ("disarm", _) => Err("disarming is written like: disarm 1".into()),
+        _ => Err("sleep entry is written like: sleep S3".into()),
     }
 }
 
@@ -110,6 +114,10 @@ mod tests {
             (&["disarm", "7", "x"], Request::disarm(7), 1),
             (&["disarm 7", "x", "y"], Request::disarm(7), 2),
             (&["disarm", "4294967295"], Request::disarm(u32::MAX), 0),
+            (&["sleep", "S3"], Request::sleep(3), 0),
+            (&["Sleep", "s1", "x"], Request::sleep(1), 1),
+            (&["sleep S4", "x"], Request::sleep(4), 1),
+            (&["sleep", "S0"], Request::sleep(0), 0),
         ] {
             assert_eq!(read(words), Ok((request, rest)), "{words:?}");
         }
@@ -125,6 +133,9 @@ mod tests {
             (&["move 1"], "a move is written like"),
             (&["arm", "1", "S3"], "arming is written like"),
             (&["disarm"], "disarming is written like"),
+            (&["sleep"], "sleep entry is written like"),
+            (&["sleep "], "sleep entry is written like"),
+            (&["sleep 1 S3"], "more than one request"),
             (&["disarm 1 2"], "more than one request"),
             (&["move", "x", "D2"], "\"x\" is no device number"),
             (&["move", "-1", "D2"], "\"-1\" is no device number"),
@@ -132,6 +143,9 @@ mod tests {
             (&["move", "1", "D3"], "write D3hot or D3cold"),
             (&["move", "1", "D5"], "\"D5\" is no device state"),
             (&["arm", "1", "S5", "D2"], "\"S5\" is no sleep state"),
+            (&["sleep", "S5"], "\"S5\" is no sleep state"),
+            (&["sleep", "3"], "\"3\" is no sleep state"),
+            (&["sleep D3hot"], "\"D3hot\" is no sleep state"),
         ] {
             let found = read(words).unwrap_err();
             assert!(found.contains(message), "{words:?}: {found}");

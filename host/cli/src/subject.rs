@@ -5,18 +5,18 @@ use std::fmt;
 use std::path::Path;
 
 use reference::{State, Table};
-use sailgarnet::{Answer, Request, Verdict, PLAN_BYTES};
+use sailgarnet::{Answer, Request, Verdict, SLEEP_PLAN_BYTES};
 
 use crate::args::{Args, ON};
-use crate::commands::usage;
+use crate::commands::{disagreement, usage};
 use crate::help::Help;
-use crate::trace::{Purpose, Trace};
-use crate::{backend, consistency, files, request, resources, words, Failure, Report};
+use crate::trace::{Part, Purpose, Trace};
+use crate::{backend, consistency, files, request, resources, sleep, words, Failure, Report};
 
 /// What a list of calls is for.
 #[derive(Clone, Copy)]
 pub enum Task {
-    /// A request about one device.
+    /// A request.
     Request(Request),
     /// The bring-up of a state.
     BringUp,
@@ -37,6 +37,14 @@ impl Task {
         match self {
             Task::Request(request) => format!("Request: {request}"),
             Task::BringUp => "Bring-up".into(),
+        }
+    }
+
+    /// The x of a sleep entry for Sx.
+    fn sleep_entry(self) -> Option<u32> {
+        match self {
+            Task::Request(request) if request == Request::sleep(request.a) => Some(request.a),
+            _ => None,
         }
     }
 
@@ -127,7 +135,8 @@ impl<'a> Subject<'a> {
 
     fn plan_task(&self, task: Task) -> (Answer, Vec<u8>, Vec<u8>) {
         let (table, mut state) = (&self.table, self.state.clone());
-        let mut list = vec![0; PLAN_BYTES];
+        // Enough for every task.
+        let mut list = vec![0; SLEEP_PLAN_BYTES];
         let answer = match task {
             Task::Request(request) => backend::plan(table, &mut state, request, &mut list),
             Task::BringUp => backend::bring_up(table, &mut state, &mut list),
@@ -155,20 +164,47 @@ impl<'a> Subject<'a> {
         Ok((self.check(&list), list))
     }
 
-    /// The execution of a list, or the reference's refusal of the task.
-    pub fn trace(&self, list: &[u8]) -> Result<Trace, reference::Answer> {
-        let table = Table::read(&self.table)?;
-        let purpose = match self.task {
+    /// The execution of a list for the task, which the planner permits.
+    pub fn trace(&self, list: &[u8]) -> Result<Trace, Failure> {
+        let table = Table::read(&self.table).map_err(disagreement)?;
+        Ok(Trace::new(&table, self.parts(list)?, list))
+    }
+
+    /// The parts of a list. For sleep entry it must be the planner's.
+    fn parts(&self, list: &[u8]) -> Result<Vec<Part>, Failure> {
+        match self.task.sleep_entry() {
+            Some(x) => sleep::parts(&self.table, &self.state, x, list),
+            None => {
+                let purpose = self.purpose().map_err(disagreement)?;
+                Ok(vec![Part::whole(list, purpose)])
+            }
+        }
+    }
+
+    /// What a list is measured by, or the reference's refusal of the task.
+    fn purpose(&self) -> Result<Purpose, reference::Answer> {
+        match self.task {
             Task::Request(request) => {
                 let request = backend::reference_request(request);
-                Purpose::of_request(&reference::effect(&self.table, &self.state, request)?)
+                let effect = reference::effect(&self.table, &self.state, request)?;
+                Ok(Purpose::of_request(&effect))
             }
             Task::BringUp => {
+                let table = Table::read(&self.table)?;
                 let state = State::read_for_bring_up(&table, &self.state)?;
-                Purpose::of_bring_up(state.on(), state.needed(&table))
+                Ok(Purpose::of_switching(state.on(), state.needed(&table)))
             }
-        };
-        Ok(Trace::new(&table, &purpose, list))
+        }
+    }
+
+    /// The calls of the planner's list, a line each; of a sleep entry, move by move.
+    pub fn call_lines(&self, list: &[u8]) -> Result<String, Failure> {
+        if self.task.sleep_entry().is_none() {
+            return Ok(words::call_lines(list));
+        }
+        let parts = self.parts(list)?;
+        let lines = |part: &Part| part.title() + &words::calls_at(part.calls.clone(), list);
+        Ok(parts.iter().map(lines).collect())
     }
 
     /// The planner's list, if another one was found not to conform.
@@ -180,16 +216,19 @@ impl<'a> Subject<'a> {
         format!("The planner's list has {}", words::call_lines(&list))
     }
 
-    /// The refusal of the task. For a device that is not consistent it says why.
+    /// The refusal of the task. For a device that is not consistent and for sleep
+    /// entry it says why.
     pub fn refusal(&self, answer: Answer) -> Report {
-        let (why, remedy) = match answer.verdict() {
-            Some(Verdict::Inconsistent) => {
+        let (why, more) = match (answer.verdict(), self.task.sleep_entry()) {
+            (Some(Verdict::Inconsistent), _) => {
                 let device = answer.place as usize;
-                (self.inconsistency(device), self.remedy())
+                (self.inconsistency(device), Some(self.remedy().into()))
             }
-            _ => (None, ""),
+            (_, Some(x)) => sleep::refusal(answer, &self.table, &self.state, x).unzip(),
+            _ => (None, None),
         };
-        Report::refused(words::answer_line_with(answer, why.as_deref()) + remedy)
+        let line = words::answer_line_with(answer, why.as_deref());
+        Report::refused(line + &more.unwrap_or_default())
     }
 
     /// Why this device is not consistent. That a resource is off is no reason to

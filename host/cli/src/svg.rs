@@ -1,16 +1,20 @@
 //! A trace as a timing diagram.
 
+mod bands;
+
 use std::fmt::Write;
+use std::ops::Range;
 
 use sailgarnet::Answer;
 
+use self::bands::Extras;
 use crate::subject::Task;
-use crate::trace::{Row, Step, Trace};
+use crate::trace::{Part, Row, Step, Trace};
 use crate::words;
 
 /// Left edge of the drawing of the resources; names stand before it.
 const LEFT: usize = 210;
-/// The width of a point in time: the start, or after a call.
+/// The width around a call, and of the start and the end together.
 const COLUMN: usize = 84;
 /// The space after the last point, for the mark of need.
 const RIGHT: usize = 110;
@@ -18,6 +22,8 @@ const ROW: usize = 40;
 /// How far a line for off is below one for on.
 const SWING: usize = 20;
 const LINE: usize = 20;
+/// How far the methods of the calls stand above the first row.
+const METHODS: usize = 27;
 const LEAST_WIDTH: usize = 640;
 
 const STYLE: &str = "\
@@ -49,6 +55,12 @@ struct Layout {
     height: usize,
     /// The top of the first row.
     top: usize,
+    /// The left edge of each point in time, and the right edge of the last.
+    edges: Vec<usize>,
+    /// From where to where each part goes.
+    spans: Vec<Range<usize>>,
+    /// What there is for bands.
+    bands: Extras,
     /// The lines of text at the top.
     heading: Vec<String>,
     /// The lines of text about faults, at the bottom.
@@ -57,8 +69,8 @@ struct Layout {
 
 impl Layout {
     fn of(trace: &Trace, answer: Answer) -> Self {
-        let points = trace.steps.len() + 1;
-        let width = (LEFT + points * COLUMN + RIGHT).max(LEAST_WIDTH);
+        let (edges, spans) = columns(&trace.parts);
+        let width = (edges[edges.len() - 1] + RIGHT).max(LEAST_WIDTH);
         // A letter is about 7 wide.
         let lines = |text: &str| words::wrap(text, (width - 40) / 7);
         let heading = lines(words::answer_line(answer).trim_end());
@@ -66,12 +78,17 @@ impl Layout {
         let faults: Vec<String> = faults
             .flat_map(|fault| lines(&format!("Fault: {fault}")))
             .collect();
-        let top = 60 + LINE * heading.len() + 60;
-        let height = top + ROW * trace.rows.len().max(1) + LINE * (faults.len() + LEGEND.len() + 1);
+        let bands = Extras::of(trace);
+        let top = 60 + LINE * heading.len() + 60 + bands.height;
+        let lines = faults.len() + LEGEND.len() + bands.legend.iter().len();
+        let height = top + ROW * trace.rows.len().max(1) + LINE * (lines + 1);
         Self {
             width,
             height,
             top,
+            edges,
+            spans,
+            bands,
             heading,
             faults,
         }
@@ -80,11 +97,27 @@ impl Layout {
     fn row_top(&self, row: usize) -> usize {
         self.top + ROW * row
     }
+
+    /// The middle of the marks of need after the last point.
+    fn after(&self) -> usize {
+        self.edges[self.edges.len() - 1] + 50
+    }
 }
 
-/// The left edge of a point in time.
-fn left(point: usize) -> usize {
-    LEFT + COLUMN * point
+/// The edges of the points in time, and from where to where each part goes. Its
+/// calls are spread over a part.
+fn columns(parts: &[Part]) -> (Vec<usize>, Vec<Range<usize>>) {
+    let (mut edges, mut spans) = (vec![LEFT], Vec::new());
+    let mut x = LEFT + COLUMN / 2;
+    for part in parts {
+        let calls = part.calls.len();
+        let width = (COLUMN * calls).max(bands::width(part));
+        edges.extend((0..calls).map(|i| x + width * (2 * i + 1) / (2 * calls)));
+        spans.push(x..x + width);
+        x += width;
+    }
+    edges.push(x + COLUMN / 2);
+    (edges, spans)
 }
 
 /// Where the line of a resource that is off runs, in a row with this top.
@@ -96,16 +129,20 @@ fn base(top: usize) -> usize {
 pub fn draw(trace: &Trace, task: Task, answer: Answer) -> String {
     let layout = Layout::of(trace, answer);
     let Layout { width, height, .. } = layout;
+    let style_of_bands = layout.bands.style;
     let mut out = format!(
         "<svg xmlns=\"http://www.w3.org/2000/svg\" width=\"{width}\" height=\"{height}\" \
-         viewBox=\"0 0 {width} {height}\">\n<title>{}</title>\n<style>\n{STYLE}</style>\n\
+         viewBox=\"0 0 {width} {height}\">\n<title>{}</title>\n\
+         <style>\n{STYLE}{style_of_bands}</style>\n\
          <rect width=\"{width}\" height=\"{height}\" fill=\"#fff\"/>\n",
         escape(&task.to_string())
     );
     draw_heading(&mut out, &layout, task);
+    bands::draw(&mut out, &layout, trace);
     draw_column_titles(&mut out, &layout);
     for (r, row) in trace.rows.iter().enumerate() {
-        draw_row(&mut out, layout.row_top(r), layout.width, row);
+        draw_row(&mut out, &layout, layout.row_top(r), row);
+        bands::draw_bars(&mut out, &layout, trace, r);
     }
     if trace.rows.is_empty() {
         let y = layout.top + ROW / 2;
@@ -116,7 +153,7 @@ pub fn draw(trace: &Trace, task: Task, answer: Answer) -> String {
     }
     // After the calls, so that no call's line hides a change.
     for (r, row) in trace.rows.iter().enumerate() {
-        draw_level(&mut out, base(layout.row_top(r)), row);
+        draw_level(&mut out, &layout, base(layout.row_top(r)), row);
     }
     draw_legend(&mut out, &layout, trace);
     out + "</svg>\n"
@@ -134,11 +171,11 @@ fn draw_column_titles(out: &mut String, layout: &Layout) {
     text(out, 20, y, "small", "resource");
     text(out, LEFT - 60, y - 14, "small middle", "needed");
     text(out, LEFT - 60, y, "small middle", "before");
-    text(out, left(0) + COLUMN / 2 - 10, y, "small middle", "start");
+    text(out, LEFT + COLUMN / 2 - 10, y, "small middle", "start");
 }
 
 fn draw_call(out: &mut String, layout: &Layout, rows: usize, number: usize, step: &Step) {
-    let x = left(number);
+    let x = layout.edges[number];
     let (top, bottom) = (layout.top - 6, layout.row_top(rows.max(1)));
     let (line, label) = if step.own {
         ("own", "middle own-text")
@@ -151,26 +188,26 @@ fn draw_call(out: &mut String, layout: &Layout, rows: usize, number: usize, step
     );
     let (method, target) = words::short_call(step.call);
     text(out, x, layout.top - 42, "small middle", &number.to_string());
-    text(out, x, layout.top - 27, label, &method);
+    text(out, x, layout.top - METHODS, label, &method);
     text(out, x, layout.top - 12, "small middle", &target);
 }
 
-fn draw_row(out: &mut String, top: usize, width: usize, row: &Row) {
+fn draw_row(out: &mut String, layout: &Layout, top: usize, row: &Row) {
     let base = base(top);
-    let points = row.on.len();
+    let needed = row.needed_overall();
     let _ = writeln!(
         out,
         "<line class=\"rule\" x1=\"20\" y1=\"{y}\" x2=\"{x2}\" y2=\"{y}\"/>",
         y = top + ROW,
-        x2 = width - 20
+        x2 = layout.width - 20
     );
     let name = format!("r{}", row.resource);
     text(out, 20, base - 6, "", &name);
     let order = format!("order {}", row.order);
     text(out, 52, base - 6, "small", &order);
-    draw_need(out, LEFT - 60, base - 10, row.needed_before);
-    draw_need(out, left(points) + 50, base - 10, row.needed_after);
-    draw_areas(out, base, row);
+    draw_need(out, LEFT - 60, base - 10, needed.before);
+    draw_need(out, layout.after(), base - 10, needed.after);
+    draw_areas(out, layout, base, row);
 }
 
 /// A full circle for needed, an empty one for not needed.
@@ -183,29 +220,31 @@ fn draw_need(out: &mut String, x: usize, y: usize, needed: bool) {
 }
 
 /// Areas for the points at which the resource is on, or off though needed.
-fn draw_areas(out: &mut String, base: usize, row: &Row) {
+fn draw_areas(out: &mut String, layout: &Layout, base: usize, row: &Row) {
     for (point, &on) in row.on.iter().enumerate() {
         let class = match (on, row.fails_at(point)) {
             (true, _) => "on",
             (false, true) => "fault",
             (false, false) => continue,
         };
+        let (x, end) = (layout.edges[point], layout.edges[point + 1]);
         let _ = writeln!(
             out,
-            "<rect class=\"{class}\" x=\"{}\" y=\"{}\" width=\"{COLUMN}\" height=\"{SWING}\"/>",
-            left(point),
-            base - SWING
+            "<rect class=\"{class}\" x=\"{x}\" y=\"{}\" width=\"{}\" height=\"{SWING}\"/>",
+            base - SWING,
+            end - x
         );
     }
 }
 
 /// The line that is high for on and low for off, with a word at the start and
 /// after each change.
-fn draw_level(out: &mut String, base: usize, row: &Row) {
+fn draw_level(out: &mut String, layout: &Layout, base: usize, row: &Row) {
+    let edges = &layout.edges;
     let level = |on: bool| if on { base - SWING } else { base };
-    let mut path = format!("M{} {}", left(0), level(row.on[0]));
-    for (point, &on) in row.on.iter().enumerate() {
-        let _ = write!(path, "V{}H{}", level(on), left(point + 1));
+    let mut path = format!("M{LEFT} {}", level(row.on[0]));
+    for (&on, end) in row.on.iter().zip(&edges[1..]) {
+        let _ = write!(path, "V{}H{end}", level(on));
     }
     let _ = writeln!(out, "<path class=\"level\" d=\"{path}\"/>");
     for (point, &on) in row.on.iter().enumerate() {
@@ -215,16 +254,16 @@ fn draw_level(out: &mut String, base: usize, row: &Row) {
             (true, _) => "on",
             (false, _) => "off",
         };
-        text(out, left(point) + 7, base - 6, "small", word);
+        text(out, edges[point] + 7, base - 6, "small", word);
     }
 }
 
 fn draw_legend(out: &mut String, layout: &Layout, trace: &Trace) {
-    let after = left(trace.steps.len() + 1) + 50;
+    let after = layout.after();
     text(out, after, layout.top - 24, "small middle", "needed");
     text(out, after, layout.top - 10, "small middle", "after");
     let mut y = layout.row_top(trace.rows.len().max(1)) + 26;
-    for line in LEGEND {
+    for line in LEGEND.into_iter().chain(layout.bands.legend) {
         text(out, 20, y, "small", line);
         y += LINE;
     }

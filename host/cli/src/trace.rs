@@ -1,12 +1,14 @@
 //! The execution of a list, for the grid and the drawing.
 
+use std::ops::Range;
+
 use reference::{numbers, Effect, Execution, Table};
-use sailgarnet::{calls, Call};
+use sailgarnet::Call;
 
 use crate::words::{self, numbered_beyond};
 
-/// What a trace is measured by: what is on at the start, what is needed, and the
-/// own call.
+/// What a part of a list is measured by: what is on at its start, what is needed,
+/// and the own call.
 pub struct Purpose {
     on_before: u32,
     needed_before: u32,
@@ -28,8 +30,8 @@ impl Purpose {
         }
     }
 
-    /// That of a bring-up. It keeps the entries, so what is needed stays.
-    pub fn of_bring_up(on: u32, needed: u32) -> Self {
+    /// That of switching alone. It keeps the entries, so what is needed stays.
+    pub fn of_switching(on: u32, needed: u32) -> Self {
         Self {
             on_before: on,
             needed_before: needed,
@@ -40,8 +42,48 @@ impl Purpose {
     }
 }
 
+/// A part of a list: the calls of a move of sleep entry, or all calls.
+pub struct Part {
+    /// What it does, in a list that may have several parts.
+    pub label: Option<String>,
+    /// The places of its calls in the list.
+    pub calls: Range<usize>,
+    purpose: Purpose,
+}
+
+impl Part {
+    /// A list as a whole.
+    pub fn whole(list: &[u8], purpose: Purpose) -> Self {
+        Self {
+            label: None,
+            calls: 0..list.len() / 4,
+            purpose,
+        }
+    }
+
+    /// Some calls of a list that have a purpose of their own.
+    pub fn labelled(label: String, calls: Range<usize>, purpose: Purpose) -> Self {
+        Self {
+            label: Some(label),
+            calls,
+            purpose,
+        }
+    }
+
+    /// The line before its calls.
+    pub fn title(&self) -> String {
+        let calls = words::calls_title(self.calls.len());
+        match &self.label {
+            Some(label) => format!("{label}, {calls}"),
+            None => calls,
+        }
+    }
+}
+
 /// The execution of a list.
 pub struct Trace {
+    /// The parts of the list, in order. There is at least one.
+    pub parts: Vec<Part>,
     /// The calls, in order.
     pub steps: Vec<Step>,
     /// The resources, by number.
@@ -66,34 +108,65 @@ pub struct Row {
     pub resource: usize,
     /// The resource order.
     pub order: u16,
-    /// Whether some device needs it before the request.
-    pub needed_before: bool,
-    /// Whether some device needs it after the request.
-    pub needed_after: bool,
+    /// Whether some device needs it before and after each part.
+    pub needed: Vec<Needed>,
     /// Whether it is on at the start and after each call.
     pub on: Vec<bool>,
+    /// Whether it must be on there, being needed before and after the part.
+    must_be_on: Vec<bool>,
+}
+
+/// Whether some device needs a resource around a part.
+#[derive(Clone, Copy)]
+pub struct Needed {
+    /// Before it.
+    pub before: bool,
+    /// After it.
+    pub after: bool,
+}
+
+impl Needed {
+    /// Whether the resource must be on all the time.
+    pub fn throughout(self) -> bool {
+        self.before && self.after
+    }
 }
 
 impl Row {
     /// Whether it is off at this point though needed before and after.
     pub fn fails_at(&self, point: usize) -> bool {
-        self.needed_before && self.needed_after && !self.on[point]
+        self.must_be_on[point] && !self.on[point]
+    }
+
+    /// Whether some device needs it before and after the whole list.
+    pub fn needed_overall(&self) -> Needed {
+        Needed {
+            before: self.needed[0].before,
+            after: self.needed[self.needed.len() - 1].after,
+        }
     }
 }
 
 impl Trace {
-    /// Carries out a list.
-    pub fn new(table: &Table, purpose: &Purpose, list: &[u8]) -> Self {
-        let steps = steps(purpose, list);
-        let points = points(purpose, list);
+    /// Carries out a list that has these parts.
+    pub fn new(table: &Table, parts: Vec<Part>, list: &[u8]) -> Self {
+        let steps = steps(&parts, list);
+        let points = points(parts[0].purpose.on_before, list);
         let rows: Vec<Row> = (0..table.resource_count())
-            .map(|r| row(table, purpose, &points, r))
+            .map(|r| row(table, &parts, &points, r))
             .collect();
-        let end = points[points.len() - 1];
+        let (needed, end) = (
+            parts[parts.len() - 1].purpose.needed_after,
+            points[points.len() - 1],
+        );
         let mut faults = faults_of_words(table, &steps);
-        faults.extend(faults_on_the_way(purpose, &steps, &rows, &points));
-        faults.extend(faults_at_the_end(purpose, end, list.len() % 4));
+        faults.extend(faults_on_the_way(&rows, points.len()));
+        for part in &parts {
+            faults.extend(faults_of_own_calls(part, &steps, &points));
+        }
+        faults.extend(faults_at_the_end(needed, end, list.len() % 4));
         Self {
+            parts,
             steps,
             rows,
             faults,
@@ -101,20 +174,21 @@ impl Trace {
     }
 }
 
-fn steps(purpose: &Purpose, list: &[u8]) -> Vec<Step> {
-    let words = list.as_chunks().0.iter().zip(calls(list));
-    words
-        .map(|(&bytes, call)| Step {
+fn steps(parts: &[Part], list: &[u8]) -> Vec<Step> {
+    let calls = list.as_chunks().0;
+    let steps = parts.iter().flat_map(|part| {
+        calls[part.calls.clone()].iter().map(|&bytes| Step {
             bytes,
-            call,
-            own: purpose.own_call == Some(bytes),
+            call: Call::from_bytes(bytes),
+            own: part.purpose.own_call == Some(bytes),
         })
-        .collect()
+    });
+    steps.collect()
 }
 
 /// What is on at the start and after each call.
-fn points(purpose: &Purpose, list: &[u8]) -> Vec<Execution> {
-    let mut execution = Execution::new(purpose.on_before);
+fn points(on_before: u32, list: &[u8]) -> Vec<Execution> {
+    let mut execution = Execution::new(on_before);
     let mut points = vec![execution];
     for &bytes in list.as_chunks().0 {
         execution.carry_out(u32::from_le_bytes(bytes));
@@ -123,14 +197,25 @@ fn points(purpose: &Purpose, list: &[u8]) -> Vec<Execution> {
     points
 }
 
-fn row(table: &Table, purpose: &Purpose, points: &[Execution], r: usize) -> Row {
+fn row(table: &Table, parts: &[Part], points: &[Execution], r: usize) -> Row {
     let holds = |set: u32| set >> r & 1 != 0;
+    let needed = parts.iter().map(|part| Needed {
+        before: holds(part.purpose.needed_before),
+        after: holds(part.purpose.needed_after),
+    });
+    let needed: Vec<Needed> = needed.collect();
+    let mut must_be_on = vec![false; points.len()];
+    for (part, needed) in parts.iter().zip(&needed) {
+        if needed.throughout() {
+            must_be_on[part.calls.start..=part.calls.end].fill(true);
+        }
+    }
     Row {
         resource: r,
         order: table.resource_order(r),
-        needed_before: holds(purpose.needed_before),
-        needed_after: holds(purpose.needed_after),
+        needed,
         on: points.iter().map(|point| holds(point.on())).collect(),
+        must_be_on,
     }
 }
 
@@ -168,27 +253,28 @@ fn fault_of_method(device: u8, method: &str, exists: bool) -> Option<String> {
     (!exists).then(|| format!("is {method} of device {device}, which has no {method}"))
 }
 
-/// Resources that go off too early, and an own call that finds its needs off.
-fn faults_on_the_way(
-    purpose: &Purpose,
-    steps: &[Step],
-    rows: &[Row],
-    points: &[Execution],
-) -> Vec<String> {
+/// Resources that go off too early.
+fn faults_on_the_way(rows: &[Row], points: usize) -> Vec<String> {
     let mut faults = Vec::new();
     for row in rows {
         // In a bring-up it may be off at the start.
         let goes_off = |&point: &usize| row.on[point - 1] && row.fails_at(point);
-        if let Some(point) = (1..points.len()).find(goes_off) {
+        if let Some(point) = (1..points).find(goes_off) {
             let r = row.resource;
             faults.push(format!(
                 "r{r} is off after call {point}, though it is needed before and after."
             ));
         }
     }
-    for (i, step) in steps.iter().enumerate() {
-        let missing = purpose.own_call_needs & !points[i].on();
-        if step.own && missing != 0 {
+    faults
+}
+
+/// Own calls that find their needs off.
+fn faults_of_own_calls(part: &Part, steps: &[Step], points: &[Execution]) -> Vec<String> {
+    let mut faults = Vec::new();
+    for i in part.calls.clone() {
+        let missing = part.purpose.own_call_needs & !points[i].on();
+        if steps[i].own && missing != 0 {
             faults.push(format!(
                 "Call {} is the device's own and finds off what it needs: {}.",
                 i + 1,
@@ -200,9 +286,9 @@ fn faults_on_the_way(
 }
 
 /// Resources that are not as needed, and bytes that are no word.
-fn faults_at_the_end(purpose: &Purpose, end: Execution, odd_bytes: usize) -> Vec<String> {
-    let off = words::names(numbers(purpose.needed_after & !end.on()));
-    let on = words::names(end.on_but_not_in(purpose.needed_after));
+fn faults_at_the_end(needed: u32, end: Execution, odd_bytes: usize) -> Vec<String> {
+    let off = words::names(numbers(needed & !end.on()));
+    let on = words::names(end.on_but_not_in(needed));
     let mut faults = Vec::new();
     for (names, what) in [(off, "off, though needed"), (on, "on, though not needed")] {
         if !names.is_empty() {

@@ -1,10 +1,10 @@
 //! Names of resources, states, calls and answers in texts.
 
-use std::fmt::Write;
+use std::ops::Range;
 use std::str::FromStr;
 
 use reference::numbers;
-use sailgarnet::{calls, Answer, Call};
+use sailgarnet::{Answer, Call};
 
 /// The names of the device states, by number.
 pub const DEVICE_STATES: [&str; 5] = ["D0", "D1", "D2", "D3hot", "D3cold"];
@@ -59,7 +59,7 @@ pub fn short_call(call: Option<Call>) -> (String, String) {
 }
 
 /// Four bytes as they stand in a list.
-pub fn hexadecimal(bytes: [u8; 4]) -> String {
+fn hexadecimal(bytes: [u8; 4]) -> String {
     let [a, b, c, d] = bytes;
     format!("{a:02x} {b:02x} {c:02x} {d:02x}")
 }
@@ -74,12 +74,22 @@ pub fn calls_title(calls: usize) -> String {
 
 /// A list of calls, a line each, numbered from 1.
 pub fn call_lines(list: &[u8]) -> String {
-    let mut text = calls_title(list.len() / 4);
-    for (i, (bytes, found)) in list.as_chunks().0.iter().zip(calls(list)).enumerate() {
-        let bytes = hexadecimal(*bytes);
-        let _ = writeln!(text, "{:4}  {bytes}  {}", i + 1, call(found));
-    }
-    text
+    let calls = list.len() / 4;
+    calls_title(calls) + &calls_at(0..calls, list)
+}
+
+/// The calls at these places of a list, a line each, numbered from 1 in the whole
+/// list.
+pub fn calls_at(places: Range<usize>, list: &[u8]) -> String {
+    let calls = list.as_chunks().0;
+    let lines = places.map(|i| call_line(i + 1, calls[i]) + "\n");
+    lines.collect()
+}
+
+/// A call of a list with its number.
+pub fn call_line(number: usize, bytes: [u8; 4]) -> String {
+    let words = call(Call::from_bytes(bytes));
+    format!("{number:4}  {}  {words}", hexadecimal(bytes))
 }
 
 /// An answer as a line, with a capital letter.

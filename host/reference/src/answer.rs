@@ -3,7 +3,7 @@
 /// The answer of a function. Number 0 is done; every other number is a refusal.
 #[derive(Clone, Copy, Debug, PartialEq, Eq)]
 pub struct Answer {
-    /// The answer number, 0 to 19.
+    /// The answer number, 0 to 21.
     pub number: u8,
     /// The resource or device the answer is about, 0 where there is none.
     pub place: u64,

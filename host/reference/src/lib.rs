@@ -8,7 +8,8 @@
 //! [`check_bring_up`], [`write()`] and [`describe`] take byte buffers as the C
 //! functions do. [`plan_words`] and [`check_words`] take 32-bit words.
 //! [`effect`] gives what a permitted request does, and [`demand3`] carries out
-//! a list that the checker passed.
+//! a list that the checker passed. [`sleep_moves`] gives the moves of a sleep
+//! entry, and [`sleep_obstacles`] says why there is none.
 
 #![forbid(unsafe_code)]
 
@@ -19,9 +20,11 @@ mod describe;
 mod execution;
 mod planner;
 mod request;
+mod sleep;
 mod state;
 mod switching;
 mod table;
+mod work;
 
 pub use answer::Answer;
 pub use bring_up::{bring_up, check_bring_up};
@@ -30,8 +33,10 @@ pub use describe::{describe, write, DESCRIBED_DEVICE_BYTES, DESCRIBED_RESOURCE_B
 pub use execution::{demand3, demand3_words, execution, Execution};
 pub use planner::{
     check, check_words, effect, fresh, plan, plan_words, Effect, PLAN_BYTES, PLAN_WORDS,
+    SLEEP_PLAN_BYTES, SLEEP_PLAN_WORDS,
 };
 pub use request::Request;
+pub use sleep::{sleep_moves, sleep_obstacles, Obstacle, SleepMove};
 pub use state::{Entry, State, STATE_BYTES};
 pub use table::{
     check_table, numbers, record, wake_range, Device, Table, MAX_DEVICES, MAX_RESOURCES,

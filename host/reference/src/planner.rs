@@ -2,15 +2,21 @@
 
 use crate::answer::Answer;
 use crate::call::Call;
-use crate::request::{verdict, Change, Request};
-use crate::state::{write_change, write_fresh, Entry, State};
-use crate::switching::{words, Switching};
-use crate::table::Table;
+use crate::request::{verdict, Request, SLEEP};
+use crate::sleep::{least_choice, write_moves};
+use crate::state::{write_fresh, Entry, State};
+use crate::switching::words;
+use crate::table::{Table, MAX_DEVICES};
+use crate::work::Work;
 
 /// The room a plan needs, in words: every resource once and the own call.
 pub const PLAN_WORDS: usize = 33;
 /// The room a plan needs, in bytes.
 pub const PLAN_BYTES: usize = 4 * PLAN_WORDS;
+/// The room a plan of sleep entry needs, in words: every device may move.
+pub const SLEEP_PLAN_WORDS: usize = MAX_DEVICES * PLAN_WORDS;
+/// The room a plan of sleep entry needs, in bytes.
+pub const SLEEP_PLAN_BYTES: usize = 4 * SLEEP_PLAN_WORDS;
 
 /// Writes the fresh state of a table into `state`.
 pub fn fresh(table: &[u8], state: &mut [u8]) -> Answer {
@@ -28,7 +34,7 @@ pub fn fresh(table: &[u8], state: &mut [u8]) -> Answer {
 }
 
 /// Plans a request: writes the calls to `plan`, four bytes each, and the new
-/// state to `state`.
+/// state to `state`. It refuses with 1 to 18, sleep entry with 1 to 10, 20 or 21.
 pub fn plan(table: &[u8], state: &mut [u8], request: Request, plan: &mut [u8]) -> Answer {
     let words = plan.as_chunks_mut::<4>().0;
     plan_calls(table, state, request, words.len(), |i, word| {
@@ -41,7 +47,8 @@ pub fn plan_words(table: &[u8], state: &mut [u8], request: Request, plan: &mut [
     plan_calls(table, state, request, plan.len(), |i, word| plan[i] = word)
 }
 
-/// Says whether `list`, four bytes a call, conforms to the request.
+/// Says whether `list`, four bytes a call, conforms to the request. Sleep entry
+/// is 10 here: a list conforms to one of its moves.
 pub fn check(table: &[u8], state: &[u8], request: Request, list: &[u8]) -> Answer {
     check_calls(table, state, request, words(list))
 }
@@ -58,29 +65,39 @@ fn plan_calls(
     room: usize,
     write: impl FnMut(usize, u32),
 ) -> Answer {
-    match work_of_plan(table, state, request, room) {
-        Ok((table, work)) => {
-            let count = work.switching.write_calls(&table, write);
-            write_change(state, work.device, work.entry, work.switching.target);
-            Answer::done(count)
-        }
+    match count_of_plan(table, state, request, room, write) {
+        Ok(count) => Answer::done(count),
         Err(refusal) => refusal,
     }
 }
 
-fn work_of_plan<'a>(
-    table: &'a [u8],
-    state: &[u8],
+fn count_of_plan(
+    table: &[u8],
+    lent: &mut [u8],
     request: Request,
     room: usize,
-) -> Result<(Table<'a>, Work), Answer> {
+    write: impl FnMut(usize, u32),
+) -> Result<u16, Answer> {
     let table = Table::read(table)?;
-    let state = State::read(&table, state)?;
-    if room < PLAN_WORDS {
+    let state = State::read(&table, lent)?;
+    if room < words_due(request.kind) {
         return Err(Answer::refused(9, 0));
     }
-    let work = Work::of(&table, &state, request)?;
-    Ok((table, work))
+    if request.kind == SLEEP {
+        let choice = least_choice(&table, &state, request)?;
+        return Ok(write_moves(&table, lent, &choice, write));
+    }
+    let work = Work::of(&table, &state, verdict(&table, &state, request)?);
+    Ok(work.write(&table, lent, write))
+}
+
+/// The room for a plan, in words. Only the kind counts, since the room is looked
+/// at before the other numbers.
+const fn words_due(kind: u32) -> usize {
+    match kind {
+        SLEEP => SLEEP_PLAN_WORDS,
+        _ => PLAN_WORDS,
+    }
 }
 
 fn check_calls(
@@ -102,37 +119,11 @@ fn work_of_check<'a>(
 ) -> Result<(Table<'a>, Work), Answer> {
     let table = Table::read(table)?;
     let state = State::read(&table, state)?;
-    let work = Work::of(&table, &state, request)?;
+    let work = Work::of(&table, &state, verdict(&table, &state, request)?);
     Ok((table, work))
 }
 
-/// What is to be done for a permitted request.
-struct Work {
-    device: usize,
-    /// The new entry of the device.
-    entry: Entry,
-    switching: Switching,
-}
-
-impl Work {
-    fn of(table: &Table, state: &State, request: Request) -> Result<Self, Answer> {
-        let Change {
-            device,
-            entry,
-            own_call,
-            own_call_first,
-        } = verdict(table, state, request)?;
-        let needed = state.needed_with(table, device, entry);
-        let switching = Switching::new(state.on(), needed);
-        Ok(Self {
-            device,
-            entry,
-            switching: switching.with_own_call(own_call, own_call_first),
-        })
-    }
-}
-
-/// What a permitted request does, apart from its list.
+/// What a permitted request about one device does, apart from its list.
 #[derive(Clone, Copy, Debug, PartialEq, Eq)]
 pub struct Effect {
     /// The device number.
@@ -158,7 +149,7 @@ pub struct Effect {
     pub own_call_needs: u32,
 }
 
-/// What a request does, or its refusal (1 to 8, 10 to 18).
+/// What a request does, or its refusal (1 to 8, 10 to 18). Sleep entry is 10.
 pub fn effect(table: &[u8], state: &[u8], request: Request) -> Result<Effect, Answer> {
     let table = Table::read(table)?;
     let state = State::read(&table, state)?;

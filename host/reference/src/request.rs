@@ -1,4 +1,4 @@
-//! Requests and the verdict on them (answers 10 to 18).
+//! Requests, and the verdict on those about one device (answers 10 to 18).
 
 use crate::answer::Answer;
 use crate::call::Call;
@@ -8,11 +8,12 @@ use crate::table::{Device, Table};
 /// A request: four unsigned numbers, as the board passes them.
 #[derive(Clone, Copy, Debug, Default, PartialEq, Eq)]
 pub struct Request {
-    /// 1 moves, 2 arms, 3 disarms.
+    /// 1 moves, 2 arms, 3 disarms, 4 is sleep entry.
     pub kind: u32,
     /// The device number.
     pub device: u32,
-    /// The target state of a move, or the sleep state S of arming.
+    /// The target state of a move, the sleep state S of arming, or the x of sleep
+    /// entry.
     pub a: u32,
     /// The device state D of arming.
     pub b: u32,
@@ -24,6 +25,8 @@ const MOVE: u32 = 1;
 const ARM: u32 = 2;
 /// The kind of disarming.
 const DISARM: u32 = 3;
+/// The kind of sleep entry.
+pub(crate) const SLEEP: u32 = 4;
 
 impl Request {
     /// Moves `device` to `state`.
@@ -55,6 +58,16 @@ impl Request {
             b: 0,
         }
     }
+
+    /// Sleep entry: prepares all devices for the sleep state Sx of the system.
+    pub const fn sleep(x: u32) -> Self {
+        Self {
+            kind: SLEEP,
+            device: 0,
+            a: x,
+            b: 0,
+        }
+    }
 }
 
 /// What a permitted request does to its device.
@@ -69,7 +82,7 @@ pub(crate) struct Change {
     pub own_call_first: bool,
 }
 
-/// The change a request makes, or its refusal.
+/// The change a request about one device makes, or its refusal.
 pub(crate) fn verdict(table: &Table, state: &State, request: Request) -> Result<Change, Answer> {
     let Request { kind, device, a, b } = request;
     let in_range = match kind {
@@ -109,7 +122,12 @@ fn verdict_on_move(table: &Table, state: &State, d: usize, target: u8) -> Result
     if entry.armed && target > entry.wake_d {
         return Err(Answer::refused(15, 0));
     }
-    Ok(Change {
+    Ok(moving(device, entry, d, target))
+}
+
+/// The change that a permitted move makes.
+pub(crate) fn moving(device: Device, entry: Entry, d: usize, target: u8) -> Change {
+    Change {
         device: d,
         entry: Entry {
             state: target,
@@ -117,7 +135,7 @@ fn verdict_on_move(table: &Table, state: &State, d: usize, target: u8) -> Result
         },
         own_call: own_call_of_move(device, d, entry.state, target),
         own_call_first: target > entry.state,
-    })
+    }
 }
 
 /// The lowest direct child of `d` in a state shallower than `target`.

@@ -86,13 +86,21 @@ impl<'a> State<'a> {
     /// consistent.
     pub fn read_values(table: &Table, bytes: &'a [u8]) -> Option<Self> {
         let bytes: &[u8; STATE_BYTES] = bytes.try_into().ok()?;
-        let (entries, on) = bytes.as_chunks::<4>().0.split_at(ON_SET / 4);
-        let on = u32::from_le_bytes(on[0]);
+        let (entries, on) = parts(bytes);
         let (entries, unused) = entries.split_at(table.device_count());
         let good = entries.iter().all(|&entry| values_are_good(entry))
             && unused.iter().all(|&entry| entry == [0; 4])
             && on & !table.all_resources() == 0;
         good.then_some(Self { entries, on })
+    }
+
+    /// The state in bytes that are known to be good.
+    pub(crate) fn of_good(table: &Table, bytes: &'a [u8]) -> Self {
+        let (entries, on) = parts(bytes);
+        Self {
+            entries: &entries[..table.device_count()],
+            on,
+        }
     }
 
     fn is_consistent_but_for_power(&self, table: &Table, device: Device, entry: Entry) -> bool {
@@ -128,6 +136,13 @@ impl<'a> State<'a> {
                 set | table.device(d).needs(self.entry(d))
             })
     }
+}
+
+/// The entries of a state image, 32 whatever the table, and the resources that
+/// are on.
+fn parts(bytes: &[u8]) -> (&[[u8; 4]], u32) {
+    let (entries, on) = bytes.as_chunks().0.split_at(ON_SET / 4);
+    (entries, u32::from_le_bytes(on[0]))
 }
 
 fn values_are_good([state, armed, wake_s, wake_d]: [u8; 4]) -> bool {

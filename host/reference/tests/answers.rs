@@ -301,7 +301,7 @@ fn answer_10_is_a_number_out_of_range() {
     let numbers = |kind, device, a, b| Request { kind, device, a, b };
     for request in [
         numbers(0, 0, 0, 0),
-        numbers(4, 0, 0, 0),
+        numbers(5, 0, 0, 0),
         numbers(257, 1, 2, 0),
         numbers(0x0001_0001, 1, 2, 0),
         numbers(u32::MAX, 0, 0, 0),

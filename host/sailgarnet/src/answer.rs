@@ -127,11 +127,15 @@ pub enum Verdict {
     BadWakeState = 18,
     /// The list does not conform.
     NotConforming = 19,
+    /// A device is armed for another sleep state than that of the sleep entry.
+    ArmedForOther = 20,
+    /// No choice of states for all devices meets the rules of sleep entry.
+    NoChoice = 21,
 }
 
 impl Verdict {
     /// Every verdict, by number.
-    pub const ALL: [Verdict; 20] = [
+    pub const ALL: [Verdict; 22] = [
         Verdict::Done,
         Verdict::NotATable,
         Verdict::TooMany,
@@ -152,6 +156,8 @@ impl Verdict {
         Verdict::WakeUnpowered,
         Verdict::BadWakeState,
         Verdict::NotConforming,
+        Verdict::ArmedForOther,
+        Verdict::NoChoice,
     ];
 
     /// The verdict with this number.
@@ -176,7 +182,8 @@ impl Verdict {
             | Verdict::BadObjects
             | Verdict::Inconsistent
             | Verdict::ParentDeeper
-            | Verdict::ChildShallower => Place::Device,
+            | Verdict::ChildShallower
+            | Verdict::ArmedForOther => Place::Device,
             _ => Place::Nothing,
         }
     }
@@ -215,8 +222,8 @@ impl Verdict {
                  off."
             }
             Verdict::NoRoom => {
-                "a buffer is too short for what is to be written: for 33 calls, however few are \
-                 made, or for the whole table or list of records."
+                "a buffer is too short for what is to be written: for 33 calls, of sleep entry for \
+                 1056, however few are made, or for the whole table or list of records."
             }
             Verdict::BadRequest => {
                 "the kind, the device or a number of the request is out of range, or an unused \
@@ -251,6 +258,14 @@ impl Verdict {
                 "the list does not conform: it does not have exactly the calls that are due, each \
                  once and in order."
             }
+            Verdict::ArmedForOther => {
+                "this device is armed, and not for the sleep state asked for."
+            }
+            Verdict::NoChoice => {
+                "there are no states for all devices in that sleep state: each must support its \
+                 state, be at least as deep as now, as its _SxD and as its parent, need no resource \
+                 that cannot be on there, and if armed be in its wake state."
+            }
         }
     }
 }
@@ -265,7 +280,7 @@ mod tests {
             assert_eq!(usize::from(verdict.number()), number);
             assert_eq!(Verdict::from_number(number as u8), Some(verdict));
         }
-        for number in 20..=255 {
+        for number in 22..=255 {
             assert_eq!(Verdict::from_number(number), None);
         }
     }
@@ -326,7 +341,7 @@ mod tests {
         }
         sentences.sort_unstable();
         sentences.dedup();
-        assert_eq!(sentences.len(), 20);
+        assert_eq!(sentences.len(), Verdict::ALL.len());
     }
 
     #[test]
@@ -345,20 +360,20 @@ mod tests {
             answer.to_string()
         };
         assert!(text(4).starts_with("answer 4, resource 7: the record"));
-        for number in [5, 6, 8, 13, 14] {
+        for number in [5, 6, 8, 13, 14, 20] {
             assert!(text(number).contains(", device 7: "));
         }
-        for number in [0, 1, 2, 3, 7, 9, 10, 11, 12, 15, 16, 17, 18, 19] {
+        for number in [0, 1, 2, 3, 7, 9, 10, 11, 12, 15, 16, 17, 18, 19, 21] {
             assert!(text(number).contains(", place 0: "));
         }
         let unknown = Answer {
-            number: 20,
+            number: 22,
             place: 3,
             count: 0,
         };
         assert_eq!(
             unknown.to_string(),
-            "answer 20, place 3: an unknown answer."
+            "answer 22, place 3: an unknown answer."
         );
     }
 

@@ -8,9 +8,10 @@
 //!
 //! A table says which resources and devices there are. A state, 132 bytes, says
 //! what is on and in which state each device is. A [`Request`] moves, arms or
-//! disarms one device. The planner gives the method calls that carry it out, a
-//! [`Call`] for each four bytes, and the new state; or it refuses. The [`Answer`]
-//! says which, and its [`Verdict`] has a sentence for each number.
+//! disarms one device, or is a sleep entry, which brings the devices to where they
+//! may be while the system sleeps. The planner gives the method calls that carry it
+//! out, a [`Call`] for each four bytes, and the new state; or it refuses. The
+//! [`Answer`] says which, and its [`Verdict`] has a sentence for each number.
 //!
 //! At power-on a state has the entries that the board kept and the resources that
 //! are on by then. `bring_up` gives the calls that make it consistent, as a request
@@ -39,11 +40,17 @@ pub use request::Request;
 /// The length of a state.
 pub const STATE_BYTES: usize = 132;
 
-/// The most calls a plan can have.
+/// The most calls a plan can have, but for sleep entry.
 pub const PLAN_CALLS: usize = 33;
 
-/// The room the planner asks for in bytes, four a call.
+/// The room the planner asks for in bytes, four a call, but for sleep entry.
 pub const PLAN_BYTES: usize = 4 * PLAN_CALLS;
+
+/// The calls the planner asks room for at sleep entry: each device may move.
+pub const SLEEP_PLAN_CALLS: usize = PLAN_CALLS * MAX_DEVICES;
+
+/// The room the planner asks for at sleep entry in bytes, four a call.
+pub const SLEEP_PLAN_BYTES: usize = 4 * SLEEP_PLAN_CALLS;
 
 /// The most resources a table can have.
 pub const MAX_RESOURCES: usize = 32;

@@ -102,8 +102,14 @@ pub fn fresh(table: &[u8], state: &mut [u8]) -> Answer {
 /// Plans a request. The calls go to the first bytes of `plan`, four a call, and
 /// the new state to `state`.
 ///
-/// Gives 0 and the number of calls, or a refusal from 1 to 18, which writes
-/// nothing. `plan` needs room for 132 bytes whatever the request.
+/// Gives 0 and the number of calls, or a refusal, which writes nothing: 1 to 18,
+/// for sleep entry 1 to 10, 20 and 21. `plan` needs room for 132 bytes, for sleep
+/// entry for 4224, whatever the calls.
+///
+/// A sleep entry moves devices by falling number. The calls of each move are those
+/// of a request for it alone, from the state that the moves before it leave, and
+/// [`check`] judges them as such; sleep entry itself is 10 there. If no device has
+/// to move, what is on and not needed goes off.
 ///
 /// ```
 /// use sailgarnet::{calls, fresh, plan, Request, Verdict, PLAN_BYTES, STATE_BYTES};
@@ -126,6 +132,29 @@ pub fn fresh(table: &[u8], state: &mut [u8]) -> Answer {
 /// // The device has no D1.
 /// let answer = plan(&table, &mut state, Request::move_to(0, 1), &mut buffer);
 /// assert_eq!(answer.verdict(), Some(Verdict::Unsupported));
+/// ```
+///
+/// Sleep entry:
+///
+/// ```
+/// use sailgarnet::{fresh, plan, Request, SLEEP_PLAN_BYTES, STATE_BYTES};
+///
+/// // A resource that is off in every sleep state, and a device that needs it in
+/// // D0 and nothing in D3hot.
+/// let mut table = vec![b'P', b'W', b'T', 1, 1, 0, 1, 0, 0, 0, 0, 0];
+/// table.extend([255, 0b1001, 0b1001, 0]);
+/// table.extend([0b1, 0, 0, 0]);
+/// table.extend([0; 16]);
+/// table.extend([255; 9]);
+/// table.extend([0; 7]);
+/// let mut state = [0; STATE_BYTES];
+/// assert!(fresh(&table, &mut state).is_done());
+///
+/// // The device goes to D3hot with its method _PS3, then its supply off.
+/// let mut buffer = [0; SLEEP_PLAN_BYTES];
+/// let answer = plan(&table, &mut state, Request::sleep(1), &mut buffer);
+/// assert_eq!(buffer[..answer.plan_length()], [3, 0, 3, 0, 2, 0, 0, 0]);
+/// assert_eq!((state[0], state[128]), (3, 0));
 /// ```
 #[inline]
 pub fn plan(table: &[u8], state: &mut [u8], request: Request, plan: &mut [u8]) -> Answer {
@@ -153,7 +182,7 @@ pub fn plan(table: &[u8], state: &mut [u8], request: Request, plan: &mut [u8]) -
 /// nothing.
 ///
 /// Gives 0, or a refusal: 1 to 8 and 10 to 18 as the planner gives them, 19 if
-/// the request is permitted and the list does not conform.
+/// the request is permitted and the list does not conform. Sleep entry is 10.
 #[inline]
 pub fn check(table: &[u8], state: &[u8], request: Request, list: &[u8]) -> Answer {
     let Request { kind, device, a, b } = request;

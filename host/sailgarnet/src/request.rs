@@ -6,11 +6,11 @@ use std::fmt;
 /// out of range with 10.
 #[derive(Clone, Copy, Debug, Default, PartialEq, Eq, Hash)]
 pub struct Request {
-    /// 1 moves, 2 arms, 3 disarms.
+    /// 1 moves, 2 arms, 3 disarms, 4 is sleep entry.
     pub kind: u32,
-    /// The device number.
+    /// The device number, 0 for sleep entry.
     pub device: u32,
-    /// The target state of a move, or the sleep state S of arming.
+    /// The target state of a move, or the sleep state of arming and of sleep entry.
     pub a: u32,
     /// The device state D of arming.
     pub b: u32,
@@ -47,6 +47,16 @@ impl Request {
             b: 0,
         }
     }
+
+    /// Sleep entry: prepares all devices for sleep state `x` of the system, 1 to 4.
+    pub const fn sleep(x: u32) -> Self {
+        Self {
+            kind: 4,
+            device: 0,
+            a: x,
+            b: 0,
+        }
+    }
 }
 
 impl fmt::Display for Request {
@@ -56,6 +66,7 @@ impl fmt::Display for Request {
             (1, 0) => write!(f, "move device {device} to {}", state_name(*a)),
             (2, _) => write!(f, "arm device {device} for S{a} and {}", state_name(*b)),
             (3, 0) if *a == 0 => write!(f, "disarm device {device}"),
+            (4, 0) if *device == 0 => write!(f, "prepare all devices for S{a}"),
             _ => write!(f, "request {kind}, {device}, {a}, {b}"),
         }
     }
@@ -82,6 +93,7 @@ mod tests {
         assert_eq!(text(Request::move_to(1, 4)), "move device 1 to D3cold");
         assert_eq!(text(Request::arm(1, 3, 2)), "arm device 1 for S3 and D2");
         assert_eq!(text(Request::disarm(7)), "disarm device 7");
+        assert_eq!(text(Request::sleep(3)), "prepare all devices for S3");
         let odd = Request {
             kind: 3,
             device: 1,
@@ -89,5 +101,7 @@ mod tests {
             b: 0,
         };
         assert_eq!(text(odd), "request 3, 1, 2, 0");
+        let odd = Request { kind: 4, ..odd };
+        assert_eq!(text(odd), "request 4, 1, 2, 0");
     }
 }

@@ -4,7 +4,7 @@ use cases::sweep::bench_station;
 use sailgarnet::{
     bring_up, calls, check, check_bring_up, describe, devices, fresh, plan, resources, write,
     Answer, Call, Device, Request, Resource, Verdict, MAX_TABLE_BYTES, NONE, PLAN_BYTES,
-    STATE_BYTES,
+    SLEEP_PLAN_BYTES, STATE_BYTES,
 };
 
 const CAMERA: u32 = 1;
@@ -76,6 +76,9 @@ fn lengths_are_refused_by_the_answer() {
     assert_eq!(no_state.verdict(), Some(Verdict::BadState));
     let no_room = plan(&table, &mut state, request, &mut [0; PLAN_BYTES - 1]);
     assert_eq!(no_room.verdict(), Some(Verdict::NoRoom));
+    let short = &mut [0; SLEEP_PLAN_BYTES - 1];
+    let no_room = plan(&table, &mut state, Request::sleep(3), short);
+    assert_eq!(no_room.verdict(), Some(Verdict::NoRoom));
     let odd_list = check(&table, &state, request, &[3, 1, 2]);
     assert_eq!(odd_list.verdict(), Some(Verdict::NotConforming));
     let no_state = bring_up(&table, &mut [], &mut []);
@@ -84,6 +87,52 @@ fn lengths_are_refused_by_the_answer() {
     assert_eq!(no_room.verdict(), Some(Verdict::NoRoom));
     let odd_list = check_bring_up(&table, &state, &[3]);
     assert_eq!(odd_list.verdict(), Some(Verdict::NotConforming));
+}
+
+/// The camera goes to the state it is armed for, and the lamp to D3hot, since its
+/// supply is off in S3.
+#[test]
+fn all_devices_are_prepared_for_sleep() {
+    let (table, mut state) = fresh_bench();
+    let arming = Request::arm(CAMERA, 3, D2);
+    assert!(plan(&table, &mut state, arming, &mut [0; PLAN_BYTES]).is_done());
+    let mut buffer = [0; SLEEP_PLAN_BYTES];
+    let answer = plan(&table, &mut state, Request::sleep(3), &mut buffer);
+    assert_eq!(answer.verdict(), Some(Verdict::Done));
+    let found: Vec<Call> = calls(&buffer[..answer.plan_length()])
+        .map(|call| call.expect("a call"))
+        .collect();
+    let to_d2 = Call::SetState {
+        device: 1,
+        method: 2,
+    };
+    assert_eq!(found, [to_d2, Call::Off { resource: 1 }]);
+    assert_eq!(state[..12], [0, 0, 0, 0, 2, 1, 3, 2, 3, 0, 0, 0]);
+    assert_eq!(state[128], 0b101);
+
+    let again = plan(&table, &mut state, Request::sleep(3), &mut buffer);
+    assert_eq!((again.number, again.count), (0, 0));
+    let judged = check(&table, &state, Request::sleep(3), &[]);
+    assert_eq!(judged.verdict(), Some(Verdict::BadRequest));
+}
+
+#[test]
+fn a_sleep_entry_is_refused() {
+    let (mut table, mut state) = fresh_bench();
+    let arming = Request::arm(CAMERA, 3, D2);
+    assert!(plan(&table, &mut state, arming, &mut [0; PLAN_BYTES]).is_done());
+    let before = state;
+    let mut buffer = [0xaa; SLEEP_PLAN_BYTES];
+    let mut refused = |table: &[u8], x| {
+        let answer = plan(table, &mut state, Request::sleep(x), &mut buffer);
+        assert_eq!((state, buffer), (before, [0xaa; SLEEP_PLAN_BYTES]));
+        (answer.verdict().expect("a verdict"), answer.place)
+    };
+    assert_eq!(refused(&table, 0), (Verdict::BadRequest, 0));
+    assert_eq!(refused(&table, 4), (Verdict::ArmedForOther, 1));
+    // With r0 off in S3 the bus goes to D3cold, and the camera has to wait in D2.
+    table[8] = 2;
+    assert_eq!(refused(&table, 3), (Verdict::NoChoice, 0));
 }
 
 /// The camera in D3hot and the lamp in D0 at power-on, with r2 alone on.

@@ -29,7 +29,7 @@ pub fn each_reported(mut each: impl FnMut(&[u8], &[u8])) {
 }
 
 /// Each state of the three devices; bus and camera are armed in some ways.
-fn each_reported_on_the_bench(mut each: impl FnMut(&[u8], &[u8])) {
+pub fn each_reported_on_the_bench(mut each: impl FnMut(&[u8], &[u8])) {
     let table = bench_station().table();
     let not_armed = [0, 0, 0];
     let s3 = |d| [1, 3, d];
@@ -50,7 +50,7 @@ fn each_reported_on_the_bench(mut each: impl FnMut(&[u8], &[u8])) {
 }
 
 /// An entry that is not armed.
-const fn at(state: u8) -> [u8; 4] {
+pub(super) const fn at(state: u8) -> [u8; 4] {
     [state, 0, 0, 0]
 }
 

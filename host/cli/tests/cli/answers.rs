@@ -17,6 +17,9 @@ fn refuses_table(desk: &Desk, change: impl Fn(&mut Vec<u8>), number: u8, place: 
         "plan table state move 1 D2",
         "check table state move 1 D2 state",
         "trace table state move 1 D2",
+        "plan table state sleep S3 -o new",
+        "check table state sleep S3 state",
+        "trace table state sleep S3",
         "bring-up table state -o new",
         "bring-up table state --on r0 -o new",
         "check-bring-up table state state --on r31",
@@ -46,6 +49,9 @@ fn answers_7_and_8_are_for_states() {
         "plan table state move 1 D2",
         "check table state move 1 D2 table",
         "trace table state move 1 D2 table",
+        "plan table state sleep S3",
+        "check table state sleep S3 table",
+        "trace table state sleep S3",
     ];
     let bring_ups = [
         "bring-up table state",
@@ -112,4 +118,18 @@ fn answer_19_is_for_lists() {
         let text = desk.run(&line).refused(19);
         assert!(text.contains("place 0: the list does not conform"));
     }
+}
+
+#[test]
+fn answers_20_and_21_are_for_sleep_entry() {
+    let desk = Desk::new("answers_sleep");
+    desk.run("plan table state arm 1 S3 D2 -o state").done();
+    let text = desk.run("plan table state sleep S2").refused(20);
+    assert!(text.starts_with("Answer 20, device 1: "));
+    // The camera cannot be in D2 with r0 off.
+    let mut table = desk.read("table");
+    table[8] = 2;
+    desk.write("table", &table);
+    let text = desk.run("plan table state sleep S3").refused(21);
+    assert!(text.starts_with("Answer 21, place 0: "));
 }

@@ -9,6 +9,7 @@ mod desk;
 mod fresh;
 mod plan;
 mod show;
+mod sleep;
 mod stations;
 mod trace;
 mod usage;

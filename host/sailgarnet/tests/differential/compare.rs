@@ -1,16 +1,24 @@
 //! One case on the library and on the reference.
 
-use cases::{inverse_holds, BringUp, Case, Coverage, Description, Guarded};
+use cases::{inverse_holds, BringUp, Case, Coverage, Description, Guarded, Sleep, SLEEP};
 use reference::{demand3, Answer};
 use sailgarnet::Request;
 
 /// The library's functions that bring-up is checked with.
-const LIBRARY: BringUp = BringUp {
+const BRING_UP: BringUp = BringUp {
     bring_up: |table, state, plan| sailgarnet::bring_up(table, state, plan).pack(),
     check_bring_up: |table, state, list| sailgarnet::check_bring_up(table, state, list).pack(),
     check: |table, state, request, list| {
         sailgarnet::check(table, state, library_request(request), list).pack()
     },
+};
+
+/// The library's functions that sleep entry is checked with.
+const SLEEP_ENTRY: Sleep = Sleep {
+    plan: |table, state, request, plan| {
+        sailgarnet::plan(table, state, library_request(request), plan).pack()
+    },
+    check: BRING_UP.check,
 };
 
 /// The buffers of one case, between guard bytes.
@@ -55,16 +63,21 @@ impl Lent {
     }
 
     fn set(&mut self, case: &Case) {
+        self.set_for_request(case);
         self.set_for_bring_up(case);
-        self.state.set(&case.state);
-        self.plan.set(&case.plan);
-        self.list.set(&case.list);
         self.fresh.set(&case.fresh);
         self.resources.set(&case.description.resources);
         self.devices.set(&case.description.devices);
         self.written.set(&case.written);
         self.described_resources.set(&case.described.resources);
         self.described_devices.set(&case.described.devices);
+    }
+
+    fn set_for_request(&mut self, case: &Case) {
+        self.table.set(&case.table);
+        self.state.set(&case.state);
+        self.plan.set(&case.plan);
+        self.list.set(&case.list);
     }
 
     fn set_for_bring_up(&mut self, case: &Case) {
@@ -79,21 +92,44 @@ impl Lent {
     pub fn compare(&mut self, case: &Case, coverage: &mut Coverage) -> Result<(), String> {
         self.set(case);
         let fresh = self.compare_fresh(case)?;
-        let check = self.compare_check(case)?;
-        let plan = self.compare_plan(case)?;
         let write = self.compare_write(case)?;
         let describe = self.compare_describe(case)?;
+        self.compare_both_of_request(case, coverage)?;
         self.compare_both_of_bring_up(case, coverage)?;
         self.unwritten(case)?;
         coverage.fresh.add(fresh);
-        coverage.checker.add(check);
-        coverage.planner.add(plan);
         coverage.writer.add(write);
         coverage.describer.add(describe);
-        if plan.is_done() {
-            self.check_own_list(case, 4 * usize::from(plan.count))?;
-        }
         inverse_holds(case, library_write, library_describe)
+    }
+
+    /// As [`Self::compare`], for planner and checker alone.
+    pub fn compare_request_alone(
+        &mut self,
+        case: &Case,
+        coverage: &mut Coverage,
+    ) -> Result<(), String> {
+        self.set_for_request(case);
+        self.compare_both_of_request(case, coverage)
+    }
+
+    fn compare_both_of_request(
+        &mut self,
+        case: &Case,
+        coverage: &mut Coverage,
+    ) -> Result<(), String> {
+        let check = self.compare_check(case)?;
+        let plan = self.compare_plan(case)?;
+        self.unwritten_by_request(case)?;
+        coverage.checker.add(check);
+        coverage.add_planned(case.request, plan);
+        if case.request.kind == SLEEP {
+            return SLEEP_ENTRY.holds(case);
+        }
+        match plan.is_done() {
+            true => self.check_own_list(case, 4 * usize::from(plan.count)),
+            false => Ok(()),
+        }
     }
 
     /// As [`Self::compare`], for bring-up and its checker alone.
@@ -116,7 +152,7 @@ impl Lent {
         let bring_up = self.compare_bring_up(case)?;
         coverage.bring_up_checker.add(check);
         coverage.bring_up.add(bring_up);
-        LIBRARY.holds(case)
+        BRING_UP.holds(case)
     }
 
     fn compare_fresh(&mut self, case: &Case) -> Result<Answer, String> {
@@ -207,23 +243,31 @@ impl Lent {
         demand3(&case.table, &case.state, case.request, list)
     }
 
-    /// What no function may write is as it was.
+    /// What no function may write is as it was, but for what planner and checker
+    /// are lent.
     fn unwritten(&self, case: &Case) -> Result<(), String> {
         self.unwritten_by_bring_up(case)?;
-        equal_bytes("the list", self.list.lent(), &case.list)?;
         let Description { resources, devices } = &case.description;
         equal_bytes("the list of resources", self.resources.lent(), resources)?;
         equal_bytes("the list of devices", self.devices.lent(), devices)?;
         all_intact(&[
-            ("the state", &self.state),
-            ("the plan", &self.plan),
-            ("the list", &self.list),
             ("the fresh state", &self.fresh),
             ("the list of resources", &self.resources),
             ("the list of devices", &self.devices),
             ("the table written", &self.written),
             ("the resources described", &self.described_resources),
             ("the devices described", &self.described_devices),
+        ])
+    }
+
+    fn unwritten_by_request(&self, case: &Case) -> Result<(), String> {
+        equal_bytes("the table", self.table.lent(), &case.table)?;
+        equal_bytes("the list", self.list.lent(), &case.list)?;
+        all_intact(&[
+            ("the table", &self.table),
+            ("the state", &self.state),
+            ("the plan", &self.plan),
+            ("the list", &self.list),
         ])
     }
 

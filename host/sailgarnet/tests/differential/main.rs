@@ -1,7 +1,8 @@
 //! The library against the reference: the same answer and the same bytes on
 //! every input, no byte changed outside the lent buffers, every list that passes
-//! carried out, every state that is brought up accepted by a request, and every
-//! table that is written described back.
+//! carried out, every sleep entry cut into its moves and on small stations compared
+//! with all choices of states, every state that is brought up accepted by a request,
+//! and every table that is written described back.
 //!
 //! `SAILGARNET_SECONDS` sets how long the random cases run, else
 //! `SAILGARNET_CASES` how many there are. `SAILGARNET_SEED` sets their seed.
@@ -9,13 +10,14 @@
 mod bring_up;
 mod compare;
 mod descriptions;
+mod sleep;
 
 use std::env;
 use std::time::{Duration, Instant};
 
 use cases::{sweep, workloads, Case, Cases, Coverage, Description};
 use compare::Lent;
-use reference::Request;
+use reference::{Request, SLEEP_PLAN_BYTES};
 
 const CASES: u64 = 300_000;
 const SEED: u64 = 1;
@@ -45,6 +47,12 @@ impl Comparison {
 
     fn run(&mut self, case: &Case, input: impl FnOnce(u64) -> String) {
         let result = self.lent.compare(case, &mut self.coverage);
+        self.count(case, input, result);
+    }
+
+    /// Runs planner and checker alone.
+    fn run_request(&mut self, case: &Case, input: impl FnOnce(u64) -> String) {
+        let result = self.lent.compare_request_alone(case, &mut self.coverage);
         self.count(case, input, result);
     }
 
@@ -182,7 +190,10 @@ fn each_bit_and_each_length_of_a_workload_agree() {
                 part(&mut case).clone_from(&bytes.to_vec());
                 comparison.run(&case, |_| format!("damaged {}", workload.name));
             };
-            sweep::each_bit(&good, &mut run);
+            // No function reads a plan, and that of sleep entry is long.
+            if good.len() < SLEEP_PLAN_BYTES {
+                sweep::each_bit(&good, &mut run);
+            }
             sweep::each_length(&good, 8, &mut run);
             sweep::each_wide_length(&good, &mut run);
             run(&good);

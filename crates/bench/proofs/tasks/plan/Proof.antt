@@ -5,7 +5,7 @@ use Rattle.bench.proofs.tasks.plan.Statement.{statement}
 use Rattle.bench.proofs.tasks.plan.Tie as tie
 
 slice-aggregate-plan-in : tie.Need-slice-aggregate-plan-in
-slice-aggregate-plan-in c = part-long _ 255 _ (search needs) (search needs)
+slice-aggregate-plan-in c = part-long _ 4228 _ (search needs) (search needs)
 
 returns : tie.Need-returns
 returns c = (search needs, cc)

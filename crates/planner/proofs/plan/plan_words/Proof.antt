@@ -1,39 +1,30 @@
--- A refusal leaves state and plan; otherwise the calls and the state of the request are written.
-use Rattle.request.proofs.Changes.{permitted-by}
+-- Kind 4 is sleep entry; every other number is for the checks of requests.
 use Rattle.switching.proofs.Answered.{parts}
-use Rattle.planner.proofs.Whole.{words-demand, room-there, words-refused, words-planned}
+use Rattle.planner.proofs.Whole.{words-demand, words-sleeps, answered}
+use borrow.Author.Tests.{eq-eqb, ne-eqb}
 use borrow.Author.Needs.{needs}
 use Rattle.planner.proofs.plan.plan_words.Statement.{statement}
 use Rattle.planner.proofs.plan.plan_words.Tie as tie
 
 returns : tie.Need-returns
 returns c =
-    let answered = c .before in
-    let asked = answered .before in
-    let a = words-refused _ _ _ _ _ (asked .before .before .room .ensures .0) _ _ (answered .passes .ensures) (asked .verdict .ensures)
-    (c .if1 .taken) in
-    (parts a, words-demand _ _ _ _ a)
+    let a = answered (c .before .before .before .before .sleep-words .ensures) in
+    (parts a, (words-demand _ _ _ _ a, words-sleeps _ _ _ _ a))
 
 returns-2 : tie.Need-returns-2
 returns-2 c =
-    let written = c .before .before .before .before in
-    let left = written .before .before .before in
-    let answered = left .before in
-    let asked = answered .before in
-    let a = words-planned _ _ _ _ _ (asked .before .before .room .ensures .0) _ _ (answered .passes .ensures) (asked .verdict .ensures)
-    (left .if1 .left) _ _ _ (written .write-plan .ensures) in
-    (parts a, words-demand _ _ _ _ a)
+    let a = answered (c .before .before .before .before .request-words .ensures) in
+    (parts a, (words-demand _ _ _ _ a, words-sleeps _ _ _ _ a))
 
 pub plan-words-spec : {M : Type 1} → statement M
 plan-words-spec =
     tie.close
     (tie.spec
-    (λ c κs. search needs)
-    (λ c κs. search needs)
-    (λ c κs. search needs)
+    (λ c κs. search (needs, eq-eqb))
+    (λ c. search needs)
     (λ c. search needs)
     returns
-    (λ c κs. (search (needs, permitted-by), search (needs, room-there)))
+    (λ c κs. search (needs, ne-eqb))
     (λ c. search needs)
     (λ c. search needs)
     returns-2)

@@ -1,34 +1,8 @@
--- Invariant: the answer for the members that are left is the answer for all. The set that is left is a smaller number with each turn.
-use mathlib.Core.Path.{_≡_}
-use lib.Dec.{leb}
+-- The `_PRW` set's answer.
 use borrow.Author.Needs.{needs}
-use Rattle.rules.specs.Station.{countR, station}
-use Rattle.rules.specs.Power.{wakePowered}
-use Rattle.power.proofs.Members.{everyIn, everyIn-laws}
-use Rattle.power.proofs.WakeLaws.{powered-starts}
+use Rattle.power.proofs.WakeLaws.{wake-set}
 use Rattle.power.proofs.wake.wake_powered.Statement.{statement}
 use Rattle.power.proofs.wake.wake_powered.Tie as tie
 
-abbrev Inv-loop : tie.InvT-loop
-Inv-loop table d x rest₀ rest = everyIn (λ r. leb x (station table .resource r .level)) rest
-    (countR table) ≡ wakePowered (station table) d x
-
-abbrev μ-loop : tie.MeasureT-loop
-μ-loop table d x rest₀ rest = rest
-
 pub wake-powered-spec : {M : Type 1} → statement M
-wake-powered-spec =
-    tie.close
-    (tie.spec
-    Inv-loop
-    μ-loop
-    (λ c κs. search needs)
-    (λ c. search (needs, powered-starts))
-    (λ c κs. search needs)
-    (λ c κs. search needs)
-    (λ c. search needs)
-    (λ c κs. search needs)
-    (λ c. search (needs, everyIn-laws))
-    (λ c. search (needs, everyIn-laws))
-    (λ c. search (needs, everyIn-laws))
-    (λ c. search (needs, everyIn-laws)))
+wake-powered-spec = tie.close (tie.spec (λ c κs. search needs) (λ c κs. search needs) (λ c. search (needs, wake-set)))

@@ -1,5 +1,5 @@
 -- Each return is the first answer that refuses; what has passed gives what the next stage asks.
-use Rattle.request.proofs.Chain.{in-turn}
+use Rattle.request.proofs.Chain.{to-request}
 use borrow.Author.Needs.{needs}
 use Rattle.request.proofs.stages.past_table.Statement.{statement}
 use Rattle.request.proofs.stages.past_table.Tie as tie
@@ -10,7 +10,7 @@ past-table-spec =
     (tie.spec
     (λ c κs. search needs)
     (λ c κs. search needs)
-    (λ c. search (needs, in-turn))
-    (λ c. search (needs, in-turn))
-    (λ c κs. search (needs, in-turn))
-    (λ c. search (needs, in-turn)))
+    (λ c. search (needs, to-request))
+    (λ c. search (needs, to-request))
+    (λ c κs. search (needs, to-request))
+    (λ c. search (needs, to-request)))

@@ -1,5 +1,5 @@
 -- What is no table is told so; the rest answers for the others.
-use Rattle.request.proofs.Chain.{in-turn}
+use Rattle.request.proofs.Chain.{to-request}
 use borrow.Author.Needs.{needs}
 use Rattle.request.proofs.stages.verdict.Statement.{statement}
 use Rattle.request.proofs.stages.verdict.Tie as tie
@@ -10,6 +10,6 @@ verdict-spec =
     (tie.spec
     (λ c κs. search needs)
     (λ c κs. search needs)
-    (λ c. search (needs, in-turn))
-    (λ c κs. search (needs, in-turn))
+    (λ c. search (needs, to-request))
+    (λ c κs. search (needs, to-request))
     (λ c. search needs))

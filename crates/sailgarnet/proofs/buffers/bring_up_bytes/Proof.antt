@@ -9,7 +9,8 @@ use Rattle.rules.proofs.Answers.{refused-stops}
 use Rattle.table.proofs.Verdicts.{header-passed, table-passed}
 use Rattle.switching.proofs.Answered.{parts}
 use Rattle.bringup.proofs.Whole.{stop-header, stop-table, passed-by, room-bytes, bytes-refused, bytes-brought}
-use Rattle.sailgarnet.proofs.Outer.{room-words, bring-up-room, words-33, bytes-132}
+use Rattle.planner.proofs.Room.{room-words, words-33, bytes-132}
+use Rattle.sailgarnet.proofs.Outer.{bring-up-room}
 use Rattle.sailgarnet.proofs.buffers.bring_up_bytes.Statement.{statement}
 use Rattle.sailgarnet.proofs.buffers.bring_up_bytes.Tie as tie
 

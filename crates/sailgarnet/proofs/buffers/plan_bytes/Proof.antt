@@ -1,101 +1,41 @@
--- A refusal leaves state and plan; otherwise the calls, as bytes, and the state of the request are written. Where the values are too many
--- for a search, each is named by the call that gave it, from the last one back.
+-- What is no table is told so, whatever the kind; kind 4 is sleep entry, and every other number is for the checks of requests.
 use mathlib.Core.Path.{refl, sym}
 use mathlib.Core.Bool.{false}
 use borrow.Author.Needs.{needs}
+use borrow.Author.Tests.{eq-eqb, ne-eqb}
 use Rattle.rules.specs.declared.Verdict.the-variants.{Refused}
 use Rattle.rules.specs.declared.Reason.the-variants.{NotATable}
 use Rattle.rules.proofs.Answers.{refused-stops}
-use Rattle.table.proofs.Verdicts.{header-passed, table-passed}
-use Rattle.request.proofs.Chain.{stop-header, stop-table}
-use Rattle.request.proofs.Changes.{permitted-by}
+use Rattle.table.proofs.Verdicts.{no-table, header-passed, table-passed}
 use Rattle.switching.proofs.Answered.{parts}
-use Rattle.planner.proofs.Whole.{room-bytes, bytes-refused, bytes-planned}
-use Rattle.sailgarnet.proofs.Outer.{room-words, request-room, words-33, bytes-132}
+use Rattle.planner.proofs.Choices.{bytes-no-table}
 use Rattle.sailgarnet.proofs.buffers.plan_bytes.Statement.{statement}
 use Rattle.sailgarnet.proofs.buffers.plan_bytes.Tie as tie
 
 returns : tie.Need-returns
 returns c =
-    let asked = c .before in
-    let stop = stop-header _ _ _ _ _ (asked .header-good .ensures) (c .if1 .taken) in
-    parts (bytes-refused _ _ _ _ _ (asked .before .room .ensures .0) (Refused NotATable 0) false
-    (sym (refused-stops NotATable 0)) stop refl)
+    parts (bytes-no-table _ _ _ _ (Refused NotATable 0) false (no-table _ _ (c .before .header-good .ensures) (c .if1 .taken))
+    (sym (refused-stops NotATable 0)) refl)
 
 returns-2 : tie.Need-returns-2
 returns-2 c =
     let passed = c .before in
-    let asked = passed .before in
-    let room = asked .before .before .before in
-    let stop = stop-table _ _ _ (asked .check-past-header .ensures) (passed .passes .ensures) _ _ _ (c .if2 .taken) in
-    parts (bytes-refused _ _ _ _ _ (room .room .ensures .0) _ _ (passed .passes .ensures) stop (c .if2 .taken))
-
-past-table-requires : tie.Need-past-table-requires
-past-table-requires c κs =
-    let left = c .before in
-    let passed = left .before in
-    table-passed _ _ _ (passed .before .check-past-header .ensures) (passed .passes .ensures) (left .if2 .left)
-
-returns-3 : tie.Need-returns-3
-returns-3 c =
-    let passed = c .before in
-    let asked = passed .before in
-    let room = asked .before .before .before .before .before .before .before in
-    parts (bytes-refused _ _ _ _ _ (room .room .ensures .0) _ _ (passed .passes2 .ensures) (asked .past-table .ensures) (c .if3 .taken))
-
-write-plan-requires : tie.Need-write-plan-requires
-write-plan-requires c κs =
-    let left = c .before .before in
-    let passed = left .before in (
-      permitted-by _ _ _ _ _ _ (passed .before .past-table .ensures) (passed .passes2 .ensures) (left .if3 .left),
-      search (needs, room-words),
-    )
-
-write-words-requires : tie.Need-write-words-requires
-write-words-requires c κs =
-    let written = c .before .before .before .before .before in
-    let left = written .before .before .before in
-    let passed = left .before in
-    let asked = passed .before in
-    let room = asked .before .before .before .before .before .before .before in
-    let e = asked .past-table .ensures in
-    let f = passed .passes2 .ensures in
-    let w = written .write-plan .ensures in
-    let g = permitted-by _ _ _ _ _ _ e f (left .if3 .left) in
-    let fits = room-bytes _ _ _ _ _ (room .room .ensures .0) _ _ f e (left .if3 .left) in
-    let short = request-room _ _ _ g in
-    (words-33 _ _ _ short _ _ _ _ w (search needs), bytes-132 _ _ _ short _ _ _ _ w _ fits)
-
-returns-4 : tie.Need-returns-4
-returns-4 c =
-    let copied = c .before .before in
-    let written = copied .before .before .before .before .before .before in
-    let left = written .before .before .before in
-    let passed = left .before in
-    let asked = passed .before in
-    let room = asked .before .before .before .before .before .before .before in
-    parts (bytes-planned _ _ _ _ _ (room .room .ensures .0) _ _ (passed .passes2 .ensures) (asked .past-table .ensures) (left .if3 .left)
-    _ _ _ _ _ (written .write-plan .ensures) (copied .write-words .ensures))
+    parts (bytes-no-table _ _ _ _ _ _ (passed .before .check-past-header .ensures) (passed .passes .ensures) (c .if2 .taken))
 
 pub plan-bytes-spec : {M : Type 1} → statement M
 plan-bytes-spec =
     tie.close
     (tie.spec
     (λ c κs. search needs)
-    (λ c. search needs)
-    (λ c κs. search needs)
     returns
     (λ c κs. search (needs, header-passed))
     (λ c κs. search needs)
     returns-2
-    past-table-requires
-    (λ c κs. search needs)
-    (λ c. search needs)
-    returns-3
-    (λ c. search needs)
-    write-plan-requires
-    (λ c. search needs)
-    write-words-requires
+    (λ c κs. (search (needs, eq-eqb), search (needs, table-passed)))
     (λ c. search needs)
     (λ c. search needs)
-    returns-4)
+    (λ c. search needs)
+    (λ c κs. (search (needs, ne-eqb), search (needs, table-passed)))
+    (λ c. search needs)
+    (λ c. search needs)
+    (λ c. search needs))
