@@ -43,7 +43,7 @@ writeRows =
     asVersion 1 2000 (0 ∷ 0 ∷ 140 ∷ []) ∷
     asVersion 1 139 (9 ∷ 0 ∷ 0 ∷ []) ∷
     asVersion 0 139 (1 ∷ 0 ∷ 0 ∷ []) ∷
-    asVersion 2 140 (1 ∷ 0 ∷ 0 ∷ []) ∷
+    asVersion 3 140 (1 ∷ 0 ∷ 0 ∷ []) ∷
     asVersion 65537 140 (1 ∷ 0 ∷ 0 ∷ []) ∷
     -- no record at all
     record { version = 1; resources = []; devices = []; room = 8; answer = 0 ∷ 0 ∷ 8 ∷ [] } ∷
@@ -54,7 +54,7 @@ writeRows =
     record { version = 1; resources = replicate 132 0; devices = []; room = 140; answer = 2 ∷ 0 ∷ 0 ∷ [] } ∷
     record { version = 1; resources = replicate 129 0; devices = []; room = 0; answer = 2 ∷ 0 ∷ 0 ∷ [] } ∷
     record { version = 1; resources = []; devices = replicate 1729 255; room = 0; answer = 2 ∷ 0 ∷ 0 ∷ [] } ∷
-    record { version = 2; resources = replicate 132 0; devices = []; room = 0; answer = 1 ∷ 0 ∷ 0 ∷ [] } ∷
+    record { version = 3; resources = replicate 132 0; devices = []; room = 0; answer = 1 ∷ 0 ∷ 0 ∷ [] } ∷
     -- 9 before the records, of whole ones and of one cut short
     record { version = 1; resources = 5 ∷ 0 ∷ 0 ∷ 0 ∷ []; devices = []; room = 11; answer = 9 ∷ 0 ∷ 0 ∷ [] } ∷
     record { version = 1; resources = 3 ∷ 0 ∷ 0 ∷ []; devices = []; room = 11; answer = 9 ∷ 0 ∷ 0 ∷ [] } ∷
