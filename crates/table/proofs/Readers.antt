@@ -1,28 +1,25 @@
 -- What the readers of a table cite: its width, where a record starts and that it ends inside the table, and each field of the station, from
 -- what the readers of a record give.
-use mathlib.Core.Path.{_≡_, refl}
+use mathlib.Core.Path.{_≡_, refl, ap, _∙_}
 use mathlib.Core.List.{List}
 use Prim.Native.Nat.{ℕ, _+_, _*_, _^_, _<_, _≤_}
 use native.Mathlib.Omega.{arith}
 use lib.ListN.{length, getD}
 use Rattle.words.specs.Words.{readLE}
-use Rattle.rules.specs.Station.{Device, width, Wide, recordSize, tableSize, countR, countD, deviceStart, resourceAt, deviceAt, station}
-use Rattle.rules.proofs.Width.{width-is}
+use Rattle.rules.specs.Station.{Device, versionWidth, width, Wide, recordSize, tableSize, countR, countD, deviceStart, resourceAt, deviceAt, station}
 use Rattle.laws.proofs.Accepted.{record-inside, resource-at, device-at}
 use Rattle.table.specs.Layout.{WellSized}
 
--- ---- the only laws that say what the width of a table is: it is 4, so that the counts are at most 32 and a set has 32 bits
-pub width-four : (t : List ℕ) → 4 ≡ width t
-width-four t = rw (width-is t) refl
+-- ---- the width is that of the version which the header states, and in either version there are at most 64 of each
+pub width-of : (t : List ℕ) (v w : ℕ) → v ≡ readLE 2 t 4 → w ≡ versionWidth v → w ≡ width t
+unfolding width
+width-of t v w e f = f ∙ ap versionWidth e
 
-pub resources-few : (t : List ℕ) → WellSized t → countR t ≤ 32
-resources-few t z = omega (arith, width-is t)
+pub resources-few : (t : List ℕ) → WellSized t → countR t ≤ 64
+resources-few t z = omega (arith, z .wide .high)
 
-pub devices-few : (t : List ℕ) → WellSized t → countD t ≤ 32
-devices-few t z = omega (arith, width-is t)
-
-pub set-narrow : (t : List ℕ) (w v : ℕ) → w ≡ width t → v < 256 ^ w → v < 2 ^ 32
-set-narrow t w v e h = rw (e, width-is t) at h
+pub devices-few : (t : List ℕ) → WellSized t → countD t ≤ 64
+devices-few t z = omega (arith, z .wide .high)
 
 -- ---- where a record starts, and that it ends inside the table
 pub size-8 : (w r d : ℕ) → w ≡ 8 → 8 + 4 * r + 64 * d ≡ tableSize w r d
@@ -56,4 +53,4 @@ pub field-at : (f : Device → ℕ → ℕ) (t : List ℕ) (d at w x v : ℕ) �
     → v ≡ f (deviceAt w t at) x → v ≡ f (station t .device d) x
 field-at f t d at w x v e h g k = rw (device-at (width t) t d h, ← e, ← g) k
 
-pub ruleset field-laws = (width-four, resources-few, devices-few, set-narrow, size-8, size-4, start-is, inside, level-is, order-is)
+pub ruleset field-laws = (width-of, resources-few, devices-few, size-8, size-4, start-is, inside, level-is, order-is)

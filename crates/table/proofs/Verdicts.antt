@@ -93,10 +93,10 @@ module _ (t : List ℕ) (first w n resources : ℕ) (e : first ≡ deviceStart (
   pub run-inside : WellSized t → first + recordSize w * n ≤ length t
   run-inside z = rw (start-of n, g, z .long) (omega arith)
 
-pub few-devices : (t : List ℕ) (n : ℕ) → (n ≡ countD t) × (n ≤ 32) → n < 256
+pub few-devices : (t : List ℕ) (n : ℕ) → (n ≡ countD t) × (n ≤ 64) → n < 256
 few-devices t n h = omega (arith, h .1)
 
-pub few-resources : (t : List ℕ) (n w : ℕ) → (n ≡ countR t) × (n ≤ 32) → WellSized t → w ≡ width t → n ≤ limit w
+pub few-resources : (t : List ℕ) (n w : ℕ) → (n ≡ countR t) × (n ≤ 64) → WellSized t → w ≡ width t → n ≤ limit w
 few-resources t n w h z e = rw (h .0, e) (z .resources)
 
 pub ruleset lowest-bad = (lowest-4, lowest-5, run-inside, few-devices, few-resources)

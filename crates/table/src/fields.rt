@@ -5,15 +5,17 @@ ghost use lib.ListN.{length};
 ghost use Rattle.rules.specs.Station.{width, Wide, limit, recordSize, tableSize, countR, countD, deviceStart, station};
 ghost use Rattle.table.specs.Layout.{WellSized};
 
-// The bytes of a set, for any bytes: those of the table's version. No other function says what the width of a table is.
+// The bytes of a set: those of the version that the header states. No other function says what the width of a table is.
 pub fn width(table: &[u8]) -> usize
+    requires { ⌜ 8 ≤ length (now table) ⌝ }
     ensures { λ r. ⌜ (r ≡ width (now (table .entry))) × Wide r ⌝ }
 {
-    4
+    crate::header::version_width(words::read16(table, 4) as u32)
 }
 
 // The most resources and devices that the width allows.
 pub fn limit(table: &[u8]) -> usize
+    requires { ⌜ 8 ≤ length (now table) ⌝ }
     ensures { λ r. ⌜ (r ≡ limit (width (now (table .entry)))) × (r ≤ 64) ⌝ }
 {
     8 * width(table)
@@ -22,7 +24,7 @@ pub fn limit(table: &[u8]) -> usize
 // R, the number of resources.
 pub fn resources(table: &[u8]) -> usize
     requires { ⌜ WellSized (now table) ⌝ }
-    ensures { λ r. ⌜ (r ≡ countR (now (table .entry))) × (r ≤ 32) ⌝ }
+    ensures { λ r. ⌜ (r ≡ countR (now (table .entry))) × (r ≤ 64) ⌝ }
 {
     table[3] as usize
 }
@@ -30,7 +32,7 @@ pub fn resources(table: &[u8]) -> usize
 // D, the number of devices.
 pub fn devices(table: &[u8]) -> usize
     requires { ⌜ WellSized (now table) ⌝ }
-    ensures { λ r. ⌜ (r ≡ countD (now (table .entry))) × (r ≤ 32) ⌝ }
+    ensures { λ r. ⌜ (r ≡ countD (now (table .entry))) × (r ≤ 64) ⌝ }
 {
     table[6] as usize
 }
@@ -112,12 +114,12 @@ pub fn flags(table: &[u8], d: usize) -> u8
     record::read::flags(table, start(table, d), width(table))
 }
 
-// Set k: `_PR0` to `_PR3`, and `_PRW` for 4. A table's sets have 32 bits, so that the cast loses none.
-pub fn set(table: &[u8], d: usize, k: usize) -> u32
+// Set k: `_PR0` to `_PR3`, and `_PRW` for 4, in 64 bits for both versions.
+pub fn set(table: &[u8], d: usize, k: usize) -> u64
     requires { ⌜ WellSized (now table) × (d < countD (now table)) × (k < 5) ⌝ }
     ensures { λ v. ⌜ v ≡ station (now (table .entry)) .device d .sets k ⌝ }
 {
-    record::read::set(table, start(table, d), width(table), k) as u32
+    record::read::set(table, start(table, d), width(table), k)
 }
 
 // `_SxD`, or 255; S0 has none.

@@ -14,13 +14,16 @@ const MARK: [u8; 3] = *b"PWT";
 pub fn version_good(version: u32) -> bool
     ensures { λ b. ⌜ b ≡ versionGood version ⌝ }
 {
-    version == 1
+    (version == 1) | (version == 2)
 }
 
 // The bytes of a set in a table of a version.
 pub fn version_width(version: u32) -> usize
     ensures { λ r. ⌜ (r ≡ versionWidth version) × Wide r ⌝ }
 {
+    if version == 2 {
+        return 8;
+    }
     4
 }
 

@@ -4,4 +4,6 @@ use Rattle.table.proofs.fields.width.Statement.{statement}
 use Rattle.table.proofs.fields.width.Tie as tie
 
 pub width-spec : {M : Type 1} → statement M
-width-spec = tie.close (tie.spec (λ c. search (needs, field-laws)))
+width-spec =
+    tie.close
+    (tie.spec (λ c κs. search needs) (λ c. search needs) (λ c κs. search needs) (λ c. (search (needs, field-laws), search needs)))
