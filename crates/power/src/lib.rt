@@ -12,7 +12,7 @@ ghost use Rattle.table.specs.Layout.{WellSized};
 pub fn has_bit(mask: u8, x: u8) -> bool
     ensures { λ r. ⌜ r ≡ member mask x ⌝ }
 {
-    sets::has(words::wide(mask), words::wide(x))
+    sets::narrow::has(words::wide(mask), words::wide(x))
 }
 
 // Whether `_PSx` exists.
@@ -64,7 +64,7 @@ pub fn supported(table: &[u8], d: usize, x: u8) -> bool
 }
 
 // The set of `_PRx`, empty without it, by the device's `_PR` mask.
-pub fn own_set(table: &[u8], d: usize, mask: u8, x: u8) -> u32
+pub fn own_set(table: &[u8], d: usize, mask: u8, x: u8) -> u64
     requires { ⌜ WellSized (now table) × (d < countD (now table)) × (mask ≡ station (now table) .device d .pr) × (x < 5) ⌝ }
     ensures { λ r. ⌜ r ≡ ownSet (station (now (table .entry)) .device d) x ⌝ }
 {
@@ -75,7 +75,7 @@ pub fn own_set(table: &[u8], d: usize, mask: u8, x: u8) -> u32
 }
 
 // The set of `_PRx`, or of the next shallower state that has one; empty if none has.
-pub fn listed_set(table: &[u8], d: usize, x: u8) -> u32
+pub fn listed_set(table: &[u8], d: usize, x: u8) -> u64
     requires { ⌜ WellSized (now table) × (d < countD (now table)) × (x < 5) ⌝ }
     ensures { λ r. ⌜ r ≡ listedSet (station (now (table .entry)) .device d) x ⌝ }
 {
@@ -91,7 +91,7 @@ pub fn listed_set(table: &[u8], d: usize, x: u8) -> u32
 }
 
 // What a device needs in state x. The mask is read before any test, so that a loop over the devices reads R once.
-pub fn state_needs(table: &[u8], d: usize, x: u8) -> u32
+pub fn state_needs(table: &[u8], d: usize, x: u8) -> u64
     requires { ⌜ WellSized (now table) × (d < countD (now table)) ⌝ }
     ensures { λ r. ⌜ r ≡ stateNeeds (station (now (table .entry)) .device d) x ⌝ }
 {
@@ -106,7 +106,7 @@ pub fn state_needs(table: &[u8], d: usize, x: u8) -> u32
 }
 
 // What a device needs to wake the system: its `_PRW` set while it is armed.
-pub fn wake_needs(table: &[u8], d: usize, e: rules::Entry) -> u32
+pub fn wake_needs(table: &[u8], d: usize, e: rules::Entry) -> u64
     requires { ⌜ WellSized (now table) × (d < countD (now table)) ⌝ }
     ensures { λ r. ⌜ r ≡ wakeNeeds (station (now (table .entry)) .device d) e ⌝ }
 {
@@ -120,7 +120,7 @@ pub fn wake_needs(table: &[u8], d: usize, e: rules::Entry) -> u32
 }
 
 // All that a device needs with an entry.
-pub fn needs(table: &[u8], d: usize, e: rules::Entry) -> u32
+pub fn needs(table: &[u8], d: usize, e: rules::Entry) -> u64
     requires { ⌜ WellSized (now table) × (d < countD (now table)) ⌝ }
     ensures { λ r. ⌜ r ≡ needs (station (now (table .entry))) d e ⌝ }
 {

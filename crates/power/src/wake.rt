@@ -32,15 +32,15 @@ pub fn powered(table: &[u8], r: usize, x: u8) -> bool
 }
 
 // The lowest member of a set that has one, found by the machine and not by a loop.
-fn lowest(set: u32) -> u32
+fn lowest(set: u64) -> u32
     requires { ⌜ 0 < set ⌝ }
-    ensures { λ r. ⌜ (r ≡ least (member set) 32) × (member set r ≡ true) × (r < 32) ⌝ }
+    ensures { λ r. ⌜ (r ≡ least (member set) 64) × (member set r ≡ true) × (r < 64) ⌝ }
 {
-    u32::trailing_zeros(set)
+    u64::trailing_zeros(set)
 }
 
 // Every resource of a set has systemlevel x or more: from one member to the next, so that a small set takes few turns.
-pub fn powered_in(table: &[u8], set: u32, x: u8) -> bool
+pub fn powered_in(table: &[u8], set: u64, x: u8) -> bool
     requires { ⌜ WellSized (now table) ⌝ }
     ensures { λ r. ⌜ r ≡ poweredIn (station (now (table .entry))) x set ⌝ }
 {
@@ -115,7 +115,7 @@ pub fn wake_range(sxd: u8, sxw: u8, x: u8) -> bool
     if from > 4 || to > 5 || x > 4 {
         return false;
     }
-    sets::has(VERDICTS[from as usize], to * 5 + x as u32)
+    sets::narrow::has(VERDICTS[from as usize], to * 5 + x as u32)
 }
 
 // State y is supported and in the wake range for x.

@@ -8,26 +8,23 @@ use borrow.Author.Tests.{eq-eqb, ne-eqb, not-true, not-false}
 use lib.Dec.{eqb, ltb}
 use lib.ListN.{length}
 use Rattle.sets.proofs.Laws.{decide}
-use Rattle.rules.specs.declared.State.{State}
 use Rattle.rules.specs.declared.Verdict.{Verdict}
 use Rattle.rules.specs.declared.Verdict.the-variants.{Done, Refused}
 use Rattle.rules.specs.declared.Reason.the-variants.{BadState, Inconsistent}
 use Rattle.rules.specs.Index.{least}
 use Rattle.rules.specs.Answers.{passes, firstOf, unless, lowest}
-use Rattle.rules.specs.Station.{versionWidth, width, limit, countR, stationOf, station}
+use Rattle.rules.specs.Station.{width, limit, countR, stationOf, station}
 use Rattle.rules.specs.Table.{tableVerdict}
 use Rattle.sets.specs.Sets.{firstN}
 use Rattle.rules.specs.Status.{entries, statusOf, status, imageSize, entriesGood, onGood, valuesGood, imageGood, valuesVerdict}
-use Rattle.rules.specs.Status.{consistencyVerdict, stateVerdict}
+use Rattle.rules.specs.Status.{consistencyVerdict, stateVerdict, imageOf, freshStatus}
 use Rattle.rules.specs.BringUp.{butPowerVerdict, stateButPowerVerdict}
 use Rattle.rules.specs.Outcomes.{outcome, freshVerdict, fresh, tableAndStateVerdict}
 use Rattle.rules.proofs.Answers.{done-passes, refused-stops, first-pass, first-stop, first-alone, unless-of}
 use Rattle.laws.proofs.Accepted.{accepted}
 use Rattle.laws.proofs.States.{GoodValues, values-of, all-on-apart}
-use Rattle.table.proofs.Verdicts.{sized-done, sized-told, accepted-is, table-passed}
-use Rattle.status.specs.State.{storeState, freshState}
+use Rattle.table.proofs.Verdicts.{sized-done, sized-told, long-done, long-told, accepted-is, table-passed}
 use Rattle.status.specs.Ready.{Ready, statusWith}
-use Rattle.status.proofs.Held.{fresh-image}
 
 -- ---- the image; n is the size that it has, good and fits are what the tests of the entries and of the on-set returned
 module _ (t b : List ℕ) (n : ℕ) (z : n ≡ imageSize (width t)) where
@@ -47,7 +44,7 @@ module _ (t b : List ℕ) (n : ℕ) (z : n ≡ imageSize (width t)) where
     unfolding imageGood valuesGood statusOf
     on-last m on fits r o = rw (long, ← q, not-false good m, ← r, ← o) refl
 
-pub ruleset image-laws = (sized-done, length-bad, entries-bad, on-last)
+pub ruleset image-laws = (sized-done, long-done, length-bad, entries-bad, on-last)
 
 -- ---- a check of numbered things ends a chain as it is
 lowest-last : (bad : ℕ → Bool) (n : ℕ) (refusal : ℕ → Verdict) → ((i : ℕ) → passes (refusal i) ≡ false)
@@ -104,12 +101,11 @@ module _ (t b : List ℕ) (g : Bool) (i : g ≡ imageGood t b) where
         ∙ all-on-apart t (rw e (done-passes 0)) (entries t b)
         ∙ sym (lowest-last _ (station t .devices) (Refused Inconsistent) (refused-stops Inconsistent)))
 
--- the R resources of an accepted table are at most 32
-pub few-resources : (t : List ℕ) (r : ℕ) → tableVerdict t ≡ Done 0 → r ≡ countR t → r ≤ 32
-unfolding versionWidth width
-few-resources t r e k = omega (arith, sized-done t 0 e .resources)
+-- the R resources of an accepted table are at most 64
+pub few-resources : (t : List ℕ) (r : ℕ) → tableVerdict t ≡ Done 0 → r ≡ countR t → r ≤ 64
+few-resources t r e k = let z = sized-done t 0 e in omega (arith, z .resources, z .wide .high)
 
-pub ruleset state-laws = (sized-done, image-long, ready-by, state-values, state-is)
+pub ruleset state-laws = (sized-done, long-done, image-long, ready-by, state-values, state-is)
 
 pub ruleset but-power-laws = (sized-done, few-resources, ready-by, but-power-values, but-power-is)
 
@@ -162,21 +158,16 @@ module _ (t b : List ℕ) (v : Verdict) (p : Bool) (e : v ≡ tableVerdict t) (f
     unfolding fresh outcome
     fresh-done l = sym (fresh-second n true (eq-eqb (length b) (imageSize (width t)) (l ∙ z)))
 
-    pub fresh-done-state : (r : ℕ) (st : State) (m : List ℕ) → length b ≡ k → r ≡ countR t → st ≡ freshState r → m ≡ storeState st
-        → m ≡ fresh t b .state
+    pub fresh-done-state : (m : List ℕ) → length b ≡ k → m ≡ imageOf (width t) (freshStatus (station t)) → m ≡ fresh t b .state
     unfolding fresh outcome passes
-    fresh-done-state r st m l c g h =
-        let all : r ≡ station t .resources = unfold stationOf in c in
-        rw (fresh-second n true (eq-eqb (length b) (imageSize (width t)) (l ∙ z)))
-        (h ∙ ap storeState (g ∙ ap freshState all) ∙ fresh-image t)
+    fresh-done-state m l h = rw (fresh-second n true (eq-eqb (length b) (imageSize (width t)) (l ∙ z))) h
 
--- the size of an image, which code may write as a number
-pub size-132 : (t : List ℕ) (n k : ℕ) → k ≡ imageSize (width t) → n ≡ k → n ≡ 132
-unfolding versionWidth width
-size-132 t n k e f = f ∙ e
+    pub fresh-long : length b ≡ k → length b ≡ imageSize (width t)
+    fresh-long l = l ∙ z
 
 pub ruleset fresh-laws = (
   sized-told,
+  long-told,
   accepted-is,
   fresh-refused,
   fresh-refused-state,
@@ -184,5 +175,5 @@ pub ruleset fresh-laws = (
   fresh-length-state,
   fresh-done,
   fresh-done-state,
-  size-132,
+  fresh-long,
 )

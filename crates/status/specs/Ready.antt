@@ -4,10 +4,11 @@ use mathlib.Core.Path.{_≡_}
 use mathlib.Core.Bool.{true}
 use mathlib.Core.List.{List}
 use lib.ListN.{length}
+use Rattle.rules.specs.declared.Entry.{Entry}
 use Rattle.rules.specs.Station.{width, limit, countD, station}
 use Rattle.rules.specs.Table.{parentGood}
 use Rattle.rules.specs.Status.{Status, entriesSize, entries, entriesGood}
-use Rattle.rules.specs.Request.{inState, replaceEntry}
+use Rattle.rules.specs.Request.{replaceEntry}
 use Rattle.table.specs.Layout.{WellSized}
 
 pub record Ready (t b : List ℕ) : Type 0 where
@@ -20,6 +21,6 @@ pub record Ready (t b : List ℕ) : Type 0 where
 abbrev pub statusWith : List ℕ → List ℕ → ℕ → Status
 statusWith t b on = record { entries = entries t b; on = on }
 
--- the same with device d in state y
-abbrev pub inStateWith : List ℕ → List ℕ → ℕ → ℕ → ℕ → Status
-inStateWith t b d y on = record { entries = replaceEntry (entries t b) d (inState (entries t b d) y); on = on }
+-- the same with another entry for device d
+abbrev pub entryWith : List ℕ → List ℕ → ℕ → Entry → ℕ → Status
+entryWith t b d e on = record { entries = replaceEntry (entries t b) d e; on = on }

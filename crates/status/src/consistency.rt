@@ -50,7 +50,7 @@ pub fn consistent_but_power(table: &[u8], devices: &[u8], d: usize) -> bool
 }
 
 // Everything that device d needs is on.
-pub fn powered(table: &[u8], devices: &[u8], on: u32, d: usize) -> bool
+pub fn powered(table: &[u8], devices: &[u8], on: u64, d: usize) -> bool
     requires { ⌜ Ready (now table) (now devices) × (d < countD (now table)) ⌝ }
     ensures { λ r. ⌜ r ≡ powered (station (now (table .entry))) (statusWith (now (table .entry)) (now (devices .entry)) on) d ⌝ }
 {
@@ -59,7 +59,7 @@ pub fn powered(table: &[u8], devices: &[u8], on: u32, d: usize) -> bool
 }
 
 // Device d keeps every rule.
-pub fn consistent(table: &[u8], devices: &[u8], on: u32, d: usize) -> bool
+pub fn consistent(table: &[u8], devices: &[u8], on: u64, d: usize) -> bool
     requires { ⌜ Ready (now table) (now devices) × (d < countD (now table)) ⌝ }
     ensures { λ r. ⌜ r ≡ consistent (station (now (table .entry))) (statusWith (now (table .entry)) (now (devices .entry)) on) d ⌝ }
 {
@@ -70,7 +70,7 @@ pub fn consistent(table: &[u8], devices: &[u8], on: u32, d: usize) -> bool
 }
 
 // The lowest device that does not.
-pub fn consistency(table: &[u8], devices: &[u8], on: u32) -> rules::Verdict
+pub fn consistency(table: &[u8], devices: &[u8], on: u64) -> rules::Verdict
     requires { ⌜ Ready (now table) (now devices) ⌝ }
     ensures { λ r. ⌜ r ≡ consistencyVerdict (station (now (table .entry))) (statusWith (now (table .entry)) (now (devices .entry)) on) ⌝ }
 {

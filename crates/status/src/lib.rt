@@ -2,6 +2,7 @@
 pub mod consistency;
 pub mod image;
 pub mod needed;
+pub mod state;
 pub mod values;
 
 use rules::Reason;
@@ -74,8 +75,6 @@ pub fn fresh(table: &[u8], state: &mut [u8]) -> Verdict
     if state.len() != crate::image::size(table) {
         return Verdict::Refused(Reason::BadState, 0);
     }
-    let resources = table::fields::resources(table);
-    let made = crate::image::fresh_state(resources as u32);
-    crate::image::store(made, state);
+    crate::image::write_fresh(table, state);
     Verdict::Done(0)
 }

@@ -52,7 +52,7 @@ fn zero_from(devices: &[u8], n: usize, end: usize) -> bool
     let mut all: u32 = 0;
     let mut i = n;
     while i < end {
-        all = sets::union(all, words::read32(devices, 4 * i));
+        all = sets::narrow::union(all, words::read32(devices, 4 * i));
         i += 1;
     }
     all == 0
@@ -72,7 +72,7 @@ pub fn entries_good(table: &[u8], devices: &[u8]) -> bool
 }
 
 // No resource from R on.
-pub fn on_good(table: &[u8], on: u32) -> bool
+pub fn on_good(table: &[u8], on: u64) -> bool
     requires { ⌜ WellSized (now table) ⌝ }
     ensures { λ r. ⌜ r ≡ onGood (station (now (table .entry))) on ⌝ }
 {

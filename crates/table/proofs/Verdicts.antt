@@ -240,6 +240,13 @@ accepted-is t v b e f = f ∙ ap passes e
 pub sized-told : (t : List ℕ) (b : Bool) → b ≡ passes (tableVerdict t) → not b ≡ false → WellSized t
 sized-told t b e p = sized-of t (sym e ∙ not-false b p)
 
+-- and so its header is there
+pub long-done : (t : List ℕ) (n : ℕ) → tableVerdict t ≡ Done n → 8 ≤ length t
+long-done t n e = sized-done t n e .head
+
+pub long-told : (t : List ℕ) (b : Bool) → b ≡ passes (tableVerdict t) → not b ≡ false → 8 ≤ length t
+long-told t b e p = sized-told t b e p .head
+
 -- a table that passes is done
 table-done : (t : List ℕ) → passes (tableVerdict t) ≡ true → tableVerdict t ≡ Done 0
 unfolding tableVerdict
