@@ -40,3 +40,4 @@ pub mod SleepMoves
 pub mod SleepStages
 pub mod Sleep
 pub mod Runs
+pub mod Made

@@ -170,6 +170,13 @@ fresh-status-consistent n s rules =
       power = λ d h. all-on s rules d h noEntry;
     }
 
+-- its image reads back as it, and gets neither 7 nor 8
+pub fresh-reads : (t : List ℕ) → passes (tableVerdict t) ≡ true
+    → status t (imageOf (width t) (freshStatus (station t))) ≡ freshStatus (station t)
+fresh-reads t e =
+    image-reads t e (freshStatus (station t)) (fresh-status-consistent (limit (width t)) (station t) (station-rules t (accepted t e)))
+    (λ k h. unfold freshStatus in refl)
+
 pub fresh-consistent : (t : List ℕ) → passes (tableVerdict t) ≡ true → stateVerdict t (imageOf (width t) (freshStatus (station t))) ≡ Done 0
 fresh-consistent t e =
     image-consistent t e (freshStatus (station t)) (fresh-status-consistent (limit (width t)) (station t) (station-rules t (accepted t e)))
