@@ -41,3 +41,4 @@ pub mod SleepStages
 pub mod Sleep
 pub mod Runs
 pub mod Made
+pub mod OneStation
