@@ -42,3 +42,4 @@ pub mod Sleep
 pub mod Runs
 pub mod Made
 pub mod OneStation
+pub mod Versions
