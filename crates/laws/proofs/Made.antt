@@ -67,6 +67,7 @@ module _ (version : ℕ) (rs ds t : List ℕ) (m : Makes version rs ds t) where
   again : write version rs ds t ≡ record { verdict = Done (length t); table = put t 0 t }
   again = m t (omega arith)
 
+  -- so the writer refuses nothing
   done : writeVerdict version rs ds (length t) ≡ Done (length t)
   unfolding write
   done = ap (λ (r : Written). r .verdict) again

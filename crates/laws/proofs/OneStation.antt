@@ -2,8 +2,8 @@
 -- an accepted request, the moves of sleep entry or bring-up leave says the same again. Once for any two widths.
 use mathlib.Core.Path.{_≡_, refl, sym, ap, _∙_}
 use mathlib.Core.Bool.{Bool, true, _&&_, _||_}
-use mathlib.Core.List.{List, [], _∷_, _++_}
-use Prim.Native.Nat.{ℕ, _≤_, _<_}
+use mathlib.Core.List.{List, [], _∷_}
+use Prim.Native.Nat.{ℕ, _≤_}
 use native.Mathlib.Omega.{arith}
 use borrow.Author.Tests.{eq-eqb, ltb-true, ltb-false}
 use lib.Dec.{ltb}
@@ -18,7 +18,6 @@ use Rattle.rules.specs.Station.{Station, width, limit, station}
 use Rattle.rules.specs.Table.{tableVerdict}
 use Rattle.rules.specs.Status.{Status, noEntry, imageSize, status, entryGood, entryZero, entriesGood, valuesGood, imageGood, valuesVerdict}
 use Rattle.rules.specs.Status.{imageOf, freshStatus, stateVerdict}
-use Rattle.rules.specs.Calls.{statusAfter, statusNeeded}
 use Rattle.rules.specs.Outcomes.{readyVerdict, requestStage, stagesVerdict, sleepStage, sleepStages, planned, stateAfter, plannedEach}
 use Rattle.rules.specs.Outcomes.{stateAfterEach}
 use Rattle.rules.specs.BringUp.{stateButPowerVerdict, bringUpStages, bringUpList, stateBroughtUp}
@@ -29,7 +28,7 @@ use Rattle.laws.proofs.Tests.{or-right}
 use Rattle.laws.proofs.Every.{same-test}
 use Rattle.laws.proofs.Image.{image-length}
 use Rattle.laws.proofs.States.{fresh-reads, entries-out, after-reads}
-use Rattle.laws.proofs.Stages.{Stages, stages-of, BringUpPassed, bring-up-of}
+use Rattle.laws.proofs.Stages.{stages-of, bring-up-of}
 use Rattle.laws.proofs.Lists.{number-passes}
 use Rattle.laws.proofs.BringUp.{up-reads}
 
@@ -70,6 +69,7 @@ module _ (t₁ t₂ : List ℕ) (s : OneStation t₁ t₂) where
 
   -- ---- the checks
   module _ (b₁ b₂ : List ℕ) (z : OneStatus t₁ t₂ b₁ b₂) where
+    -- 7: an entry that the first image has no place for stands for nothing
     same-values : valuesVerdict t₁ b₁ ≡ valuesVerdict t₂ b₂
     unfolding valuesVerdict imageGood valuesGood
     same-values =
@@ -77,14 +77,17 @@ module _ (t₁ t₂ : List ℕ) (s : OneStation t₁ t₂) where
         (λ k h. ap (λ (st : Status). st .entries k) (sym (z .says)) ∙ entries-out (width t₁) b₁ k h) in
         rw (eq-eqb _ _ (z .first), eq-eqb _ _ (z .second), s .station, z .says, entries) refl
 
+    -- 7 and 8
     same-state : stateVerdict t₁ b₁ ≡ stateVerdict t₂ b₂
     unfolding stateVerdict
     same-state = rw (same-values, s .station, z .says) refl
 
+    -- 1 to 9
     same-ready : (room : Bool) → readyVerdict room t₁ b₁ ≡ readyVerdict room t₂ b₂
     unfolding readyVerdict
     same-ready room = rw (s .first, s .second, same-state) refl
 
+    -- of a request of kinds 1 to 3, of sleep entry, and of bring-up
     pub same-stages : (room : Bool) (q : Request) → stagesVerdict room t₁ b₁ q ≡ stagesVerdict room t₂ b₂ q
     unfolding stagesVerdict requestStage
     same-stages room q = rw (same-ready room, s .station, z .says) refl

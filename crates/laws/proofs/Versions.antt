@@ -1,38 +1,38 @@
 -- RULES.md 14.3: one description written as version 1 and as version 2 gives the same answers and the same calls from states that say the
 -- same, and leaves such states. From what two tables of one station have in common, for plans of words and of bytes at once.
 use mathlib.Core.Path.{_≡_, refl, sym, ap, _∙_, fun-ext}
-use mathlib.Core.Bool.{Bool, true, false, true≢false}
-use mathlib.Core.List.{List, []}
-use Prim.Native.Nat.{ℕ, _*_, _≤_}
+use mathlib.Core.Bool.{Bool, true}
+use mathlib.Core.List.{List}
+use Prim.Native.Nat.{ℕ, _*_}
 use native.Mathlib.Nat.{one-mul, mul-zero}
 use native.Mathlib.Omega.{arith}
 use borrow.Author.Tests.{eq-eqb, le-leb}
 use lib.Dec.{leb}
-use lib.ListN.{length, take}
+use lib.ListN.{length}
 use Rattle.sets.proofs.Laws.{decide}
-use Rattle.words.specs.Words.{put, wordBytes}
+use Rattle.words.specs.Words.{wordBytes}
 use Rattle.words.proofs.Put.{take-put}
 use Rattle.words.proofs.Laws.{word-bytes-length}
 use Rattle.rules.specs.declared.Entry.{Entry}
 use Rattle.rules.specs.declared.Request.{Request}
 use Rattle.rules.specs.declared.Verdict.{Verdict}
-use Rattle.rules.specs.declared.Verdict.the-variants.{Done, Refused}
-use Rattle.rules.specs.Answers.{countOf, passes, firstOf, unless}
+use Rattle.rules.specs.declared.Verdict.the-variants.{Done}
+use Rattle.rules.specs.Answers.{passes, firstOf, unless}
 use Rattle.rules.specs.Station.{width, station}
-use Rattle.rules.specs.Status.{Status, entriesOf, statusOf, status}
+use Rattle.rules.specs.Status.{Status, statusOf, status}
 use Rattle.rules.specs.Sleep.{isSleep, sleepMoves, noneMoves}
-use Rattle.rules.specs.Outcomes.{Outcome, outcome, freshVerdict, fresh, listRoom, planVerdict, planOutcome, sleepStages, plannedEach}
-use Rattle.rules.specs.Outcomes.{stateAfterEach, sleepList, stateForSleep, planRoom, planStages, planList, planState, planWords, planBytes}
+use Rattle.rules.specs.Outcomes.{Outcome, outcome, freshVerdict, fresh, listRoom, planOutcome, sleepStages, plannedEach}
+use Rattle.rules.specs.Outcomes.{sleepList, stateForSleep, planRoom, planStages, planList, planState, planWords, planBytes}
 use Rattle.rules.specs.Outcomes.{checkWords, checkBytes}
 use Rattle.rules.specs.BringUp.{bringUpStages, bringUpList, stateBroughtUp, bringUpWords, bringUpBytes, checkBringUpWords}
 use Rattle.rules.specs.BringUp.{checkBringUpBytes}
-use Rattle.rules.proofs.Answers.{first-stop, done-passes}
+use Rattle.rules.proofs.Answers.{done-passes}
 use Rattle.rules.proofs.Width.{version-4, version-8}
-use Rattle.laws.specs.Versions.{SameStation, SameState, SameOutcome, SamePlans, SameAnswers, SameFresh, VersionsAgree}
+use Rattle.laws.specs.Versions.{SameState, SameOutcome, SamePlans, SameAnswers, SameFresh, VersionsAgree}
 use Rattle.laws.proofs.Stages.{bring-up-pass}
 use Rattle.laws.proofs.Lists.{refused-count, plan-outcome, plan-refused, one-each}
 use Rattle.laws.proofs.BringUp.{consistent-passes}
-use Rattle.laws.proofs.SleepStages.{SleepPassed, sleep-of}
+use Rattle.laws.proofs.SleepStages.{sleep-of}
 use Rattle.laws.proofs.Sleep.{sleep-offs, sleep-up, sleep-lists, sleep-after, sleep-moved}
 use Rattle.laws.proofs.Made.{made-good, made-width, made-station}
 use Rattle.laws.proofs.OneStation.{OneStation, OneStatus, same-stages, same-sleep-stages, same-bring-up, same-planned}
@@ -42,8 +42,9 @@ use Rattle.laws.proofs.OneStation.{same-bring-up-list, same-fresh, same
 abbrev Agree : List ℕ → List ℕ → List ℕ → List ℕ → List ℕ → List ℕ → Type 0
 Agree t₁ t₂ words₁ words₂ b₁′ b₂′ = (words₁ ≡ words₂) × OneStatus t₁ t₂ b₁′ b₂′
 
--- ---- sleep entry, and the planner by the kind of its request
+-- ---- the planner, by the kind of its request
 module _ (t₁ t₂ : List ℕ) (s : OneStation t₁ t₂) (b₁ b₂ : List ℕ) (z : OneStatus t₁ t₂ b₁ b₂) where
+  -- sleep entry whose checks pass: the same turn-off calls where no device moves, else the same moves
   sleep-agree : (q : Request) → passes (sleepStages true t₁ b₁ q) ≡ true
       → Agree t₁ t₂ (sleepList t₁ b₁ (q .a)) (sleepList t₂ b₂ (q .a)) (stateForSleep t₁ b₁ (q .a)) (stateForSleep t₂ b₂ (q .a))
   sleep-agree q e =
@@ -68,10 +69,12 @@ module _ (t₁ t₂ : List ℕ) (s : OneStation t₁ t₂) (b₁ b₂ : List ℕ
         rw (sleep-after t₁ b₁ x n, sleep-after t₂ b₂ x (sym still ∙ n), ← moves) (each .1),
       ))
 
+  -- the planner's checks
   plan-stages-agree : (room : Bool) (q : Request) → planStages room t₁ b₁ q ≡ planStages room t₂ b₂ q
   unfolding planStages
   plan-stages-agree room q = rw (same-sleep-stages t₁ t₂ s b₁ b₂ z room q, same-stages t₁ t₂ s b₁ b₂ z room q) refl
 
+  -- and what it gives where they pass
   plan-agree : (q : Request) → passes (planStages true t₁ b₁ q) ≡ true
       → Agree t₁ t₂ (planList t₁ b₁ q) (planList t₂ b₂ q) (planState t₁ b₁ q) (planState t₂ b₂ q)
   unfolding planStages planList planState
@@ -121,6 +124,7 @@ module _ (t₁ t₂ : List ℕ) (s : OneStation t₁ t₂) (four : width t₁ �
         on = ap (λ (st : Status). st .on) says;
       }
 
+  -- fresh states are such states
   fresh-agree : SameFresh t₁ t₂
   unfolding fresh freshVerdict outcome passes firstOf unless
   fresh-agree b₁ b₂ l₁ l₂ =
@@ -146,7 +150,9 @@ module _ (t₁ t₂ : List ℕ) (s : OneStation t₁ t₂) (four : width t₁ �
       plans-agree p₁ p₂ l₁ l₂ =
           let whole = same-outcome size written long (stages true t₂ b₂) b₁ b₂ p₁ p₂ (state t₁ b₁) (state t₂ b₂) (list t₁ b₁) (list t₂ b₂) z
           (λ e. let a = g .agree (ap passes (g .same) ∙ e) in (a .0, same-state _ _ (a .1))) in
-          rw (is t₁ b₁ p₁, is t₂ b₂ p₂, four, eight, le-leb _ _ l₁, le-leb _ _ l₂, g .same) whole
+          let fits₁ = le-leb (size * room 4) (length p₁) l₁ in
+          let fits₂ = le-leb (size * room 8) (length p₂) l₂ in
+          rw (is t₁ b₁ p₁, is t₂ b₂ p₂, four, eight, fits₁, fits₂, g .same) whole
 
     -- the planner, of any request
     request-agreed : (q : Request) → Agreed (λ room t b. planStages room t b q) (λ t b. planList t b q) (λ t b. planState t b q)
@@ -161,6 +167,7 @@ module _ (t₁ t₂ : List ℕ) (s : OneStation t₁ t₂) (four : width t₁ �
           agree = λ e. (same-bring-up-list t₁ t₂ s b₁ b₂ one, same-brought-up t₁ t₂ s b₁ b₂ one e);
         }
 
+    -- all answers
     answers-agree : SameAnswers t₁ b₁ t₂ b₂
     answers-agree =
         record {
