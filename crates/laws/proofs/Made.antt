@@ -3,24 +3,27 @@
 use mathlib.Core.Path.{_≡_, refl, sym, ap, _∙_}
 use mathlib.Core.Bool.{true}
 use mathlib.Core.List.{List}
-use Prim.Native.Nat.{ℕ, _+_, _*_, _<_}
+use Prim.Native.Nat.{ℕ, _+_, _*_, _≤_, _<_}
 use native.Mathlib.Omega.{arith}
+use borrow.Author.Tests.{leb-true, le-leb}
+use lib.Dec.{leb}
 use lib.ListN.{length}
 use Rattle.words.specs.Words.{put}
 use Rattle.words.proofs.Put.{put-all}
 use Rattle.rules.specs.declared.Verdict.the-variants.{Done}
-use Rattle.rules.specs.Answers.{countOf, passes}
+use Rattle.rules.specs.Answers.{countOf, passes, firstOf, unless}
 use Rattle.rules.specs.Index.{below}
-use Rattle.rules.specs.Station.{Station, versionWidth, width, resourceStart, deviceStart, resourceAt, deviceAt, noResource, noDevice}
+use Rattle.rules.specs.Station.{Station, versionGood, versionWidth, width, resourceStart, deviceStart, resourceAt, deviceAt, noResource, noDevice}
 use Rattle.rules.specs.Station.{stationOf, station}
 use Rattle.rules.specs.Table.{tableVerdict}
 use Rattle.rules.specs.Describe.{describedR, describedD, describedDevice, tableBytes}
-use Rattle.rules.specs.Write.{writeVerdict, Written, write}
-use Rattle.rules.proofs.Answers.{done-passes}
+use Rattle.rules.specs.Write.{recordsVerdict, writtenSize, describedCountsGood, writeVerdict, Written, write}
+use Rattle.rules.proofs.Answers.{first-through, done-passes}
 use Rattle.laws.specs.Inverse.{Makes, Representable}
+use Rattle.laws.proofs.Tests.{both-true, and-true}
 use Rattle.laws.proofs.Same.{read-same, below-same}
 use Rattle.laws.proofs.Write.{count-r, count-d, resource-byte, width-there, device-there}
-use Rattle.laws.proofs.Inverse.{written-representable, written-good, written-done, written-long}
+use Rattle.laws.proofs.Inverse.{records-pass, written-representable, written-good, written-done, written-long}
 
 -- the station that two lists describe, of no version
 unfoldable pub describedStation : List ℕ → List ℕ → Station
@@ -99,3 +102,28 @@ module _ (version : ℕ) (rs ds t : List ℕ) (m : Makes version rs ds t) where
   -- and it says the described station
   pub made-station : station t ≡ describedStation rs ds
   made-station = rw made-is (station-there version rs ds can)
+
+-- ---- what version 1 holds, version 2 can hold too: so there are two such tables of each description that fits in version 1
+module _ (rs ds t : List ℕ) (m : Makes 1 rs ds t) where
+  -- the counts fit
+  counts-2 : describedCountsGood 2 rs ds ≡ true
+  unfolding describedCountsGood versionWidth
+  counts-2 =
+      let c = both-true (leb (describedR rs) 32) (leb (describedD ds) 32) (can 1 rs ds t m .counts) in
+      let r = leb-true (describedR rs) 32 (c .0) in
+      let d = leb-true (describedD ds) 32 (c .1) in
+      and-true (leb (describedR rs) 64) (leb (describedD ds) 64) (le-leb (describedR rs) 64 (omega arith)) (le-leb (describedD ds) 64 (omega arith))
+
+  -- with room the writer is done
+  done-2 : (room : ℕ) → writtenSize 2 rs ds ≤ room → writeVerdict 2 rs ds room ≡ Done (writtenSize 2 rs ds)
+  unfolding writeVerdict recordsVerdict versionGood
+  done-2 room l =
+      let records : recordsVerdict rs ds ≡ Done 0 = first-through _ (Done 0) (records-pass 1 rs ds (length t) (passed 1 rs ds t m)) in
+      rw (counts-2, le-leb (writtenSize 2 rs ds) room l, records) (unfold firstOf unless passes in refl)
+
+  pub made-2 : Makes 2 rs ds (tableBytes 2 rs ds)
+  unfolding write
+  made-2 a l =
+      let size = writtenSize 2 rs ds in
+      let long : length (tableBytes 2 rs ds) ≡ size = written-long 2 rs ds size (ap passes (done-2 size (omega arith)) ∙ done-passes size) in
+      rw (done-2 (length a) (omega (arith, long)), long) (unfold passes in refl)

@@ -20,6 +20,7 @@ use Rattle.rules.specs.declared.Verdict.the-variants.{Done}
 use Rattle.rules.specs.Answers.{passes, firstOf, unless}
 use Rattle.rules.specs.Station.{width, station}
 use Rattle.rules.specs.Status.{Status, statusOf, status}
+use Rattle.rules.specs.Describe.{tableBytes}
 use Rattle.rules.specs.Sleep.{isSleep, sleepMoves, noneMoves}
 use Rattle.rules.specs.Outcomes.{Outcome, outcome, freshVerdict, fresh, listRoom, planOutcome, sleepStages, plannedEach}
 use Rattle.rules.specs.Outcomes.{sleepList, stateForSleep, planRoom, planStages, planList, planState, planWords, planBytes}
@@ -28,13 +29,14 @@ use Rattle.rules.specs.BringUp.{bringUpStages, bringUpList, stateBroughtUp, bri
 use Rattle.rules.specs.BringUp.{checkBringUpBytes}
 use Rattle.rules.proofs.Answers.{done-passes}
 use Rattle.rules.proofs.Width.{version-4, version-8}
-use Rattle.laws.specs.Versions.{SameState, SameOutcome, SamePlans, SameAnswers, SameFresh, VersionsAgree}
+use Rattle.laws.specs.Inverse.{AllBytes, Makes}
+use Rattle.laws.specs.Versions.{SameStation, SameState, SameOutcome, SamePlans, SameAnswers, SameFresh, VersionsAgree}
 use Rattle.laws.proofs.Stages.{bring-up-pass}
 use Rattle.laws.proofs.Lists.{refused-count, plan-outcome, plan-refused, one-each}
 use Rattle.laws.proofs.BringUp.{consistent-passes}
 use Rattle.laws.proofs.SleepStages.{sleep-of}
 use Rattle.laws.proofs.Sleep.{sleep-offs, sleep-up, sleep-lists, sleep-after, sleep-moved}
-use Rattle.laws.proofs.Made.{made-good, made-width, made-station}
+use Rattle.laws.proofs.Made.{made-good, made-width, made-station, made-2}
 use Rattle.laws.proofs.OneStation.{OneStation, OneStatus, same-stages, same-sleep-stages, same-bring-up, same-planned}
 use Rattle.laws.proofs.OneStation.{same-bring-up-list, same-fresh, same-after, same-brought-up, same-each}
 
@@ -197,3 +199,8 @@ versions-agree t₁ t₂ m =
       wider = omega (arith, four, eight);
     } in
     (fresh-agree t₁ t₂ s four eight, answers-agree t₁ t₂ s four eight)
+
+-- and such tables there are of every description that is written as version 1
+pub same-station : (rs ds t : List ℕ) → AllBytes rs → AllBytes ds → Makes 1 rs ds t → SameStation t (tableBytes 2 rs ds)
+same-station rs ds t a b m =
+    record { resources = rs; devices = ds; bytes = (a, b); first = m; second = made-2 rs ds t m }
