@@ -34,8 +34,12 @@ pub fn bring_up_words(table: &[u8], state: &mut [u8], plan: &mut [u32]) -> Verdi
     ensures brings { λ r. ⌜ BringsUpWords (now (table .entry)) (now (state .entry)) (now (plan .entry)) (numberOf r) (countOf r)
         (now (state .exit)) (now (plan .exit)) ⌝ }
 {
+    let of_table = table::check_table(table);
+    if !rules::passes(of_table) {
+        return of_table;
+    }
     let fits = plan.len() >= switching::write::room(table);
-    let v = crate::stages::verdict(table, state, fits);
+    let v = crate::stages::past_table(table, state, fits);
     if !rules::passes(v) {
         return v;
     }

@@ -255,6 +255,9 @@ table-done t e = first-through _ (Done 0) e
 pub table-passed : (t : List ℕ) (v : Verdict) (b : Bool) → v ≡ tableVerdict t → b ≡ passes v → not b ≡ false → tableVerdict t ≡ Done 0
 table-passed t v b e f p = table-done t (sym (accepted-is t v b e f) ∙ not-false b p)
 
+pub long-passed : (t : List ℕ) (v : Verdict) (b : Bool) → v ≡ tableVerdict t → b ≡ passes v → not b ≡ false → 8 ≤ length t
+long-passed t v b e f p = long-done t 0 (table-passed t v b e f p)
+
 -- ---- a device's record
 module _ (t : List ℕ) (d : ℕ) (b : Bool) (e : b ≡ passes (tableVerdict t)) where
   pub part-refused : not b ≡ true → [] ≡ recordPart t d
