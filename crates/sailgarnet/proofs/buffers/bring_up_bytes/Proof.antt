@@ -9,7 +9,7 @@ use Rattle.rules.proofs.Answers.{refused-stops}
 use Rattle.table.proofs.Verdicts.{header-passed, table-passed}
 use Rattle.switching.proofs.Answered.{parts}
 use Rattle.bringup.proofs.Whole.{stop-header, stop-table, passed-by, room-bytes, bytes-refused, bytes-brought}
-use Rattle.planner.proofs.Room.{room-words, words-33, bytes-132}
+use Rattle.planner.proofs.Room.{room-words, words-65, bytes-room}
 use Rattle.sailgarnet.proofs.Outer.{bring-up-room}
 use Rattle.sailgarnet.proofs.buffers.bring_up_bytes.Statement.{statement}
 use Rattle.sailgarnet.proofs.buffers.bring_up_bytes.Tie as tie
@@ -62,7 +62,7 @@ write-words-requires c κs =
     let w = written .write-bring-up .ensures in
     let short = bring-up-room _ _ (passed-by _ _ _ _ _ e f (left .if3 .left)) in
     let fits = room-bytes _ _ _ _ (room .room .ensures .0) _ _ f e (left .if3 .left) in
-    (words-33 _ _ _ short _ _ _ _ w (search needs), bytes-132 _ _ _ short _ _ _ _ w _ fits)
+    (words-65 _ _ _ short _ _ _ _ w (search needs), bytes-room _ _ _ short _ _ _ _ w _ fits)
 
 returns-4 : tie.Need-returns-4
 returns-4 c =

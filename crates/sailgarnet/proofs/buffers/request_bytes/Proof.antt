@@ -4,7 +4,7 @@ use borrow.Author.Needs.{needs}
 use Rattle.request.proofs.Changes.{permitted-by}
 use Rattle.switching.proofs.Answered.{parts}
 use Rattle.planner.proofs.Whole.{room-bytes, bytes-refused, bytes-planned}
-use Rattle.planner.proofs.Room.{room-words, request-room, words-33, bytes-132}
+use Rattle.planner.proofs.Room.{room-words, request-room, words-65, bytes-room}
 use Rattle.sailgarnet.proofs.buffers.request_bytes.Statement.{statement}
 use Rattle.sailgarnet.proofs.buffers.request_bytes.Tie as tie
 
@@ -37,7 +37,7 @@ write-words-requires c κs =
     let g = permitted-by _ _ _ _ _ _ e f (left .if1 .left) in
     let fits = room-bytes _ _ _ _ _ (room .room .ensures .0) _ _ f e (left .if1 .left) in
     let short = request-room _ _ _ g in
-    (words-33 _ _ _ short _ _ _ _ w (search needs), bytes-132 _ _ _ short _ _ _ _ w _ fits)
+    (words-65 _ _ _ short _ _ _ _ w (search needs), bytes-room _ _ _ short _ _ _ _ w _ fits)
 
 returns-2 : tie.Need-returns-2
 returns-2 c =

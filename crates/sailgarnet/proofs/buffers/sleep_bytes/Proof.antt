@@ -3,7 +3,7 @@
 use mathlib.Core.Path.{refl}
 use borrow.Author.Needs.{needs}
 use Rattle.switching.proofs.Answered.{parts}
-use Rattle.planner.proofs.Choices.{states-32, choice-given, sleep-room-bytes, sleep-bytes-refused, sleep-bytes-planned}
+use Rattle.planner.proofs.Choices.{states-64, choice-given, sleep-room-bytes, sleep-bytes-refused, sleep-bytes-planned}
 use Rattle.sailgarnet.proofs.buffers.sleep_bytes.Statement.{statement}
 use Rattle.sailgarnet.proofs.buffers.sleep_bytes.Tie as tie
 
@@ -23,7 +23,7 @@ write-choice-requires c κs =
     let room = asked .before .before .before in
     let e = asked .past-table .ensures in
     let f = answer .passes .ensures in (
-      choice-given _ _ _ _ _ _ (room .room .ensures .0) _ _ f _ (e .0) (e .1) (left .if1 .left) (search (needs, states-32)),
+      choice-given _ _ _ _ _ _ (room .room .ensures .0) _ _ f _ (e .0) (e .1) (left .if1 .left) (search (needs, states-64)),
       sleep-room-bytes _ _ _ _ _ _ (room .room .ensures .0) _ _ f _ (e .0) (e .1) (left .if1 .left) _ refl,
     )
 
@@ -45,7 +45,7 @@ sleep-bytes-spec =
     (λ c κs. search needs)
     (λ c. search needs)
     (λ c. search needs)
-    (λ c κs. (search needs, search needs, search (needs, states-32)))
+    (λ c κs. (search needs, search needs, search (needs, states-64)))
     (λ c κs. search needs)
     (λ c. search needs)
     returns
