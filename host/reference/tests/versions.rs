@@ -251,6 +251,9 @@ fn switching(in_d0: u64, in_d3hot: u64, to_wake: u64) -> Record {
     }
 }
 
+/// A request with its calls, and the entry and the on-set that it leaves.
+type Step = (Request, &'static [[u8; 4]], [u8; 4], u64);
+
 #[test]
 fn resources_above_31_are_switched_by_their_order() {
     let mut resources = [(3, 5); 64];
@@ -258,7 +261,7 @@ fn resources_above_31_are_switched_by_their_order() {
     resources[63].1 = 9;
     let table = table(&resources, &[switching(HIGH | 1, 1 << 40, 1 << 47)]);
     let (r0, r32, r63) = (1, 1 << 32, 1 << 63);
-    let steps: [(Request, &[[u8; 4]], [u8; 4], u64); 4] = [
+    let steps: [Step; 4] = [
         (
             Request::move_to(0, D3COLD),
             &[[3, 0, 3, 0], [2, 63, 0, 0], [2, 0, 0, 0], [2, 32, 0, 0]],
