@@ -1,7 +1,6 @@
 //! Bring-up: the switching at power-on, where any resources may be on.
 
 use crate::answer::Answer;
-use crate::planner::PLAN_WORDS;
 use crate::state::{write_on_set, State};
 use crate::switching::{words, Switching};
 use crate::table::Table;
@@ -15,11 +14,11 @@ pub fn bring_up(table: &[u8], state: &mut [u8], plan: &mut [u8]) -> Answer {
         Err(refusal) => return refusal,
     };
     let words = plan.as_chunks_mut::<4>().0;
-    if words.len() < PLAN_WORDS {
+    if words.len() < table.version().plan_words() {
         return Answer::refused(9, 0);
     }
     let count = switching.write_calls(&table, |i, word| words[i] = word.to_le_bytes());
-    write_on_set(state, switching.target);
+    write_on_set(table.version(), state, switching.target);
     Answer::done(count)
 }
 

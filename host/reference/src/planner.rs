@@ -6,17 +6,9 @@ use crate::request::{verdict, Request, SLEEP};
 use crate::sleep::{least_choice, write_moves};
 use crate::state::{write_fresh, Entry, State};
 use crate::switching::words;
-use crate::table::{Table, MAX_DEVICES};
+use crate::table::Table;
+use crate::version::Version;
 use crate::work::Work;
-
-/// The room a plan needs, in words: every resource once and the own call.
-pub const PLAN_WORDS: usize = 33;
-/// The room a plan needs, in bytes.
-pub const PLAN_BYTES: usize = 4 * PLAN_WORDS;
-/// The room a plan of sleep entry needs, in words: every device may move.
-pub const SLEEP_PLAN_WORDS: usize = MAX_DEVICES * PLAN_WORDS;
-/// The room a plan of sleep entry needs, in bytes.
-pub const SLEEP_PLAN_BYTES: usize = 4 * SLEEP_PLAN_WORDS;
 
 /// Writes the fresh state of a table into `state`.
 pub fn fresh(table: &[u8], state: &mut [u8]) -> Answer {
@@ -24,13 +16,11 @@ pub fn fresh(table: &[u8], state: &mut [u8]) -> Answer {
         Ok(table) => table,
         Err(refusal) => return refusal,
     };
-    match state.try_into() {
-        Ok(state) => {
-            write_fresh(&table, state);
-            Answer::done(0)
-        }
-        Err(_) => Answer::refused(7, 0),
+    if state.len() != table.version().state_bytes() {
+        return Answer::refused(7, 0);
     }
+    write_fresh(&table, state);
+    Answer::done(0)
 }
 
 /// Plans a request: writes the calls to `plan`, four bytes each, and the new
@@ -80,7 +70,7 @@ fn count_of_plan(
 ) -> Result<u16, Answer> {
     let table = Table::read(table)?;
     let state = State::read(&table, lent)?;
-    if room < words_due(request.kind) {
+    if room < words_due(table.version(), request.kind) {
         return Err(Answer::refused(9, 0));
     }
     if request.kind == SLEEP {
@@ -91,12 +81,12 @@ fn count_of_plan(
     Ok(work.write(&table, lent, write))
 }
 
-/// The room for a plan, in words. Only the kind counts, since the room is looked
-/// at before the other numbers.
-const fn words_due(kind: u32) -> usize {
+/// The room for a plan, in words. Of the request only the kind counts, since the
+/// room is looked at before the other numbers.
+const fn words_due(version: Version, kind: u32) -> usize {
     match kind {
-        SLEEP => SLEEP_PLAN_WORDS,
-        _ => PLAN_WORDS,
+        SLEEP => version.sleep_plan_words(),
+        _ => version.plan_words(),
     }
 }
 
@@ -133,20 +123,20 @@ pub struct Effect {
     /// The entry of the device after the request.
     pub entry_after: Entry,
     /// The resources on before the request.
-    pub on_before: u32,
+    pub on_before: u64,
     /// The resources that some device needs before the request.
-    pub needed_before: u32,
+    pub needed_before: u64,
     /// The resources that some device needs after the request.
-    pub needed_after: u32,
+    pub needed_after: u64,
     /// The device's own needs before the request.
-    pub device_needs_before: u32,
+    pub device_needs_before: u64,
     /// The device's own needs after the request.
-    pub device_needs_after: u32,
+    pub device_needs_after: u64,
     /// The device's own call.
     pub own_call: Option<Call>,
     /// The needs that must be met when the own call is made: those after for a
     /// move to D0 and for arming, those before for a deeper move and for disarming.
-    pub own_call_needs: u32,
+    pub own_call_needs: u64,
 }
 
 /// What a request does, or its refusal (1 to 8, 10 to 18). Sleep entry is 10.

@@ -113,7 +113,7 @@ pub(crate) fn write_moves(
         let now = State::of_good(table, state);
         let switching = Switching::new(now.on(), now.needed(table));
         count = switching.write_calls(table, write);
-        write_on_set(state, switching.target);
+        write_on_set(table.version(), state, switching.target);
     }
     count
 }
@@ -127,7 +127,7 @@ struct Sleep<'a> {
     state: &'a State<'a>,
     x: u8,
     /// The resources that cannot be on in Sx.
-    lost: u32,
+    lost: u64,
 }
 
 impl<'a> Sleep<'a> {

@@ -2,11 +2,7 @@
 
 use crate::answer::Answer;
 use crate::table::{Device, Table};
-
-/// The length of a state image.
-pub const STATE_BYTES: usize = 132;
-/// Where the set of resources that are on begins.
-const ON_SET: usize = 128;
+use crate::version::Version;
 
 /// Fully on.
 pub(crate) const D0: u8 = 0;
@@ -48,7 +44,7 @@ impl Entry {
 pub struct State<'a> {
     /// One entry for each device of the table.
     entries: &'a [[u8; 4]],
-    on: u32,
+    on: u64,
 }
 
 impl<'a> State<'a> {
@@ -85,8 +81,10 @@ impl<'a> State<'a> {
     /// Reads a state whose values are good, or gives `None`. Its devices need not be
     /// consistent.
     pub fn read_values(table: &Table, bytes: &'a [u8]) -> Option<Self> {
-        let bytes: &[u8; STATE_BYTES] = bytes.try_into().ok()?;
-        let (entries, on) = parts(bytes);
+        if bytes.len() != table.version().state_bytes() {
+            return None;
+        }
+        let (entries, on) = parts(table.version(), bytes);
         let (entries, unused) = entries.split_at(table.device_count());
         let good = entries.iter().all(|&entry| values_are_good(entry))
             && unused.iter().all(|&entry| entry == [0; 4])
@@ -96,7 +94,7 @@ impl<'a> State<'a> {
 
     /// The state in bytes that are known to be good.
     pub(crate) fn of_good(table: &Table, bytes: &'a [u8]) -> Self {
-        let (entries, on) = parts(bytes);
+        let (entries, on) = parts(table.version(), bytes);
         Self {
             entries: &entries[..table.device_count()],
             on,
@@ -119,17 +117,17 @@ impl<'a> State<'a> {
     }
 
     /// The resources that are on.
-    pub fn on(&self) -> u32 {
+    pub fn on(&self) -> u64 {
         self.on
     }
 
     /// The resources that some device needs.
-    pub fn needed(&self, table: &Table) -> u32 {
+    pub fn needed(&self, table: &Table) -> u64 {
         (0..table.device_count()).fold(0, |set, d| set | table.device(d).needs(self.entry(d)))
     }
 
     /// The resources that some device needs once device `changed` has `entry`.
-    pub(crate) fn needed_with(&self, table: &Table, changed: usize, entry: Entry) -> u32 {
+    pub(crate) fn needed_with(&self, table: &Table, changed: usize, entry: Entry) -> u64 {
         (0..table.device_count())
             .filter(|&d| d != changed)
             .fold(table.device(changed).needs(entry), |set, d| {
@@ -138,11 +136,13 @@ impl<'a> State<'a> {
     }
 }
 
-/// The entries of a state image, 32 whatever the table, and the resources that
-/// are on.
-fn parts(bytes: &[u8]) -> (&[[u8; 4]], u32) {
-    let (entries, on) = bytes.as_chunks().0.split_at(ON_SET / 4);
-    (entries, u32::from_le_bytes(on[0]))
+/// The entries of a state image, one for every device that a table may have, and
+/// the resources that are on.
+fn parts(version: Version, bytes: &[u8]) -> (&[[u8; 4]], u64) {
+    let (entries, on) = bytes.split_at(version.entry_bytes());
+    let mut set = [0; 8];
+    set[..on.len()].copy_from_slice(on);
+    (entries.as_chunks().0, u64::from_le_bytes(set))
 }
 
 fn values_are_good([state, armed, wake_s, wake_d]: [u8; 4]) -> bool {
@@ -155,18 +155,21 @@ fn values_are_good([state, armed, wake_s, wake_d]: [u8; 4]) -> bool {
 }
 
 /// Writes the fresh state: every device in D0 and not armed, all resources on.
-pub(crate) fn write_fresh(table: &Table, state: &mut [u8; STATE_BYTES]) {
-    state[..ON_SET].fill(0);
-    state[ON_SET..].copy_from_slice(&table.all_resources().to_le_bytes());
+pub(crate) fn write_fresh(table: &Table, state: &mut [u8]) {
+    let version = table.version();
+    state[..version.entry_bytes()].fill(0);
+    write_on_set(version, state, table.all_resources());
 }
 
 /// Writes the new entry of device `d` and the set of resources that are on.
-pub(crate) fn write_change(state: &mut [u8], d: usize, entry: Entry, on: u32) {
+pub(crate) fn write_change(version: Version, state: &mut [u8], d: usize, entry: Entry, on: u64) {
     state[4 * d..4 * d + 4].copy_from_slice(&entry.to_bytes());
-    write_on_set(state, on);
+    write_on_set(version, state, on);
 }
 
-/// Writes the set of resources that are on.
-pub(crate) fn write_on_set(state: &mut [u8], on: u32) {
-    state[ON_SET..STATE_BYTES].copy_from_slice(&on.to_le_bytes());
+/// Writes the set of resources that are on, which has no bit that the version
+/// cannot hold.
+pub(crate) fn write_on_set(version: Version, state: &mut [u8], on: u64) {
+    let bytes = &mut state[version.entry_bytes()..version.state_bytes()];
+    bytes.copy_from_slice(&on.to_le_bytes()[..version.set_bytes()]);
 }

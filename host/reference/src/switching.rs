@@ -8,18 +8,18 @@ use crate::table::{numbers, Table, MAX_RESOURCES};
 /// without a device's own call.
 pub(crate) struct Switching {
     /// The resources that are on at the end.
-    pub target: u32,
+    pub target: u64,
     /// Those of the target that are off.
-    to_turn_on: u32,
+    to_turn_on: u64,
     /// The resources that are on and not in the target.
-    to_turn_off: u32,
+    to_turn_off: u64,
     own_first: Option<u32>,
     own_last: Option<u32>,
 }
 
 impl Switching {
     /// The switching alone.
-    pub fn new(on: u32, target: u32) -> Self {
+    pub fn new(on: u64, target: u64) -> Self {
         Self {
             target,
             to_turn_on: target & !on,
@@ -96,7 +96,7 @@ pub(crate) fn words(list: &[u8]) -> Option<impl Iterator<Item = u32> + '_> {
 
 /// The resources of a set as sort keys, rising by order and then by number.
 /// The lowest byte of a key is the resource number.
-fn rising<'k>(table: &Table, set: u32, keys: &'k mut [u32; MAX_RESOURCES]) -> &'k [u32] {
+fn rising<'k>(table: &Table, set: u64, keys: &'k mut [u32; MAX_RESOURCES]) -> &'k [u32] {
     let mut length = 0;
     for r in numbers(set) {
         keys[length] = u32::from(table.resource_order(r)) << 8 | r as u32;
@@ -113,7 +113,7 @@ fn calls_own(own_call: Option<u32>, list: &mut impl Iterator<Item = u32>) -> boo
 }
 
 /// Whether the next calls of a list are `_ON` of each resource of `due`, by rising order.
-fn switches_on(table: &Table, mut due: u32, list: &mut impl Iterator<Item = u32>) -> bool {
+fn switches_on(table: &Table, mut due: u64, list: &mut impl Iterator<Item = u32>) -> bool {
     let mut last = 0;
     while due != 0 {
         let Some(Call::On { resource }) = list.next().and_then(Call::from_word) else {
@@ -131,7 +131,7 @@ fn switches_on(table: &Table, mut due: u32, list: &mut impl Iterator<Item = u32>
 }
 
 /// Whether the next calls of a list are `_OFF` of each resource of `due`, by falling order.
-fn switches_off(table: &Table, mut due: u32, list: &mut impl Iterator<Item = u32>) -> bool {
+fn switches_off(table: &Table, mut due: u64, list: &mut impl Iterator<Item = u32>) -> bool {
     let mut last = u16::MAX;
     while due != 0 {
         let Some(Call::Off { resource }) = list.next().and_then(Call::from_word) else {
@@ -149,8 +149,8 @@ fn switches_off(table: &Table, mut due: u32, list: &mut impl Iterator<Item = u32
 }
 
 /// Takes a resource out of a set and gives its order, or `None` if it is not in it.
-fn take(table: &Table, set: &mut u32, resource: u8) -> Option<u16> {
-    let bit = 1u32.checked_shl(resource.into())?;
+fn take(table: &Table, set: &mut u64, resource: u8) -> Option<u16> {
+    let bit = 1u64.checked_shl(resource.into())?;
     if *set & bit == 0 {
         return None;
     }

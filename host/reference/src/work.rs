@@ -34,7 +34,14 @@ impl Work {
     /// number of calls.
     pub fn write(&self, table: &Table, state: &mut [u8], write: impl FnMut(usize, u32)) -> u16 {
         let count = self.switching.write_calls(table, write);
-        write_change(state, self.device, self.entry, self.switching.target);
+        let version = table.version();
+        write_change(
+            version,
+            state,
+            self.device,
+            self.entry,
+            self.switching.target,
+        );
         count
     }
 }
