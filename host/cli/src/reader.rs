@@ -182,7 +182,7 @@ impl<'a> Text<'a> {
         let resources = words::count(self.names.resources.len(), "resource");
         let devices = words::count(self.names.devices.len(), "device");
         let hint = match self.first_beyond(Version::Two) {
-            None => "; version 2 has room for them: write version 2 here, or give --version 2",
+            None => "; with --version 2 there is room for 64 of each",
             Some(_) => "",
         };
         let message = format!("the text has {resources} and {devices}{hint}");
