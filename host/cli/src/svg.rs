@@ -239,7 +239,7 @@ fn draw_areas(out: &mut String, layout: &Layout, base: usize, row: &Row) {
 }
 
 /// The line that is high for on and low for off, with a word at the start and
-/// after each change.
+/// after each change, and again where a large drawing repeats it.
 fn draw_level(out: &mut String, layout: &Layout, base: usize, row: &Row) {
     let edges = &layout.edges;
     let level = |on: bool| if on { base - SWING } else { base };
@@ -248,15 +248,19 @@ fn draw_level(out: &mut String, layout: &Layout, base: usize, row: &Row) {
         let _ = write!(path, "V{}H{end}", level(on));
     }
     let _ = writeln!(out, "<path class=\"level\" d=\"{path}\"/>");
+    let mut last = LEFT;
     for (point, &on) in row.on.iter().enumerate() {
+        let x = edges[point];
+        let is_said = point > 0 && row.on[point - 1] == on;
         let word = match (on, row.fails_at(point)) {
             (_, true) => "! off",
-            _ if point > 0 && row.on[point - 1] == on => continue,
+            _ if is_said && !layout.repeats.is_far(x - last) => continue,
             (true, _) => "on",
             (false, _) => "off",
         };
-        let word = layout.repeats.at_change(row, word);
-        text(out, edges[point] + 7, base - 6, "small", &word);
+        last = x;
+        let word = layout.repeats.named(row, word);
+        text(out, x + 7, base - 6, "small", &word);
     }
 }
 

@@ -8,13 +8,15 @@ use crate::words;
 const MANY_ROWS: usize = 16;
 /// In a drawing wider than this the resources are named again.
 const WIDE: usize = 2000;
+/// So far from a word of a row the next one is written without a change.
+const FAR: usize = 1000;
 /// The height of the texts of the calls.
 const CALL_TEXTS: usize = 48;
 
 /// What is shown again.
 #[derive(Default)]
 pub struct Repeats {
-    /// Whether the resources are named at each change and at the right edge.
+    /// Whether the resources are named along their rows and at the right edge.
     names: bool,
     /// The height of the texts of the calls below the rows, 0 if there are none.
     pub height: usize,
@@ -29,8 +31,13 @@ impl Repeats {
         }
     }
 
-    /// A word at a change of a resource.
-    pub fn at_change(&self, row: &Row, word: &str) -> String {
+    /// Whether a word is said again at this distance from the last one.
+    pub fn is_far(&self, distance: usize) -> bool {
+        self.names && distance >= FAR
+    }
+
+    /// A word in the row of a resource.
+    pub fn named(&self, row: &Row, word: &str) -> String {
         match self.names {
             true => format!("r{} {word}", row.resource),
             false => word.into(),

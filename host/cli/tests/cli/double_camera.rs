@@ -172,8 +172,8 @@ fn the_line_is_brought_up() {
         .failed("--on names resource 47, and the table has 47, numbered from 0");
 }
 
-/// A tall drawing has its calls above and below the rows, and a wide one names a
-/// resource where it changes and at the right edge.
+/// A tall drawing has its calls above and below the rows, and a wide one names each
+/// resource along its row and at the right edge.
 #[test]
 fn large_drawings_stay_readable() {
     let desk = armed("double_drawn");
@@ -183,7 +183,7 @@ fn large_drawings_stay_readable() {
     texts_are_apart(&drawing);
     let count = |part: &str| drawing.matches(part).count();
     assert_eq!(count(">r46<"), 2 + 2);
-    assert_eq!(count(">r46 off<"), 1);
+    assert!(count(">r46 off<") > 3 && count(">r42 on<") > 5);
     assert_eq!((count(">_PS2<"), count(">48<")), (2 * 3, 2));
 
     desk.write("text", many(64, 64).as_bytes());

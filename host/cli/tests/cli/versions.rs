@@ -260,7 +260,60 @@ fn other_states_are_refused_without_advice() {
     );
 }
 
-/// A good table of version 2 with a byte changed, or with other bytes.
+/// Changes of bytes that make the bench station in version 2 a refused table, with
+/// the number of the answer and its sentence.
+const REFUSED: [(usize, u8, u8, &str); 6] = [
+    (
+        0,
+        b'Q',
+        1,
+        "the table is none, since it does not begin with the letters PWT.",
+    ),
+    (
+        3,
+        65,
+        2,
+        "the table has 65 resources and 3 devices, and version 2 allows 64 of each.",
+    ),
+    (
+        4,
+        1,
+        3,
+        "the table is 212 bytes long, and version 1 has 140 bytes for 3 resources and 3 devices.",
+    ),
+    (
+        4,
+        3,
+        1,
+        "the table is of version 3, and there are versions 1 and 2 alone.",
+    ),
+    (
+        5,
+        1,
+        1,
+        "the table is of version 258, and there are versions 1 and 2 alone.",
+    ),
+    (7, 1, 1, "the table is not zero in its byte 7."),
+];
+
+/// The answer to this table, whatever is done with it.
+fn is_refused(desk: &Desk, table: &[u8], number: u8, sentence: &str) {
+    desk.write("bad", table);
+    let expected = format!("Answer {number}, place 0: {sentence}\n");
+    for line in [
+        "show bad",
+        "describe bad",
+        "fresh bad -o new",
+        "convert bad --version 1 -o new",
+        "plan bad wide-state move 1 D2",
+        "trace bad wide-state sleep S3",
+        "bring-up bad wide-state --on r40",
+    ] {
+        assert_eq!(desk.run(line).refused(number), expected, "{line}");
+    }
+    assert!(!desk.has("new"));
+}
+
 #[test]
 fn refused_tables_are_explained_by_their_version() {
     let desk = desk("versions_refused");
@@ -270,60 +323,14 @@ fn refused_tables_are_explained_by_their_version() {
         table[byte] = value;
         table
     };
-    for (table, number, sentence) in [
-        (
-            wide[..7].to_vec(),
-            1,
-            "the table is 7 bytes long, and its header alone has 8.",
-        ),
-        (
-            with(4, 3),
-            1,
-            "the table is of version 3, and there are versions 1 and 2 alone.",
-        ),
-        (
-            with(5, 1),
-            1,
-            "the table is of version 258, and there are versions 1 and 2 alone.",
-        ),
-        (with(7, 1), 1, "the table is not zero in its byte 7."),
-        (
-            with(0, b'Q'),
-            1,
-            "the table is none, since it does not begin with the letters PWT.",
-        ),
-        (
-            with(3, 65),
-            2,
-            "the table has 65 resources and 3 devices, and version 2 allows 64 of each.",
-        ),
-        (
-            with(4, 1),
-            3,
-            "the table is 212 bytes long, and version 1 has 140 bytes for 3 resources and 3 \
-             devices.",
-        ),
-        (
-            wide[..211].to_vec(),
-            3,
-            "the table is 211 bytes long, and version 2 has 212 bytes for 3 resources and 3 \
-             devices.",
-        ),
-    ] {
-        desk.write("bad", &table);
-        let expected = format!("Answer {number}, place 0: {sentence}\n");
-        for line in [
-            "show bad",
-            "describe bad",
-            "fresh bad -o new",
-            "convert bad --version 1 -o new",
-            "plan bad wide-state move 1 D2",
-            "trace bad wide-state sleep S3",
-            "bring-up bad wide-state --on r40",
-        ] {
-            assert_eq!(desk.run(line).refused(number), expected, "{line}");
-        }
+    for (byte, value, number, sentence) in REFUSED {
+        is_refused(&desk, &with(byte, value), number, sentence);
     }
+    let sentence = "the table is 7 bytes long, and its header alone has 8.";
+    is_refused(&desk, &wide[..7], 1, sentence);
+    let sentence =
+        "the table is 211 bytes long, and version 2 has 212 bytes for 3 resources and 3 devices.";
+    is_refused(&desk, &wide[..211], 3, sentence);
     // Byte 54 of a record is the first of its ten zeros.
     desk.write("bad", &with(20 + 64 + 54, 1));
     let text = desk.run("show bad").refused(5);
