@@ -266,7 +266,6 @@ pub struct Device<'a> {
 impl<'a> Device<'a> {
     /// The fields of a record of `N` bytes whose sets have `W` each: 40 and 4 or 64
     /// and 8 in a table, 54 and 8 in a description.
-    #[inline]
     pub(crate) fn of_record<const N: usize, const W: usize>(record: &'a [u8; N]) -> Self {
         const { assert!(W == 4 || W == 8) };
         let (head, rest) = record.split_first_chunk().expect("head");
