@@ -199,6 +199,11 @@ impl Coverage {
         }
     }
 
+    /// The answers for all numbers that are no version.
+    pub fn of_no_version(&self) -> &Functions {
+        &self.neither
+    }
+
     /// The answers for the version of these bytes of a table.
     pub fn of_table(&mut self, table: &[u8]) -> &mut Functions {
         self.of_mut(Version::of_table(table))
