@@ -1,5 +1,5 @@
 //! The inputs on which the functions are measured: the bench station, stations
-//! of full size, and a refusal at each stage of the checks.
+//! of full size, a refusal at each stage of the checks, and the double-camera line.
 
 use reference::{plan, Request, Version};
 
@@ -112,6 +112,7 @@ pub fn workloads() -> Vec<Workload> {
     all.extend(bring_ups());
     all.extend(descriptions());
     all.extend(of_version_2());
+    all.extend(on_the_line());
     all
 }
 
@@ -263,6 +264,27 @@ fn of_version_2() -> Vec<Workload> {
         Workload::both_of_bring_up("version 2, full, 64 OFFs", 0, TWO.all_off()),
         Workload::writer("version 2, full, all sets full", 0, filled()),
         Workload::describer("version 2, full, all sets full", 0, filled()),
+    ]
+}
+
+/// The double-camera line, a table of version 2 with 47 resources and 41 devices,
+/// from its fresh state: its panel goes to D3hot, it is prepared for S3, and it is
+/// brought up with nothing on.
+fn on_the_line() -> Vec<Workload> {
+    let line = include_bytes!("../../../examples/double-camera.pwt");
+    let start = walk(line, &[]);
+    let nothing_on = image(Version::Two, &[], 0);
+    let panel_off = Request::move_to(2, 3);
+    vec![
+        Workload::both("double-camera line, 5 calls to D3hot", 0, {
+            case(line, start.clone(), panel_off)
+        }),
+        Workload::planner("sleep entry, double-camera line, 37 moves", 0, {
+            Case::of_sleep(line, &start, 3)
+        }),
+        Workload::both_of_bring_up("double-camera line, 44 ONs", 0, {
+            Case::of_bring_up(line, &nothing_on)
+        }),
     ]
 }
 

@@ -649,17 +649,26 @@ fn workloads_get_their_answers() {
     assert!([0, 1, 5, 7, 8, 10, 19].iter().all(|n| checker.contains(n)));
     assert_eq!(writer, [0, 0, 5, 0]);
     assert_eq!(describer, [0, 0, 9, 0]);
-    assert_eq!(bring_up, [0, 0, 0, 8, 9, 0, 0]);
-    assert_eq!(bring_up_checker, [0, 0, 0, 8, 19, 0, 0]);
+    assert_eq!(bring_up, [0, 0, 0, 8, 9, 0, 0, 0]);
+    assert_eq!(bring_up_checker, [0, 0, 0, 8, 19, 0, 0, 0]);
+}
+
+/// The counts of calls in the inputs that are measured with some function.
+fn measured_counts(count: impl Fn(&Workload) -> Option<u16>) -> Vec<u16> {
+    workloads().iter().filter_map(count).collect()
 }
 
 #[test]
-fn measured_sleep_entries_have_their_calls() {
-    let counts: Vec<u16> = workloads()
-        .iter()
-        .filter(|workload| workload.case.request.kind == SLEEP)
-        .map(|workload| Answers::of(&workload.case).planner.count)
-        .collect();
+fn measured_plans_have_their_calls() {
+    let is_sleep = |workload: &Workload| workload.case.request.kind == SLEEP;
+    let planned = |workload: &Workload| Answers::of(&workload.case).planner.count;
+    let accepted = |workload: &Workload| workload.planner == Some(0) && !is_sleep(workload);
+    let calls = measured_counts(|workload| accepted(workload).then(|| planned(workload)));
+    assert_eq!(calls, [3, 3, 25, 25, 1, 57, 57, 5]);
     // All of 32 moves have an own call, 31 an _ON and 31 an _OFF; and of 64, 63.
-    assert_eq!(counts, [2, 94, 0, 0, 0, 190, 0]);
+    let calls = measured_counts(|workload| is_sleep(workload).then(|| planned(workload)));
+    assert_eq!(calls, [2, 94, 0, 0, 0, 190, 0, 51]);
+    let brought_up = |workload: &Workload| Answers::of(&workload.case).bring_up.count;
+    let calls = measured_counts(|w| (w.bring_up == Some(0)).then(|| brought_up(w)));
+    assert_eq!(calls, [3, 32, 32, 64, 64, 44]);
 }
