@@ -2,7 +2,9 @@
 //! from and read into.
 
 use crate::answer::Answer;
-use crate::table::{check_devices, check_resources, Device, Table, MARK};
+use crate::device::{check_devices, Record};
+use crate::resources::Resources;
+use crate::table::{for_either, Records, Table, MARK};
 use crate::version::Version;
 
 /// The length of a described resource: its record in a table.
@@ -10,6 +12,8 @@ pub const DESCRIBED_RESOURCE_BYTES: usize = 4;
 /// The length of a described device: the fields of its record, the sets with 8
 /// bytes each.
 pub const DESCRIBED_DEVICE_BYTES: usize = 54;
+/// The length of a set of a described device.
+const DESCRIBED_SET_BYTES: usize = 8;
 
 /// Writes the table of a described station to the front of `table`, or refuses
 /// with 1, 2, 9, 4, 5 or 6. The count is the table's bytes.
@@ -23,21 +27,30 @@ pub fn write(version: u32, resources: &[u8], devices: &[u8], table: &mut [u8]) -
 /// Writes the resources and the devices of a table to the fronts of the two
 /// buffers, or refuses with 1 to 6 or 9. The count is the bytes of both.
 pub fn describe(table: &[u8], resources: &mut [u8], devices: &mut [u8]) -> Answer {
-    let table = match Table::read(table) {
-        Ok(table) => table,
-        Err(refusal) => return refusal,
-    };
-    let resources_length = DESCRIBED_RESOURCE_BYTES * table.resource_count();
-    let devices_length = DESCRIBED_DEVICE_BYTES * table.device_count();
+    match Table::read(table) {
+        Ok(table) => for_either!(table, records => describe_records(&records, resources, devices)),
+        Err(refusal) => refusal,
+    }
+}
+
+fn describe_records<const N: usize, const W: usize>(
+    records: &Records<N, W>,
+    resources: &mut [u8],
+    devices: &mut [u8],
+) -> Answer {
+    let resources_length = DESCRIBED_RESOURCE_BYTES * records.resources.count();
+    let devices_length = DESCRIBED_DEVICE_BYTES * records.device_count();
     let (Some(resources), Some(devices)) = (
         resources.get_mut(..resources_length),
         devices.get_mut(..devices_length),
     ) else {
         return Answer::refused(9, 0);
     };
-    resources.copy_from_slice(table.resources.as_flattened());
+    resources.copy_from_slice(records.resources.bytes());
     for (d, device) in devices.as_chunks_mut().0.iter_mut().enumerate() {
-        *device = table.device(d).to_record::<DESCRIBED_DEVICE_BYTES, 8>();
+        *device = records
+            .device(d)
+            .converted::<DESCRIBED_DEVICE_BYTES, DESCRIBED_SET_BYTES>();
     }
     Answer::done((resources_length + devices_length) as u16)
 }
@@ -45,7 +58,7 @@ pub fn describe(table: &[u8], resources: &mut [u8], devices: &mut [u8]) -> Answe
 /// A description that was found good for a version.
 struct Description<'a> {
     version: Version,
-    resources: &'a [[u8; DESCRIBED_RESOURCE_BYTES]],
+    resources: Resources<'a>,
     devices: &'a [[u8; DESCRIBED_DEVICE_BYTES]],
 }
 
@@ -68,12 +81,12 @@ impl<'a> Description<'a> {
             return Err(Answer::refused(9, 0));
         }
         let (resources, cut_resource) = resources.as_chunks();
-        check_resources(resources)?;
+        let resources = Resources::read(resources)?;
         if !cut_resource.is_empty() {
-            return Err(Answer::refused(4, resources.len() as u64));
+            return Err(Answer::refused(4, resources.count() as u64));
         }
         let (devices, cut_device) = devices.as_chunks();
-        check_devices::<DESCRIBED_DEVICE_BYTES, 8>(devices, r)?;
+        check_devices::<DESCRIBED_DEVICE_BYTES, DESCRIBED_SET_BYTES>(devices, resources)?;
         if !cut_device.is_empty() {
             return Err(Answer::refused(5, devices.len() as u64));
         }
@@ -86,7 +99,7 @@ impl<'a> Description<'a> {
 
     /// Writes the table to the front of a buffer that has room for it.
     fn write(&self, table: &mut [u8]) -> Answer {
-        let (r, d) = (self.resources.len(), self.devices.len());
+        let (r, d) = (self.resources.count(), self.devices.len());
         let length = self.version.table_bytes(r, d);
         let (header, records) = table[..length].split_at_mut(8);
         header[..3].copy_from_slice(MARK);
@@ -95,7 +108,7 @@ impl<'a> Description<'a> {
         header[6] = d as u8;
         header[7] = 0;
         let (resources, devices) = records.split_at_mut(4 * r);
-        resources.copy_from_slice(self.resources.as_flattened());
+        resources.copy_from_slice(self.resources.bytes());
         match self.version {
             Version::One => write_records::<40, 4>(self.devices, devices),
             Version::Two => write_records::<64, 8>(self.devices, devices),
@@ -110,6 +123,6 @@ fn write_records<const N: usize, const W: usize>(
     records: &mut [u8],
 ) {
     for (record, device) in records.as_chunks_mut().0.iter_mut().zip(devices) {
-        *record = Device::of_record::<DESCRIBED_DEVICE_BYTES, 8>(device).to_record::<N, W>();
+        *record = Record::<_, DESCRIBED_SET_BYTES>(device).converted::<N, W>();
     }
 }

@@ -3,8 +3,8 @@
 use crate::call::Call;
 use crate::planner::{effect, Effect};
 use crate::request::Request;
+use crate::resources::numbers;
 use crate::switching::words;
-use crate::table::numbers;
 
 /// What is on while a list is carried out: a set of resources that follows the
 /// words and gives no answers. It knows no table: any byte is the number of a

@@ -18,9 +18,11 @@ mod answer;
 mod bring_up;
 mod call;
 mod describe;
+mod device;
 mod execution;
 mod planner;
 mod request;
+mod resources;
 mod sleep;
 mod state;
 mod switching;
@@ -32,12 +34,12 @@ pub use answer::Answer;
 pub use bring_up::{bring_up, check_bring_up};
 pub use call::Call;
 pub use describe::{describe, write, DESCRIBED_DEVICE_BYTES, DESCRIBED_RESOURCE_BYTES};
+pub use device::{wake_range, Device};
 pub use execution::{demand3, demand3_words, execution, Execution};
 pub use planner::{check, check_words, effect, fresh, plan, plan_words, Effect};
 pub use request::Request;
+pub use resources::{numbers, Resources};
 pub use sleep::{sleep_moves, sleep_obstacles, Obstacle, SleepMove};
 pub use state::{Entry, State};
-pub use table::{
-    check_table, numbers, record, wake_range, Device, Table, MAX_DEVICES, MAX_RESOURCES,
-};
+pub use table::{check_table, record, Records, Table, MAX_DEVICES, MAX_RESOURCES};
 pub use version::Version;

@@ -4,9 +4,9 @@ use crate::answer::Answer;
 use crate::call::Call;
 use crate::request::{verdict, Request, SLEEP};
 use crate::sleep::{least_choice, write_moves};
-use crate::state::{write_fresh, Entry, State};
-use crate::switching::words;
-use crate::table::Table;
+use crate::state::{write_fresh, Entry};
+use crate::switching::{words, Switching};
+use crate::table::{for_either, Records, Table};
 use crate::version::Version;
 use crate::work::Work;
 
@@ -55,30 +55,32 @@ fn plan_calls(
     room: usize,
     write: impl FnMut(usize, u32),
 ) -> Answer {
-    match count_of_plan(table, state, request, room, write) {
+    let count = Table::read(table).and_then(
+        |table| for_either!(table, records => count_of_plan(&records, state, request, room, write)),
+    );
+    match count {
         Ok(count) => Answer::done(count),
         Err(refusal) => refusal,
     }
 }
 
-fn count_of_plan(
-    table: &[u8],
+fn count_of_plan<const N: usize, const W: usize>(
+    records: &Records<N, W>,
     lent: &mut [u8],
     request: Request,
     room: usize,
     write: impl FnMut(usize, u32),
 ) -> Result<u16, Answer> {
-    let table = Table::read(table)?;
-    let state = State::read(&table, lent)?;
-    if room < words_due(table.version(), request.kind) {
+    let state = records.state(lent)?;
+    if room < words_due(Records::<N, W>::VERSION, request.kind) {
         return Err(Answer::refused(9, 0));
     }
     if request.kind == SLEEP {
-        let choice = least_choice(&table, &state, request)?;
-        return Ok(write_moves(&table, lent, &choice, write));
+        let choice = least_choice(records, &state, request)?;
+        return Ok(write_moves(records, lent, &choice, write));
     }
-    let work = Work::of(&table, &state, verdict(&table, &state, request)?);
-    Ok(work.write(&table, lent, write))
+    let work = Work::of(records, &state, verdict(records, &state, request)?);
+    Ok(work.write(records, lent, write))
 }
 
 /// The room for a plan, in words. Of the request only the kind counts, since the
@@ -96,21 +98,24 @@ fn check_calls(
     request: Request,
     list: Option<impl Iterator<Item = u32>>,
 ) -> Answer {
-    match work_of_check(table, state, request) {
-        Ok((table, work)) => work.switching.check(&table, list),
+    let answer = Table::read(table).and_then(|table| {
+        let switching = for_either!(table, records => switching_due(&records, state, request))?;
+        Ok(switching.check(table.resources(), list))
+    });
+    match answer {
+        Ok(answer) => answer,
         Err(refusal) => refusal,
     }
 }
 
-fn work_of_check<'a>(
-    table: &'a [u8],
+fn switching_due<const N: usize, const W: usize>(
+    records: &Records<N, W>,
     state: &[u8],
     request: Request,
-) -> Result<(Table<'a>, Work), Answer> {
-    let table = Table::read(table)?;
-    let state = State::read(&table, state)?;
-    let work = Work::of(&table, &state, verdict(&table, &state, request)?);
-    Ok((table, work))
+) -> Result<Switching, Answer> {
+    let state = records.state(state)?;
+    let change = verdict(records, &state, request)?;
+    Ok(Work::of(records, &state, change).switching)
 }
 
 /// What a permitted request about one device does, apart from its list.
@@ -141,10 +146,17 @@ pub struct Effect {
 
 /// What a request does, or its refusal (1 to 8, 10 to 18). Sleep entry is 10.
 pub fn effect(table: &[u8], state: &[u8], request: Request) -> Result<Effect, Answer> {
-    let table = Table::read(table)?;
-    let state = State::read(&table, state)?;
-    let change = verdict(&table, &state, request)?;
-    let device = table.device(change.device);
+    for_either!(Table::read(table)?, records => effect_in(&records, state, request))
+}
+
+fn effect_in<const N: usize, const W: usize>(
+    records: &Records<N, W>,
+    state: &[u8],
+    request: Request,
+) -> Result<Effect, Answer> {
+    let state = records.state(state)?;
+    let change = verdict(records, &state, request)?;
+    let device = records.device(change.device);
     let entry_before = state.entry(change.device);
     let device_needs_before = device.needs(entry_before);
     let device_needs_after = device.needs(change.entry);
@@ -153,8 +165,8 @@ pub fn effect(table: &[u8], state: &[u8], request: Request) -> Result<Effect, An
         entry_before,
         entry_after: change.entry,
         on_before: state.on(),
-        needed_before: state.needed(&table),
-        needed_after: state.needed_with(&table, change.device, change.entry),
+        needed_before: records.needed(&state),
+        needed_after: records.needed_with(&state, change.device, change.entry),
         device_needs_before,
         device_needs_after,
         own_call: change.own_call.and_then(Call::from_word),

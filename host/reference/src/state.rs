@@ -1,7 +1,8 @@
 //! The state image, read in place (answers 7 and 8).
 
 use crate::answer::Answer;
-use crate::table::{Device, Table};
+use crate::device::Record;
+use crate::table::{for_either, Records, Table};
 use crate::version::Version;
 
 /// Fully on.
@@ -50,65 +51,19 @@ pub struct State<'a> {
 impl<'a> State<'a> {
     /// Reads a consistent state, or refuses it with 7 or 8.
     pub fn read(table: &Table, bytes: &'a [u8]) -> Result<Self, Answer> {
-        Self::read_where(table, bytes, |state, device, entry| {
-            state.is_consistent_but_for_power(table, device, entry)
-                && device.needs(entry) & !state.on == 0
-        })
+        for_either!(table, records => records.state(bytes))
     }
 
     /// Reads a state for bring-up, where needed resources may be off, or refuses
     /// it with 7 or 8.
     pub fn read_for_bring_up(table: &Table, bytes: &'a [u8]) -> Result<Self, Answer> {
-        Self::read_where(table, bytes, |state, device, entry| {
-            state.is_consistent_but_for_power(table, device, entry)
-        })
-    }
-
-    /// Reads a state of which every device is good, or refuses it with 7 or 8.
-    fn read_where(
-        table: &Table,
-        bytes: &'a [u8],
-        is_good: impl Fn(&Self, Device, Entry) -> bool,
-    ) -> Result<Self, Answer> {
-        let state = Self::read_values(table, bytes).ok_or(Answer::refused(7, 0))?;
-        let is_bad = |&d: &usize| !is_good(&state, table.device(d), state.entry(d));
-        match (0..table.device_count()).find(is_bad) {
-            Some(d) => Err(Answer::refused(8, d as u64)),
-            None => Ok(state),
-        }
+        for_either!(table, records => records.state_for_bring_up(bytes))
     }
 
     /// Reads a state whose values are good, or gives `None`. Its devices need not be
     /// consistent.
     pub fn read_values(table: &Table, bytes: &'a [u8]) -> Option<Self> {
-        if bytes.len() != table.version().state_bytes() {
-            return None;
-        }
-        let (entries, on) = parts(table.version(), bytes);
-        let (entries, unused) = entries.split_at(table.device_count());
-        let good = entries.iter().all(|&entry| values_are_good(entry))
-            && unused.iter().all(|&entry| entry == [0; 4])
-            && on & !table.all_resources() == 0;
-        good.then_some(Self { entries, on })
-    }
-
-    /// The state in bytes that are known to be good.
-    pub(crate) fn of_good(table: &Table, bytes: &'a [u8]) -> Self {
-        let (entries, on) = parts(table.version(), bytes);
-        Self {
-            entries: &entries[..table.device_count()],
-            on,
-        }
-    }
-
-    fn is_consistent_but_for_power(&self, table: &Table, device: Device, entry: Entry) -> bool {
-        device.supports(entry.state)
-            && device
-                .parent()
-                .is_none_or(|p| entry.state >= self.entry(p).state)
-            && (!entry.armed
-                || entry.state <= entry.wake_d
-                    && table.wake_pair(device, entry.wake_s, entry.wake_d).is_ok())
+        for_either!(table, records => records.state_values(bytes))
     }
 
     /// The entry of device `d`.
@@ -123,15 +78,91 @@ impl<'a> State<'a> {
 
     /// The resources that some device needs.
     pub fn needed(&self, table: &Table) -> u64 {
-        (0..table.device_count()).fold(0, |set, d| set | table.device(d).needs(self.entry(d)))
+        for_either!(table, records => records.needed(self))
+    }
+}
+
+/// States of a table.
+impl<const N: usize, const W: usize> Records<'_, N, W> {
+    /// Reads a consistent state, or refuses it with 7 or 8.
+    pub(crate) fn state<'a>(&self, bytes: &'a [u8]) -> Result<State<'a>, Answer> {
+        self.state_where(bytes, |state, device, entry| {
+            self.is_consistent_but_for_power(state, device, entry)
+                && device.needs(entry) & !state.on == 0
+        })
+    }
+
+    /// Reads a state for bring-up, or refuses it with 7 or 8.
+    pub(crate) fn state_for_bring_up<'a>(&self, bytes: &'a [u8]) -> Result<State<'a>, Answer> {
+        self.state_where(bytes, |state, device, entry| {
+            self.is_consistent_but_for_power(state, device, entry)
+        })
+    }
+
+    /// Reads a state of which every device is good, or refuses it with 7 or 8.
+    fn state_where<'a>(
+        &self,
+        bytes: &'a [u8],
+        is_good: impl Fn(&State, Record<N, W>, Entry) -> bool,
+    ) -> Result<State<'a>, Answer> {
+        let state = self.state_values(bytes).ok_or(Answer::refused(7, 0))?;
+        let is_bad = |&d: &usize| !is_good(&state, self.device(d), state.entry(d));
+        match (0..self.device_count()).find(is_bad) {
+            Some(d) => Err(Answer::refused(8, d as u64)),
+            None => Ok(state),
+        }
+    }
+
+    /// Reads a state whose values are good, or gives `None`.
+    fn state_values<'a>(&self, bytes: &'a [u8]) -> Option<State<'a>> {
+        if bytes.len() != Self::VERSION.state_bytes() {
+            return None;
+        }
+        let (entries, on) = parts(Self::VERSION, bytes);
+        let (entries, unused) = entries.split_at(self.device_count());
+        let good = entries.iter().all(|&entry| values_are_good(entry))
+            && unused.iter().all(|&entry| entry == [0; 4])
+            && on & !self.resources.all() == 0;
+        good.then_some(State { entries, on })
+    }
+
+    /// The state in bytes that are known to be good.
+    pub(crate) fn good_state<'a>(&self, bytes: &'a [u8]) -> State<'a> {
+        let (entries, on) = parts(Self::VERSION, bytes);
+        State {
+            entries: &entries[..self.device_count()],
+            on,
+        }
+    }
+
+    fn is_consistent_but_for_power(
+        &self,
+        state: &State,
+        device: Record<N, W>,
+        entry: Entry,
+    ) -> bool {
+        device.supports(entry.state)
+            && device
+                .parent()
+                .is_none_or(|p| entry.state >= state.entry(p).state)
+            && (!entry.armed
+                || entry.state <= entry.wake_d
+                    && device
+                        .wake_pair(self.resources, entry.wake_s, entry.wake_d)
+                        .is_ok())
+    }
+
+    /// The resources that some device needs.
+    pub(crate) fn needed(&self, state: &State) -> u64 {
+        (0..self.device_count()).fold(0, |set, d| set | self.device(d).needs(state.entry(d)))
     }
 
     /// The resources that some device needs once device `changed` has `entry`.
-    pub(crate) fn needed_with(&self, table: &Table, changed: usize, entry: Entry) -> u64 {
-        (0..table.device_count())
+    pub(crate) fn needed_with(&self, state: &State, changed: usize, entry: Entry) -> u64 {
+        (0..self.device_count())
             .filter(|&d| d != changed)
-            .fold(table.device(changed).needs(entry), |set, d| {
-                set | table.device(d).needs(self.entry(d))
+            .fold(self.device(changed).needs(entry), |set, d| {
+                set | self.device(d).needs(state.entry(d))
             })
     }
 }
@@ -141,7 +172,8 @@ impl<'a> State<'a> {
 fn parts(version: Version, bytes: &[u8]) -> (&[[u8; 4]], u64) {
     let (entries, on) = bytes.split_at(version.entry_bytes());
     let mut set = [0; 8];
-    set[..on.len()].copy_from_slice(on);
+    let length = version.set_bytes();
+    set[..length].copy_from_slice(&on[..length]);
     (entries.as_chunks().0, u64::from_le_bytes(set))
 }
 
