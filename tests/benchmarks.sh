@@ -49,6 +49,11 @@ Writer and describer have the bench station, and a station of 32 resources and 3
 every bit of every set. Their refusals are of that station: the last field of the last device for the writer, a buffer for
 the devices that is one byte too short for the describer. The inputs are in \`host/cases/src/workload.rs\`.
 
+The rows of *version 2* have the same on tables of 64 resources and 64 devices: the last device moves with its own call and
+56 resources to switch, fifteen devices are armed, and every set of the station to write and describe has 64 bits. The
+*double-camera line* is \`examples/double-camera.pwt\`, a table of version 2 with 47 resources and 41 devices, fresh: its
+panel goes to D3hot, it is prepared for S3, and it is brought up with nothing on. All other rows are of version 1.
+
 ## Time
 
 \`make bench\`:

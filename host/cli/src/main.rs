@@ -16,12 +16,14 @@ mod line;
 mod objects;
 mod printer;
 mod reader;
+mod refusals;
 mod request;
 mod resources;
 mod show;
 mod sleep;
 mod subject;
 mod svg;
+mod tables;
 mod trace;
 mod words;
 

@@ -11,18 +11,20 @@ mod bring_up;
 mod compare;
 mod descriptions;
 mod sleep;
+mod versions;
 
 use std::env;
 use std::time::{Duration, Instant};
 
-use cases::{sweep, workloads, Case, Cases, Coverage, Description};
+use cases::{image, sweep, workloads, Case, Cases, Compared, Coverage, Description};
 use compare::Lent;
-use reference::{Request, SLEEP_PLAN_BYTES};
+use reference::{Request, Version};
 
-const CASES: u64 = 300_000;
+const CASES: u64 = 600_000;
 const SEED: u64 = 1;
-/// From so many cases on, every answer must have been given, some at every place.
-const ENOUGH: u64 = 200_000;
+/// From so many cases on, every answer must have been given in each version, some
+/// at every place.
+const ENOUGH: u64 = 500_000;
 
 fn number_from(variable: &str) -> Option<u64> {
     let text = env::var(variable).ok()?;
@@ -34,6 +36,9 @@ struct Comparison {
     lent: Lent,
     coverage: Coverage,
     cases: u64,
+    /// Of how many cases the request, and of how many the bring-up, was run in both
+    /// versions.
+    in_both: [u64; 2],
 }
 
 impl Comparison {
@@ -42,12 +47,19 @@ impl Comparison {
             lent: Lent::new(),
             coverage: Coverage::default(),
             cases: 0,
+            in_both: [0; 2],
         }
     }
 
     fn run(&mut self, case: &Case, input: impl FnOnce(u64) -> String) {
         let result = self.lent.compare(case, &mut self.coverage);
+        let result = result.map(|compared| self.count_in_both(compared));
         self.count(case, input, result);
+    }
+
+    fn count_in_both(&mut self, compared: Compared) {
+        self.in_both[0] += u64::from(compared.request);
+        self.in_both[1] += u64::from(compared.bring_up);
     }
 
     /// Runs planner and checker alone.
@@ -105,39 +117,44 @@ fn random_cases_agree() {
     }
     comparison.report("random, of this seed; answers given ('-': cannot occur)");
     println!("{}", comparison.coverage);
+    let [requests, bring_ups] = comparison.in_both;
+    println!("{requests} requests and {bring_ups} bring-ups in both versions");
     if comparison.cases >= ENOUGH {
         comparison.coverage.must_be_whole(1);
+        assert!(comparison.in_both.iter().all(|&count| count > ENOUGH / 2));
     }
 }
 
 /// The bench station with the camera in D3hot and armed, about to go to D0; or
 /// to be brought up with r1 alone on.
-fn bench_case() -> Case {
+fn bench_case(version: Version) -> Case {
     let entries = [[0; 4], [3, 1, 3, 3], [4, 0, 0, 0]];
     Case {
-        state: sweep::image(&entries, 0b101),
+        state: image(version, &entries, 0b101),
         request: Request::move_to(1, 0),
-        plan: vec![0x5a; 132],
+        plan: vec![0x5a; version.plan_bytes()],
         list: vec![1, 1, 0, 0, 3, 1, 0, 0],
-        reported: sweep::image(&entries, 0b010),
+        reported: image(version, &entries, 0b010),
         bring_up_list: vec![1, 2, 0, 0, 1, 0, 0, 0, 2, 1, 0, 0],
-        fresh: vec![0x5a; 132],
-        ..Case::of_station(&sweep::bench_station())
+        fresh: vec![0x5a; version.state_bytes()],
+        ..Case::of_station(version, &sweep::bench_station())
     }
 }
 
 #[test]
 fn the_bench_case_is_accepted() {
-    let mut case = bench_case();
-    let answer = reference::check(&case.table, &case.state, case.request, &case.list);
-    assert!(answer.is_done());
-    let answer = reference::check_bring_up(&case.table, &case.reported, &case.bring_up_list);
-    assert!(answer.is_done());
-    let Description { resources, devices } = &case.description;
-    let answer = reference::write(1, resources, devices, &mut case.written);
-    assert!(answer.is_done());
-    let Description { resources, devices } = &mut case.described;
-    assert!(reference::describe(&case.table, resources, devices).is_done());
+    for version in Version::ALL {
+        let mut case = bench_case(version);
+        let answer = reference::check(&case.table, &case.state, case.request, &case.list);
+        assert!(answer.is_done());
+        let answer = reference::check_bring_up(&case.table, &case.reported, &case.bring_up_list);
+        assert!(answer.is_done());
+        let Description { resources, devices } = &case.description;
+        let answer = reference::write(case.version, resources, devices, &mut case.written);
+        assert!(answer.is_done());
+        let Description { resources, devices } = &mut case.described;
+        assert!(reference::describe(&case.table, resources, devices).is_done());
+    }
 }
 
 /// A buffer of a case.
@@ -162,15 +179,16 @@ const PARTS: [Part; 12] = [
 #[test]
 fn each_byte_and_each_length_agree() {
     let mut comparison = Comparison::new();
-    for part in PARTS {
-        let mut case = bench_case();
+    let parts = |version| PARTS.map(|part| (version, part));
+    for (version, part) in Version::ALL.into_iter().flat_map(parts) {
+        let mut case = bench_case(version);
         let good = part(&mut case).clone();
         let mut run = |bytes: &[u8]| {
             *part(&mut case) = bytes.to_vec();
             comparison.run(&case, |_| "damaged bench case".into());
         };
         sweep::each_byte(&good, &mut run);
-        sweep::each_length(&good, 48, &mut run);
+        sweep::each_length(&good, 80, &mut run);
         sweep::each_wide_length(&good, &mut run);
     }
     comparison.report("each byte and each length of each buffer, bench station");
@@ -183,7 +201,7 @@ fn each_bit_and_each_length_of_a_workload_agree() {
     let mut comparison = Comparison::new();
     for workload in workloads() {
         let mut case = workload.case;
-        case.list.truncate(33 * 4);
+        case.list.truncate(Version::Two.plan_bytes());
         for part in PARTS {
             let good = part(&mut case).clone();
             let mut run = |bytes: &[u8]| {
@@ -191,7 +209,8 @@ fn each_bit_and_each_length_of_a_workload_agree() {
                 comparison.run(&case, |_| format!("damaged {}", workload.name));
             };
             // No function reads a plan, and that of sleep entry is long.
-            if good.len() < SLEEP_PLAN_BYTES {
+            let is_length = |version: Version| version.sleep_plan_bytes() == good.len();
+            if !Version::ALL.into_iter().any(is_length) {
                 sweep::each_bit(&good, &mut run);
             }
             sweep::each_length(&good, 8, &mut run);
@@ -208,8 +227,9 @@ fn each_request_and_each_list_agree() {
     let mut comparison = Comparison::new();
     for workload in workloads().into_iter().filter(|w| w.planner == Some(0)) {
         let mut case = workload.case;
+        let version = Version::of_table(&case.table).expect("accepted");
         let list = case.list.clone();
-        sweep::each_list(&list, |list| {
+        sweep::each_list(version, &list, |list| {
             case.list = list.to_vec();
             comparison.run(&case, |_| format!("list of {} changed", workload.name));
         });
@@ -225,15 +245,23 @@ fn each_request_and_each_list_agree() {
 #[test]
 fn each_move_and_each_arming_agree() {
     let mut comparison = Comparison::new();
-    let mut case = bench_case();
-    case.list.clear();
-    let mut run = |table: &[u8], state: &[u8], request: Request| {
-        case.table = table.to_vec();
-        case.state = state.to_vec();
-        case.request = request;
-        comparison.run(&case, |_| "sweep".into());
-    };
-    sweep::each_move(&mut run);
-    sweep::each_arming(&mut run);
-    comparison.report("each move in a family of three, each arming");
+    for version in Version::ALL {
+        let mut case = bench_case(version);
+        case.list.clear();
+        let mut run = |table: &[u8], state: &[u8], request: Request| {
+            case.table = table.to_vec();
+            case.state = state.to_vec();
+            case.request = request;
+            comparison.run(&case, |_| "sweep".into());
+        };
+        sweep::each_move(version, &mut run);
+        sweep::each_arming(version, &mut run);
+        sweep::each_relative(version, &mut run);
+        let counts = comparison.coverage.of(version);
+        for (name, counts) in [("planner", &counts.planner), ("checker", &counts.checker)] {
+            counts.must_reach(name, &[13], 0..version.limit() - 1);
+            counts.must_reach(name, &[14], 1..version.limit());
+        }
+    }
+    comparison.report("each move in a family of three, each arming, each parent and child");
 }
