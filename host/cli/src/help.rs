@@ -178,6 +178,8 @@ request. A list that does not conform is traced too, and refused.
 The grid has a row for each resource and a column for the start and for each
 call. It says when some device needs the resource: before or after the request,
 or both. The mark ! stands where a resource is off though needed before and after.
+In a table with more than 16 resources, those that stay on or off have no row and are
+named below the grid.
 
 Faults are below the grid: words that are no call of the table, resources that
 are off though needed, and resources that are on at the end though not needed.

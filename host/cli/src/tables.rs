@@ -26,22 +26,17 @@ pub fn describe(help: &Help, args: &Args) -> Outcome {
     let output = args.option("-o");
     files::must_keep(output, &[Some(Path::new(table_path))])?;
     let table = files::read(Path::new(table_path))?;
-    let description = match Description::of(&table) {
-        Ok(description) => description,
+    let (answer, lists) = match described(&table) {
+        Ok(described) => described,
         Err(refusal) => return Ok(refused(refusal, &table)),
     };
-    let Description {
-        answer,
-        resources,
-        devices,
-    } = &description;
     let version = Version::of_table(&table).expect("the header of a table");
-    let text = printer::text(version, resources, devices);
+    let text = printer::text(version, &lists.resources, &lists.devices);
     let Some(path) = output else {
         return Ok(Report::done(text));
     };
     files::write(path, text.as_bytes())?;
-    Ok(done_with(*answer, &table))
+    Ok(done_with(answer, &table))
 }
 
 /// `write`.
@@ -58,13 +53,12 @@ pub fn write(help: &Help, args: &Args) -> Outcome {
     if let Some(version) = version {
         text.write_as(version);
     }
-    let resources: Vec<u8> = text.resources.iter().flat_map(|r| r.to_bytes()).collect();
-    let devices: Vec<u8> = text.devices.iter().flat_map(|d| d.to_bytes()).collect();
-    match written(text.version, &resources, &devices) {
-        Ok((answer, table)) => {
-            files::write(output, &table)?;
-            Ok(done_with(answer, &table))
-        }
+    let lists = Lists {
+        resources: text.resources.iter().flat_map(|r| r.to_bytes()).collect(),
+        devices: text.devices.iter().flat_map(|d| d.to_bytes()).collect(),
+    };
+    match written(text.version, &lists) {
+        Ok((answer, table)) => save(output, answer, &table),
         Err(refusal) => {
             let sentence = text.refusal_sentence(refusal);
             let line = words::answer_line_with(refusal, sentence.as_deref());
@@ -82,18 +76,13 @@ pub fn convert(help: &Help, args: &Args) -> Outcome {
     let output = output(help, args, "TABLE")?;
     files::must_keep(Some(output), &[Some(Path::new(table_path))])?;
     let table = files::read(Path::new(table_path))?;
-    let converted = Description::of(&table)
-        .map_err(|refusal| refused(refusal, &table))
-        .and_then(|description| {
-            let too_many = |refusal| does_not_fit(refusal, version, &table);
-            description.written(version).map_err(too_many)
-        });
-    match converted {
-        Ok((answer, table)) => {
-            files::write(output, &table)?;
-            Ok(done_with(answer, &table))
-        }
-        Err(report) => Ok(report),
+    let (_, lists) = match described(&table) {
+        Ok(described) => described,
+        Err(refusal) => return Ok(refused(refusal, &table)),
+    };
+    match written(version.number(), &lists) {
+        Ok((answer, table)) => save(output, answer, &table),
+        Err(refusal) => Ok(does_not_fit(refusal, version, &table)),
     }
 }
 
@@ -132,9 +121,23 @@ fn does_not_fit(answer: Answer, version: Version, table: &[u8]) -> Report {
     Report::refused(words::answer_line_with(answer, Some(&why)))
 }
 
+/// Writes a table to its file.
+fn save(path: &Path, answer: Answer, table: &[u8]) -> Outcome {
+    files::write(path, table)?;
+    Ok(done_with(answer, table))
+}
+
 /// What was done with a table, and how large it is.
 fn done_with(answer: Answer, table: &[u8]) -> Report {
     Report::done(words::answer_line(answer) + &words::table_size(table))
+}
+
+/// What the planner made with this answer, or its refusal.
+fn accepted<T>(answer: Answer, made: T) -> Result<(Answer, T), Answer> {
+    match answer.is_done() {
+        true => Ok((answer, made)),
+        false => Err(answer),
+    }
 }
 
 /// The fresh state of a table, or the refusal of the table.
@@ -143,51 +146,30 @@ fn fresh_state(table: &[u8]) -> Result<(Answer, Vec<u8>), Answer> {
     let length = Version::of_table(table).map_or(0, Version::state_bytes);
     let mut state = vec![0; length];
     let answer = backend::fresh(table, &mut state);
-    match answer.is_done() {
-        true => Ok((answer, state)),
-        false => Err(answer),
-    }
+    accepted(answer, state)
 }
 
-/// The two lists that a table describes.
-struct Description {
-    answer: Answer,
+/// The records of a station as two lists of bytes.
+struct Lists {
     resources: Vec<u8>,
     devices: Vec<u8>,
 }
 
-impl Description {
-    /// That of a table, or the refusal of the table.
-    fn of(table: &[u8]) -> Result<Self, Answer> {
-        // As many records as the header says. Without a header nothing is written.
-        let number = |byte: usize| table.get(byte).copied().map_or(0, usize::from);
-        let mut resources = vec![0; Resource::BYTES * number(3)];
-        let mut devices = vec![0; Device::BYTES * number(6)];
-        let answer = backend::describe(table, &mut resources, &mut devices);
-        match answer.is_done() {
-            true => Ok(Self {
-                answer,
-                resources,
-                devices,
-            }),
-            false => Err(answer),
-        }
-    }
-
-    /// Its table of a version, or the refusal of the lists.
-    fn written(&self, version: Version) -> Result<(Answer, Vec<u8>), Answer> {
-        written(version.number(), &self.resources, &self.devices)
-    }
+/// The lists that a table describes, or the refusal of the table.
+fn described(table: &[u8]) -> Result<(Answer, Lists), Answer> {
+    // As many records as the header says. Without a header nothing is written.
+    let number = |byte: usize| table.get(byte).copied().map_or(0, usize::from);
+    let mut resources = vec![0; Resource::BYTES * number(3)];
+    let mut devices = vec![0; Device::BYTES * number(6)];
+    let answer = backend::describe(table, &mut resources, &mut devices);
+    accepted(answer, Lists { resources, devices })
 }
 
 /// The table of two lists, or their refusal.
-fn written(version: u32, resources: &[u8], devices: &[u8]) -> Result<(Answer, Vec<u8>), Answer> {
+fn written(version: u32, lists: &Lists) -> Result<(Answer, Vec<u8>), Answer> {
     // Enough for both versions.
     let mut table = vec![0; Version::Two.max_table_bytes()];
-    let answer = backend::write(version, resources, devices, &mut table);
+    let answer = backend::write(version, &lists.resources, &lists.devices, &mut table);
     table.truncate(answer.bytes_written());
-    match answer.is_done() {
-        true => Ok((answer, table)),
-        false => Err(answer),
-    }
+    accepted(answer, table)
 }

@@ -172,6 +172,43 @@ fn the_line_is_brought_up() {
         .failed("--on names resource 47, and the table has 47, numbered from 0");
 }
 
+/// In the grid of a move what stays as it is has no row.
+#[test]
+fn long_traces_are_short_to_read() {
+    let desk = armed("double_trace");
+    let text = desk.run("trace table state sleep S3").done();
+    assert!(text.lines().all(|line| line.len() <= 120));
+    assert!(text.lines().count() < 400, "{}", text.lines().count());
+    let moves: Vec<&str> = text.split("\ndevice ").skip(1).collect();
+    assert_eq!(moves.len(), 37);
+    for part in &moves {
+        let rows = part.lines().filter(|line| line.starts_with('r'));
+        let rows: Vec<&str> = rows.filter(|line| !line.starts_with("resource")).collect();
+        let offs = part.matches("(_OFF)").count();
+        assert_eq!(rows.len(), offs, "{part}");
+        let names = part.split_whitespace().filter(|word| is_resource(word));
+        assert_eq!(names.count(), 47, "{part}");
+    }
+    let part = moves[6];
+    assert!(part.contains("\nr4            4  before          on    on   off\n"));
+    assert!(
+        part.contains("\noff throughout: r1 r43 r44 r45\n"),
+        "{part}"
+    );
+
+    // What is off though needed has its row.
+    desk.write("calls", &[2, 0, 0, 0]);
+    let text = desk.run("trace table state disarm 6 calls").refused(19);
+    let row = "\nr0            0  before+after    on  !off\n";
+    assert!(text.contains(row), "{text}");
+}
+
+/// Whether a word is the name of a resource.
+fn is_resource(word: &str) -> bool {
+    word.strip_prefix('r')
+        .is_some_and(|number| number.parse::<u8>().is_ok())
+}
+
 /// A tall drawing has its calls above and below the rows, and a wide one names each
 /// resource along its row and at the right edge.
 #[test]

@@ -6,6 +6,7 @@ use reference::Version;
 use crate::desk::Desk;
 
 const EXAMPLE: &str = include_str!("../../../../examples/station.txt");
+const LINE: &str = include_str!("../../../../examples/double-camera.txt");
 
 /// Describes a table and writes the text back: the bytes are the same. So is the
 /// text of what was written. It is given.
@@ -219,8 +220,8 @@ fn damaged_texts_are_answered() {
     let desk = Desk::new("stations_damaged");
     let mut rng = Rng::new(13);
     let mut statuses = [0; 3];
-    for _ in 0..400 {
-        let mut text = EXAMPLE.as_bytes().to_vec();
+    for example in [EXAMPLE, LINE].repeat(200) {
+        let mut text = example.as_bytes().to_vec();
         for _ in 0..=rng.below(3) {
             damage(&mut rng, &mut text);
         }

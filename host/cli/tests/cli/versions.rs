@@ -1,5 +1,8 @@
 //! Tables of version 2, beside the same stations in version 1.
 
+use cases::{Rng, Station};
+use reference::Version;
+
 use crate::desk::Desk;
 use crate::write::many;
 
@@ -165,6 +168,20 @@ fn a_table_is_converted_there_and_back() {
         desk.run("write text -o table").done();
         desk.run("convert table --version 2 -o wide").done();
         assert_eq!(desk.read("wide").len(), 8 + 4 * resources + 64 * devices);
+        desk.run("convert wide --version 1 -o back").done();
+        assert_eq!(desk.read("back"), desk.read("table"));
+    }
+}
+
+#[test]
+fn random_tables_are_converted_there_and_back() {
+    let desk = Desk::new("versions_random");
+    let mut rng = Rng::new(51);
+    for _ in 0..40 {
+        let station = Station::random(&mut rng, Version::One);
+        desk.write("table", &station.table(Version::One));
+        desk.run("convert table --version 2 -o wide").done();
+        assert_eq!(desk.read("wide"), station.table(Version::Two));
         desk.run("convert wide --version 1 -o back").done();
         assert_eq!(desk.read("back"), desk.read("table"));
     }
