@@ -118,10 +118,10 @@ uint64_t sailgarnet_fresh(const uint8_t *table, size_t table_len, uint8_t *state
 
 /*
  * Plans one request. Done: the first 4 * count bytes of `plan` are the calls in their order, four bytes each, the rest
- * of `plan` is as it was, and `state` is the state after the calls. Refused: nothing is written. `plan` must have
+ * of `plan` is as it was, and `state` is the state after the calls. Refused: nothing is written. `plan` must have at least
  * SAILGARNET_PLAN_SIZE bytes, for a table of version 2 SAILGARNET_V2_PLAN_SIZE, else the answer is 9.
  *
- * SAILGARNET_SLEEP prepares all devices for sleep state x = a, which the board enters afterwards. For it `plan` must have
+ * SAILGARNET_SLEEP prepares all devices for sleep state x = a, which the board enters afterwards. `plan` must then have
  * SAILGARNET_SLEEP_PLAN_SIZE bytes, or SAILGARNET_V2_SLEEP_PLAN_SIZE. Each device takes the shallowest state that it may
  * take: one that it supports, that is not shallower than its present state, its _SxD or the state of its parent, in which
  * all that it needs has systemlevel x or more, and which is its wake state if it is armed. The calls are those of
@@ -143,14 +143,14 @@ uint64_t sailgarnet_check(const uint8_t *table, size_t table_len, const uint8_t 
                           const uint8_t *list, size_t list_len);
 
 /*
- * What to switch at power-on. The lent `state` has the device entries that the board kept and, as its on-set, the resources
- * that are on by _STA (sailgarnet_on_write_for); a needed one may be off. Answers 1 to 7, then 8 for the lowest device that
- * is in a state which it does not have, shallower than its parent, armed for a wake pair that is not legal, or deeper than
- * its wake state; resources that are off are no reason. Then 9 if `plan` has fewer than 132 bytes, for a table of version 2
- * fewer than 260, else 0. Done: the first 4 * count bytes of `plan` are the calls in their order, _ON of each resource that
- * is needed and off, then _OFF of each that is on and not needed, and the rest of `plan` is as it was. No method of a device
- * is called, not even where its supply was off. `state` keeps its device entries and has exactly the needed resources on, so
- * it is consistent. Refused: nothing is written.
+ * What to switch at power-on. The lent `state` has the device entries that the board kept and, as its on-set, the
+ * resources that are on by _STA (sailgarnet_on_write_for); a needed one may be off. Answers 1 to 7, then 8 for the lowest
+ * device that is in a state which it does not have, shallower than its parent, armed for a wake pair that is not legal,
+ * or deeper than its wake state; resources that are off are no reason. Then 9 if `plan` has fewer than 132 bytes, for a
+ * table of version 2 fewer than 260, else 0. Done: the first 4 * count bytes of `plan` are the calls in their order, _ON
+ * of each resource that is needed and off, then _OFF of each that is on and not needed, and the rest of `plan` is as it
+ * was. No method of a device is called, not even where its supply was off. `state` keeps its device entries and has
+ * exactly the needed resources on, so it is consistent. Refused: nothing is written.
  */
 uint64_t sailgarnet_bring_up(const uint8_t *table, size_t table_len, uint8_t *state, size_t state_len,
                              uint8_t *plan, size_t plan_len);
@@ -165,12 +165,12 @@ uint64_t sailgarnet_check_bring_up(const uint8_t *table, size_t table_len, const
 
 /*
  * Writes the table that a description makes, of the version that is asked for: `resources` has R records of 4 bytes,
- * `devices` D records of 54, and a record that is cut short counts. Their lengths say how many records there are: lend 4 R
- * and 54 D bytes, not the whole buffers, whose unused bytes would be taken for records. Answers 1 for a version other than 1
- * and 2, then 2 for more than 32 of either, in version 2 more than 64, then 9 if `table` has fewer than 8 + 4 R + 40 D
- * bytes, in version 2 fewer than 8 + 4 R + 64 D, then 4, 5 and 6 as for the table, else 0. Done: the first count bytes of
- * `table` are the table, and the rest is as it was. Refused: nothing is written. With at most 32 resources and 32 devices,
- * and room, a description is written as either version or refused as either, with the same answer.
+ * `devices` D records of 54, and a record that is cut short counts. Their lengths say how many records there are: lend 4
+ * R and 54 D bytes, not the whole buffers, whose unused bytes would be taken for records. Answers 1 for a version other
+ * than 1 and 2, then 2 for more than 32 of either, in version 2 more than 64, then 9 if `table` has fewer than 8 + 4 R +
+ * 40 D bytes, in version 2 fewer than 8 + 4 R + 64 D, then 4, 5 and 6 as for the table, else 0. Done: the first count
+ * bytes of `table` are the table, and the rest is as it was. Refused: nothing is written. With at most 32 resources and
+ * 32 devices, and room, a description is written as either version or refused as either, with the same answer.
  */
 uint64_t sailgarnet_write(uint32_t version, const uint8_t *resources, size_t resources_len,
                           const uint8_t *devices, size_t devices_len, uint8_t *table, size_t table_len);

@@ -562,13 +562,27 @@ static void versions(void)
     in = before;
 }
 
+static uint32_t other_version(void) { return SAILGARNET_TABLE_VERSION_1 + SAILGARNET_TABLE_VERSION_2 - in.sizes.version; }
+
+/* A state of the other version's size is none of this table's. */
+static void states_of_other_version(void)
+{
+    struct call before = in;
+
+    in.length[STATE] = in.length[REPORTED] = sailgarnet_sizes_of_version(other_version()).state;
+    for (in.function = FRESH; in.function < FUNCTIONS; in.function++)
+        if ((lends(STATE) || lends(REPORTED)) && compare() != SAILGARNET_BAD_STATE)
+            fail("the state has the size of the other version");
+    in = before;
+}
+
 /* What is described is written as the other version too, into exactly its room. */
-static void other_version(void)
+static void write_other_version(void)
 {
     struct call before = in;
 
     in.function = WRITE;
-    in.version = SAILGARNET_TABLE_VERSION_1 + SAILGARNET_TABLE_VERSION_2 - before.version;
+    in.version = other_version();
     in.length[TABLE] = table_size(in.version, content[TABLE][3], content[TABLE][6]);
     if (compare() != (uint64_t)in.length[TABLE] << 8)
         fail("it is not written as the other version");
@@ -726,7 +740,8 @@ static void bench_station(uint32_t version)
 {
     begin_station(version);
     versions();
-    other_version();
+    states_of_other_version();
+    write_other_version();
     damage_description();
     requests();
     ask(SAILGARNET_ARM, 1, 4, SAILGARNET_D2);
