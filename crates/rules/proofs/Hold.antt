@@ -46,8 +46,6 @@ use Rattle.rules.specs.Execution.{carryOut, execution}
 use Rattle.rules.specs.Rows.{bytes, rows, benchTable, benchDevices}
 use Rattle.rules.specs.OwnStation.{ownTable, ownState, wideTable}
 use Rattle.rules.specs.OwnRows.{ownRows, callWords, otherWords}
-use Rattle.rules.specs.WideStation.{rigTable, longTable, wideBenchTable}
-use Rattle.rules.specs.WideRows.{wideRows, wideBringUpRows, wideSleepRows}
 use Rattle.rules.specs.Holds.{same, answers, freshAnswers, startOf, stateOf, endState, leaves, wordRead, wordsRead, agree}
 use Rattle.rules.specs.Holds.{changes, carried, checks, checksAll, holdsFrom, holdsIn, holds, wrong, holdsBringUpIn, holdsBringUp}
 use Rattle.rules.specs.Holds.{plans, holdsSleepIn, holdsSleep}
@@ -103,28 +101,6 @@ unfolding member union minus subset readLE bytesLE put wordBytes byteWords least
     sleepVerdict moves noneMoves offsAlone sleepStage sleepStages plannedEach stateAfterEach sleepList stateForSleep same answers endState
     leaves wordRead wordsRead agree carried checks plans holdsSleepIn wrong ownTable stepsTable portTable scannerTable
 sleep-holds = (refl, refl)
-
--- and those of version 2
-pub wide-holds :
-    (wrong holds 1 wideRows ≡ []) × (wrong holdsBringUp 1 wideBringUpRows ≡ []) × (wrong holdsSleep 1 wideSleepRows ≡ [])
-unfolding member union minus single firstN subset readLE bytesLE put wordBytes byteWords leastFrom every below eachFrom passes firstOf
-    unless lowest versionGood versionWidth width deviceStart resourceAt deviceAt stationOf headerGood countsGood lengthGood firstBad
-    resourceGood parentGood present setGood sxdGood sxwGood deepestGood headFields setFields sxdFields sxwFields deepestFields valueFields
-    zeroFields deviceFields badField fieldsGood objectsGood fieldsOrObjects deviceGood tableVerdict supported ownSet listedSet stateNeeds
-    wakeNeeds needs neededBelow needed wakeRange wakeFrom poweredIn wakeState wakePair entryAt entryBytes entriesOf statusOf joinFrom
-    imageOf freshStatus entryGood entryZero entriesGood onGood parentAllows wakeConsistent consistentButPower powered consistent valuesGood
-    imageGood valuesVerdict consistencyVerdict stateVerdict numbersGood formGood notShallowerOrD0 childBars wakeAllows moveVerdict
-    armVerdict kindVerdict requestVerdict newEntry replaceEntry listOf only methodFor callsMethod moveCall wakeCall ownCall ownLast endSet
-    toTurnOn toTurnOff membersFrom earlier insert sort rising turnOn turnOff arrange switchCalls calls statusAfter statusNeeded andThen
-    takeWords mayCome takeSet firstCalls lastCalls isEnd conforming outcome freshVerdict fresh readyVerdict requestStage stagesVerdict
-    planVerdict planOutcome planned stateAfter planRoom planStages planList planState planBytes planWords listVerdict ofBytes checkBytes
-    checkWords carryOut execution wakeOf callOfBytes callOf recordPart butPowerVerdict stateButPowerVerdict bringUpStages bringUpCalls
-    bringUpList stateBroughtUp bringUpWords bringUpBytes checkBringUpWords checkBringUpBytes sleepFormGood armedForOther sxdAllows
-    wakeDIfArmed mayTake mayTakeUnder leastState leastBelow leastChoice hasChoice armedVerdict sleepVerdict moves noneMoves offsAlone
-    sleepStage sleepStages plannedEach stateAfterEach sleepList stateForSleep same answers freshAnswers startOf stateOf endState leaves
-    wordRead wordsRead agree switchingWords changes carried checks checksAll plans holdsFrom holdsIn holdsBringUpIn holdsSleepIn wrong
-    rigTable longTable wideBenchTable
-wide-holds = (refl, refl, refl)
 
 -- a word is read as the call with this word, or as none; words that are none leave any set
 pub codes-hold :
