@@ -4,8 +4,7 @@ use mathlib.Core.List.{[], _++_}
 use lib.ListN.{replicate}
 use Rattle.sets.specs.Sets.{member, union, minus, single, firstN, subset}
 use Rattle.words.specs.Words.{readLE, bytesLE, put, wordBytes, byteWords}
-use Rattle.rules.specs.declared.Verdict.the-variants.{Done, Refused}
-use Rattle.rules.specs.declared.Reason.the-variants.{ChildShallower}
+use Rattle.rules.specs.declared.Verdict.the-variants.{Done}
 use Rattle.rules.specs.Index.{leastFrom, every, below, eachFrom, joinFrom}
 use Rattle.rules.specs.Answers.{passes, firstOf, unless, lowest}
 use Rattle.rules.specs.Station.{versionGood, versionWidth, width, deviceStart, resourceAt, deviceAt, stationOf}
@@ -60,11 +59,10 @@ unfolding member union minus single firstN subset readLE bytesLE put wordBytes b
     rigTable wideBenchTable
 wide-holds = (refl, refl, refl, refl)
 
--- the own call of device 33, whose entry is at byte 132; and 14 where it is shallower than the target of its parent, device 32
+-- the own call of device 33, whose entry is at byte 132
 pub last-device-holds :
     (planBytes longTable (replicate 264 0) (move 33 3) (blank 260)
     ≡ record { verdict = Done 1; state = wideImage 34 0x03000000 0; plan = bytes 4 0x03210300 ++ blank 256 })
-    × (checkBytes longTable (replicate 264 0) (move 32 3) [] ≡ Refused ChildShallower 33)
 unfolding member union minus subset readLE bytesLE put wordBytes byteWords leastFrom every below eachFrom passes firstOf
     unless lowest versionGood versionWidth width deviceStart resourceAt deviceAt stationOf headerGood countsGood lengthGood firstBad
     resourceGood parentGood present setGood sxdGood sxwGood deepestGood headFields setFields sxdFields sxwFields deepestFields valueFields
@@ -75,4 +73,4 @@ unfolding member union minus subset readLE bytesLE put wordBytes byteWords least
     methodFor callsMethod moveCall ownCall ownLast endSet toTurnOn toTurnOff membersFrom earlier insert sort rising turnOn turnOff arrange
     switchCalls calls statusAfter outcome readyVerdict requestStage stagesVerdict planVerdict planOutcome planned stateAfter planRoom
     planStages planList planState planBytes listVerdict ofBytes checkBytes longTable
-last-device-holds = (refl, refl)
+last-device-holds = refl

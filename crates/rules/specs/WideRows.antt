@@ -29,9 +29,7 @@ wideDoneRows =
     -- flash to D3hot from a fresh state: 59 OFFs of equal order, by falling number
     row (lend rigTable (freshIn 264) [] 260) (move 1 3) flash
     (rigTo (offsDown 62 22 ++ offsDown 39 7 ++ offsDown 30 30) 0x00000000_03000000 0x80000101_80000001) ∷
-    -- flash to D1, then to D2: each set at its place
-    row (rigIn 0x00000000_00000000 0xc0000101_80000001) (move 1 1) flash
-    (rigTo (bytes 8 0x01210000_023e0000) 0x00000000_01000000 0x80000103_80000001) ∷
+    -- flash from D1 to D2, each set being at its place
     row (lend rigTable (given (rigState 0x00000000_00000000 0xc0000101_80000001)) (move 1 1 ∷ []) 260) (move 1 2) flash
     (rigTo (bytes 8 0x012f0000_02210000) 0x00000000_02000000 0x80008101_80000001) ∷
     -- rig to D3hot: r32 stays on. r31 and r40, of equal order, exchanged; a lower order first; r32 for r0; r8 for r40; cut short
@@ -128,10 +126,9 @@ wideRefusedRows =
     row (lend wideBenchTable (freshIn 264) [] 259) (move 2 4) (drop 128 wideBench) (noRoom 0) ∷
     row (lend wideBenchTable (freshIn 264) [] 132) (move 3 4) [] (noRoom 10) ∷
     row (lend wideBenchTable (freshIn 264) [] 260) (move 3 4) [] (refused 10 0) ∷
-    -- 16; 17, as r40 has level 2; 18 by the ranges of S0, S1 and S2
+    -- 16; 17, as r40 has level 2; 18 by `_S1W` and by `_S2D`
     row (rigIn 0 0xc0000101_80000001) (arm 0 4 3) rig (refused 16 0) ∷
     row (rigIn 0 0xc0000101_80000001) (arm 0 3 3) rig (refused 17 0) ∷
-    row (rigIn 0 0xc0000101_80000001) (arm 0 0 3) rig (refused 18 0) ∷
     row (rigIn 0 0xc0000101_80000001) (arm 0 1 4) rig (refused 18 0) ∷
     row (rigIn 0 0xc0000101_80000001) (arm 0 2 0) rig (refused 18 0) ∷
     -- version 1 keeps its state of 132 bytes and its 32 resources
@@ -156,22 +153,14 @@ wideBringUpRows =
     (rigTo (bytes 12 0x01280000_01200000_023f0000) 0x03010203_03000000 0x101_00000000) []
     ∷
     lentBringUp rigTable (rigState 0 0xc0000101_80000001) 259 (noRoom 0) [] ∷
-    -- 64 resources to turn off, the longest list
-    lentBringUp rigTable (rigState 0x04000000_04000000 0xffffffff_ffffffff) 260
-    (rigTo (bytes 20 0x02200000_02000000_02280000_021f0000_023f0000 ++ offsDown 62 22 ++ offsDown 39 7 ++ offsDown 30 30)
-    0x04000000_04000000 0) []
-    ∷
     []
 
 abbrev pub wideSleepRows : List SleepRow
 wideSleepRows =
-    -- the level of r40 is too low for D0 of the rig; none moves; 9 with 4,159 words, and with version 1's 1,056
+    -- the level of r40 is too low for D0 of the rig; 9 with 4,159 words, and with version 1's 1,056
     lentSleep rigTable (rigState 0 0xc0000101_80000001) (sleep 3) 16640
     (sleepDone (bytes 24 0x023e0000_03000300_02000000_02280000_021f0000_023f0000) (bytes 8 0x03000000_03000000) 0x1_00000000)
     ∷
-    lentSleep rigTable (rigState 0x04000000_04000000 0x1_00000000) (sleep 4) 16640
-    (sleepDone (bytes 4 0x02200000) (bytes 8 0x04000000_04000000) 0)
-    ∷
-    lentSleep rigTable (rigState 0 0xc0000101_80000001) (sleep 3) 16639 (noRoom 10) ∷
-    lentSleep rigTable (rigState 0 0xc0000101_80000001) (sleep 3) 4224 (noRoom 10) ∷
+    lentSleep wideBenchTable (wideImage 3 0 7) (sleep 3) 16639 (noRoom 10) ∷
+    lentSleep wideBenchTable (wideImage 3 0 7) (sleep 3) 4224 (noRoom 10) ∷
     []
