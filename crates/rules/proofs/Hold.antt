@@ -44,7 +44,7 @@ use Rattle.rules.specs.Outcomes.{sleepStage, sleepStages, plannedEach, s
 use Rattle.rules.specs.SleepRows.{sleepDoneRows, sleepRefusedRows, stepsTable, portTable, scannerTable}
 use Rattle.rules.specs.Execution.{carryOut, execution}
 use Rattle.rules.specs.Rows.{bytes, rows, benchTable, benchDevices}
-use Rattle.rules.specs.OwnStation.{ownTable, ownState, wideTable}
+use Rattle.rules.specs.OwnStation.{ownTable, ownState, fullTable}
 use Rattle.rules.specs.OwnRows.{ownRows, callWords, otherWords}
 use Rattle.rules.specs.WideStation.{rig, flash, rigTable, wideBenchTable}
 use Rattle.rules.specs.Holds.{same, answers, freshAnswers, startOf, stateOf, endState, leaves, wordRead, wordsRead, agree}
@@ -66,7 +66,7 @@ unfolding member union minus single firstN subset readLE bytesLE put wordBytes b
     freshVerdict fresh readyVerdict requestStage stagesVerdict planVerdict planOutcome planned stateAfter planRoom planStages
     planList planState planBytes listVerdict ofBytes checkBytes carryOut execution wakeOf
     callOfBytes callOf planWords checkWords recordPart same answers freshAnswers startOf stateOf endState leaves wordRead wordsRead
-    agree switchingWords changes carried checks checksAll plans holdsFrom holdsIn wrong ownTable ownState wideTable
+    agree switchingWords changes carried checks checksAll plans holdsFrom holdsIn wrong ownTable ownState fullTable
 all-hold = (refl, refl)
 
 -- and so do the rows of bring-up
@@ -83,7 +83,7 @@ unfolding member union minus single readLE bytesLE put wordBytes byteWords least
     butPowerVerdict stateButPowerVerdict bringUpStages bringUpCalls statusNeeded bringUpList stateBroughtUp bringUpWords bringUpBytes
     checkBringUpWords
     checkBringUpBytes same answers endState leaves wordRead wordsRead agree carried checks checksAll plans holdsBringUpIn wrong ownTable
-    wideTable
+    fullTable
 bring-up-holds = (refl, refl)
 
 -- and those of sleep entry
@@ -123,14 +123,14 @@ pub described-holds :
     (devicesOf benchTable ≡ benchDevices)
     × (tableBytes 1 (resourcesOf benchTable) benchDevices ≡ benchTable)
     × (tableBytes 1 (resourcesOf ownTable) (devicesOf ownTable) ≡ ownTable)
-    × (tableBytes 1 (resourcesOf wideTable) (devicesOf wideTable) ≡ wideTable)
+    × (tableBytes 1 (resourcesOf fullTable) (devicesOf fullTable) ≡ fullTable)
     × (devicesOf wideBenchTable ≡ benchDevices)
     × (tableBytes 1 (resourcesOf wideBenchTable) benchDevices ≡ benchTable)
     × (tableBytes 2 (resourcesOf benchTable) benchDevices ≡ wideBenchTable)
     × (devicesOf rigTable ≡ take 54 rig ++ take 54 flash)
     × (tableBytes 2 (resourcesOf rigTable) (devicesOf rigTable) ≡ rigTable)
 unfolding readLE bytesLE below eachFrom joinFrom versionWidth width deviceStart deviceAt fieldBytes resourcesOf devicesOf headerBytes
-    recordBytes tableBytes ownTable wideTable rigTable wideBenchTable
+    recordBytes tableBytes ownTable fullTable rigTable wideBenchTable
 described-holds = (refl, refl, refl, refl, refl, refl, refl, refl, refl)
 
 -- the writer answers as its rows say; describing answers 9 if either buffer is a byte short, after what is wrong with the table
