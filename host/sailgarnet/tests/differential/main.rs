@@ -2,7 +2,8 @@
 //! every input, no byte changed outside the lent buffers, every list that passes
 //! carried out, every sleep entry cut into its moves and on small stations compared
 //! with all choices of states, every state that is brought up accepted by a request,
-//! and every table that is written described back.
+//! and every table that is written described back. All of it is for tables of both
+//! versions, and a station that fits both gets the same in both.
 //!
 //! `SAILGARNET_SECONDS` sets how long the random cases run, else
 //! `SAILGARNET_CASES` how many there are. `SAILGARNET_SEED` sets their seed.
