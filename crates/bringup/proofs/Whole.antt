@@ -31,7 +31,7 @@ use Rattle.laws.proofs.States.{needed-small, values-of}
 use Rattle.laws.proofs.Stages.{BringUpPassed, bring-up-of, bring-up-pass}
 use Rattle.laws.proofs.BringUp.{brings-up-words}
 use Rattle.table.specs.Layout.{WellSized}
-use Rattle.table.proofs.Verdicts.{sized-of, no-table, table-passed, long-done}
+use Rattle.table.proofs.Verdicts.{sized-of, no-table, table-passed}
 use Rattle.calls.specs.Phases.{phaseWords}
 use Rattle.status.specs.Ready.{statusWith}
 use Rattle.switching.specs.Written.{WrittenPlan}
@@ -80,7 +80,7 @@ module _ (t b : List ℕ) (done : tableVerdict t ≡ Done 0) (v : Verdict) (p : 
         sym (first-pass (tableVerdict t) _ (Done 0) on-table ∙ first-pass (stateButPowerVerdict t b) _ (Done 0) on-state
         ∙ rw (unless-of room NoRoom 0 (not-false room m)) (first-pass (Done 0) _ (Done 0) (done-passes 0) ∙ first-none (Done 0)))
 
-pub ruleset in-turn = (stop-table, table-passed, long-done, stop-state, stop-room, all-passed)
+pub ruleset in-turn = (stop-table, table-passed, stop-state, stop-room, all-passed)
 
 -- ---- what they have shown
 pub passed-by : (t b : List ℕ) (room : Bool) (v : Verdict) (p : Bool) → v ≡ bringUpStages room t b → p ≡ passes v → not p ≡ false

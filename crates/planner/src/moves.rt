@@ -12,13 +12,14 @@ ghost use Rattle.rules.specs.Request.{inState};
 ghost use Rattle.rules.specs.Calls.{endSet};
 ghost use Rattle.rules.specs.Sleep.{moveTo};
 ghost use Rattle.rules.specs.Outcomes.{listRoom, plannedEach, stateAfterEach};
+ghost use Rattle.table.specs.Layout.{WellSized};
 ghost use Rattle.switching.specs.Written.{WrittenPlan};
 ghost use Rattle.sleep.specs.Chosen.{statesIn};
 ghost use Rattle.planner.specs.Moves.{moveList, stateMoved, allMoves, choiceList, choiceState, Turn, Given, WrittenFrom};
 
 // The words that a plan of sleep entry must have room for: a list for each device that there can be.
 pub fn room(table: &[u8]) -> usize
-    requires { ⌜ 8 ≤ length (now table) ⌝ }
+    requires { ⌜ WellSized (now table) ⌝ }
     ensures { λ r. ⌜ (r ≡ limit (width (now (table .entry))) * listRoom (width (now (table .entry)))) × (r ≤ 4160) ⌝ }
 {
     table::fields::limit(table) * switching::write::room(table)
@@ -37,7 +38,8 @@ pub fn chosen_needs(table: &[u8], devices: &[u8], chosen: &[u8], d: usize) -> u6
         sleep: e.sleep,
         wake: e.wake,
     };
-    power::needs(table, d, taken)
+    let at = table::fields::start(table, d);
+    power::needs(table, d, at, table::fields::width(table), taken)
 }
 
 // The calls and the state of device d's move to its state in `chosen`, from the set needed after it; none if it stays. The move is deeper,

@@ -5,17 +5,17 @@ ghost use Prim.Native.Nat.{_+_, _%_, _<_};
 ghost use lib.Dec.{leb, ltb};
 ghost use Rattle.sets.specs.Sets.{member};
 ghost use Rattle.rules.specs.Index.{least};
-ghost use Rattle.rules.specs.Station.{countR, countD, station};
+ghost use Rattle.rules.specs.Station.{countR, station};
 ghost use Rattle.rules.specs.Power.{poweredIn, wakeFrom, wakePowered, wakeRange, wakeState, wakePair};
-ghost use Rattle.table.specs.Layout.{WellSized};
+ghost use Rattle.table.specs.Layout.{WellSized, RecordAt};
 
 // `_PRW` exists, and x is not above its deepest state.
-pub fn wake_from(table: &[u8], d: usize, x: u8) -> bool
-    requires { ⌜ WellSized (now table) × (d < countD (now table)) ⌝ }
+pub fn wake_from(table: &[u8], d: usize, at: usize, w: usize, x: u8) -> bool
+    requires { ⌜ RecordAt (now table) d at w ⌝ }
     ensures { λ r. ⌜ r ≡ wakeFrom (station (now (table .entry))) d x ⌝ }
 {
-    if crate::has_prw(table, d) {
-        return x <= table::fields::deepest(table, d);
+    if crate::has_prw(table, d, at, w) {
+        return x <= record::read::deepest(table, at, w);
     }
     false
 }
@@ -56,11 +56,11 @@ pub fn powered_in(table: &[u8], set: u64, x: u8) -> bool
 }
 
 // Every `_PRW` resource has systemlevel x or more.
-pub fn wake_powered(table: &[u8], d: usize, x: u8) -> bool
-    requires { ⌜ WellSized (now table) × (d < countD (now table)) ⌝ }
+pub fn wake_powered(table: &[u8], d: usize, at: usize, w: usize, x: u8) -> bool
+    requires { ⌜ RecordAt (now table) d at w ⌝ }
     ensures { λ r. ⌜ r ≡ wakePowered (station (now (table .entry))) d x ⌝ }
 {
-    powered_in(table, table::fields::set(table, d, 4), x)
+    powered_in(table, record::read::set(table, at, w, 4), x)
 }
 
 // The wake range of each `_SxD` and `_SxW`: a row for each pair, and in it a digit for each state, from D3cold down to D0; 150 verdicts in
@@ -119,28 +119,28 @@ pub fn wake_range(sxd: u8, sxw: u8, x: u8) -> bool
 }
 
 // State y is supported and in the wake range for x.
-pub fn wake_state(table: &[u8], d: usize, x: u8, y: u8) -> bool
-    requires { ⌜ WellSized (now table) × (d < countD (now table)) × (x < 5) ⌝ }
+pub fn wake_state(table: &[u8], d: usize, at: usize, w: usize, x: u8, y: u8) -> bool
+    requires { ⌜ RecordAt (now table) d at w × (x < 5) ⌝ }
     ensures { λ r. ⌜ r ≡ wakeState (station (now (table .entry))) d x y ⌝ }
 {
-    if crate::supported(table, d, y) {
-        let sxd = table::fields::sxd(table, d, x as usize);
-        let sxw = table::fields::sxw(table, d, x as usize);
+    if crate::supported(table, d, at, w, y) {
+        let sxd = record::read::sxd(table, at, w, x as usize);
+        let sxw = record::read::sxw(table, at, w, x as usize);
         return wake_range(sxd, sxw, y);
     }
     false
 }
 
 // The wake pair (x, y) is legal.
-pub fn wake_pair(table: &[u8], d: usize, x: u8, y: u8) -> bool
-    requires { ⌜ WellSized (now table) × (d < countD (now table)) × (x < 5) ⌝ }
+pub fn wake_pair(table: &[u8], d: usize, at: usize, w: usize, x: u8, y: u8) -> bool
+    requires { ⌜ RecordAt (now table) d at w × (x < 5) ⌝ }
     ensures { λ r. ⌜ r ≡ wakePair (station (now (table .entry))) d x y ⌝ }
 {
-    if !wake_from(table, d, x) {
+    if !wake_from(table, d, at, w, x) {
         return false;
     }
-    if !wake_powered(table, d, x) {
+    if !wake_powered(table, d, at, w, x) {
         return false;
     }
-    wake_state(table, d, x, y)
+    wake_state(table, d, at, w, x, y)
 }

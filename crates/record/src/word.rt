@@ -6,7 +6,7 @@ ghost use Rattle.words.specs.Words.{readLE, bytesLE, put};
 ghost use Rattle.rules.specs.Station.{Wide};
 
 // The number that the eight bytes from `at` on make.
-fn read64(s: &[u8], at: usize) -> u64
+pub fn read64(s: &[u8], at: usize) -> u64
     requires { ⌜ at + 8 ≤ length (now s) ⌝ }
     ensures { λ r. ⌜ r ≡ readLE 8 (now (s .entry)) at ⌝ }
 {

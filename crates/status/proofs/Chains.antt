@@ -15,16 +15,16 @@ use Rattle.rules.specs.Index.{least}
 use Rattle.rules.specs.Answers.{passes, firstOf, unless, lowest}
 use Rattle.rules.specs.Station.{width, limit, countR, stationOf, station}
 use Rattle.rules.specs.Table.{tableVerdict}
-use Rattle.sets.specs.Sets.{firstN}
 use Rattle.rules.specs.Status.{entries, statusOf, status, imageSize, entriesGood, onGood, valuesGood, imageGood, valuesVerdict}
 use Rattle.rules.specs.Status.{consistencyVerdict, stateVerdict, imageOf, freshStatus}
 use Rattle.rules.specs.BringUp.{butPowerVerdict, stateButPowerVerdict}
 use Rattle.rules.specs.Outcomes.{outcome, freshVerdict, fresh, tableAndStateVerdict}
 use Rattle.rules.proofs.Answers.{done-passes, refused-stops, first-pass, first-stop, first-alone, unless-of}
 use Rattle.laws.proofs.Accepted.{accepted}
-use Rattle.laws.proofs.States.{GoodValues, values-of, all-on-apart}
-use Rattle.table.proofs.Verdicts.{sized-done, sized-told, long-done, long-told, accepted-is, table-passed}
-use Rattle.status.specs.Ready.{Ready, statusWith}
+use Rattle.laws.proofs.States.{GoodValues, values-of}
+use Rattle.table.proofs.Verdicts.{sized-done, sized-told, accepted-is, table-passed}
+use Rattle.status.proofs.Keeps.{with-power, without-power}
+use Rattle.status.specs.Ready.{Ready, statusWith, consistencyWith}
 
 -- ---- the image; n is the size that it has, good and fits are what the tests of the entries and of the on-set returned
 module _ (t b : List ℕ) (n : ℕ) (z : n ≡ imageSize (width t)) where
@@ -44,7 +44,7 @@ module _ (t b : List ℕ) (n : ℕ) (z : n ≡ imageSize (width t)) where
     unfolding imageGood valuesGood statusOf
     on-last m on fits r o = rw (long, ← q, not-false good m, ← r, ← o) refl
 
-pub ruleset image-laws = (sized-done, long-done, length-bad, entries-bad, on-last)
+pub ruleset image-laws = (sized-done, length-bad, entries-bad, on-last)
 
 -- ---- a check of numbered things ends a chain as it is
 lowest-last : (bad : ℕ → Bool) (n : ℕ) (refusal : ℕ → Verdict) → ((i : ℕ) → passes (refusal i) ≡ false)
@@ -83,31 +83,24 @@ module _ (t b : List ℕ) (g : Bool) (i : g ≡ imageGood t b) where
           good = values .entries;
         }
 
-    pub state-is : (on : ℕ) (v : Verdict) → on ≡ status t b .on → v ≡ consistencyVerdict (station t) (statusWith t b on)
+    pub state-is : (on : ℕ) (v : Verdict) → on ≡ status t b .on → v ≡ consistencyWith true (station t) (statusWith t b on)
         → v ≡ stateVerdict t b
     unfolding stateVerdict valuesVerdict statusOf consistencyVerdict
     state-is on v r c =
         rw (← i, not-false g n, ← r, unless-of true BadState 0 refl, first-pass (Done 0) _ (Done 0) (done-passes 0))
-        (c ∙ sym (lowest-last _ (station t .devices) (Refused Inconsistent) (refused-stops Inconsistent)))
+        (c ∙ with-power (station t) (statusWith t b on) ∙ sym (lowest-last _ (station t .devices) (Refused Inconsistent) (refused-stops Inconsistent)))
 
-    -- with all resources on
-    pub but-power-is : tableVerdict t ≡ Done 0 → (r all : ℕ) (v : Verdict) → r ≡ countR t → all ≡ firstN r
-        → v ≡ consistencyVerdict (station t) (statusWith t b all) → v ≡ stateButPowerVerdict t b
+    -- whatever is on
+    pub but-power-is : (on : ℕ) (v : Verdict) → v ≡ consistencyWith false (station t) (statusWith t b on) → v ≡ stateButPowerVerdict t b
     unfolding stateButPowerVerdict valuesVerdict statusOf butPowerVerdict
-    but-power-is e r all v k l c =
-        let same : all ≡ firstN (station t .resources) = l ∙ ap firstN (unfold stationOf in k) in
+    but-power-is on v c =
         rw (← i, not-false g n, unless-of true BadState 0 refl, first-pass (Done 0) _ (Done 0) (done-passes 0))
-        (c ∙ ap (λ (on : ℕ). consistencyVerdict (station t) (statusWith t b on)) same
-        ∙ all-on-apart t (rw e (done-passes 0)) (entries t b)
+        (c ∙ without-power (station t) (statusWith t b on)
         ∙ sym (lowest-last _ (station t .devices) (Refused Inconsistent) (refused-stops Inconsistent)))
 
--- the R resources of an accepted table are at most 64
-pub few-resources : (t : List ℕ) (r : ℕ) → tableVerdict t ≡ Done 0 → r ≡ countR t → r ≤ 64
-few-resources t r e k = let z = sized-done t 0 e in omega (arith, z .resources, z .wide .high)
+pub ruleset state-laws = (sized-done, image-long, ready-by, state-values, state-is)
 
-pub ruleset state-laws = (sized-done, long-done, image-long, ready-by, state-values, state-is)
-
-pub ruleset but-power-laws = (sized-done, few-resources, ready-by, but-power-values, but-power-is)
+pub ruleset but-power-laws = (sized-done, ready-by, but-power-values, but-power-is)
 
 -- ---- 1 to 8; v is what the check of the table answered, p whether that passes
 state-alone : (t b : List ℕ) → firstOf (stateVerdict t b ∷ []) (Done 0) ≡ stateVerdict t b
@@ -167,7 +160,6 @@ module _ (t b : List ℕ) (v : Verdict) (p : Bool) (e : v ≡ tableVerdict t) (f
 
 pub ruleset fresh-laws = (
   sized-told,
-  long-told,
   accepted-is,
   fresh-refused,
   fresh-refused-state,

@@ -1,13 +1,17 @@
 -- What the stages before consistency have shown of a table and of the bytes that start with the device part.
 use Prim.Native.Nat.{ℕ, _≤_, _<_}
 use mathlib.Core.Path.{_≡_}
-use mathlib.Core.Bool.{true}
+use mathlib.Core.Bool.{Bool, true, not, _&&_, _||_}
 use mathlib.Core.List.{List}
 use lib.ListN.{length}
 use Rattle.rules.specs.declared.Entry.{Entry}
-use Rattle.rules.specs.Station.{width, limit, countD, station}
+use Rattle.rules.specs.declared.Verdict.{Verdict}
+use Rattle.rules.specs.declared.Verdict.the-variants.{Refused}
+use Rattle.rules.specs.declared.Reason.the-variants.{Inconsistent}
+use Rattle.rules.specs.Answers.{lowest}
+use Rattle.rules.specs.Station.{Station, width, limit, countD, station}
 use Rattle.rules.specs.Table.{parentGood}
-use Rattle.rules.specs.Status.{Status, entriesSize, entries, entriesGood}
+use Rattle.rules.specs.Status.{Status, entriesSize, entries, entriesGood, consistentButPower, powered}
 use Rattle.rules.specs.Request.{replaceEntry}
 use Rattle.table.specs.Layout.{WellSized}
 
@@ -21,6 +25,13 @@ pub record Ready (t b : List ℕ) : Type 0 where
 abbrev pub statusWith : List ℕ → List ℕ → ℕ → Status
 statusWith t b on = record { entries = entries t b; on = on }
 
--- the same with another entry for device d
+-- consistent, or with no look at power consistent apart from it; and the lowest device that is not
+unfoldable pub consistentWith : Bool → Station → Status → ℕ → Bool
+consistentWith power s st d = consistentButPower s (st .entries) d && (not power || powered s st d)
+
+unfoldable pub consistencyWith : Bool → Station → Status → Verdict
+consistencyWith power s st = lowest (λ d. not (consistentWith power s st d)) (s .devices) (Refused Inconsistent)
+
+-- the status of these bytes with another entry for device d
 abbrev pub entryWith : List ℕ → List ℕ → ℕ → Entry → ℕ → Status
 entryWith t b d e on = record { entries = replaceEntry (entries t b) d e; on = on }

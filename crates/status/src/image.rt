@@ -11,7 +11,7 @@ ghost use Rattle.status.specs.Ready.{statusWith, entryWith};
 
 // The bytes that the image of a table's state has.
 pub fn size(table: &[u8]) -> usize
-    requires { ⌜ 8 ≤ length (now table) ⌝ }
+    requires { ⌜ WellSized (now table) ⌝ }
     ensures { λ r. ⌜ r ≡ imageSize (width (now (table .entry))) ⌝ }
 {
     33 * table::fields::width(table)
@@ -19,7 +19,7 @@ pub fn size(table: &[u8]) -> usize
 
 // The resources that an image of that size has on.
 pub fn on_set(table: &[u8], image: &[u8]) -> u64
-    requires { ⌜ (8 ≤ length (now table)) × (length (now image) ≡ imageSize (width (now table))) ⌝ }
+    requires { ⌜ WellSized (now table) × (length (now image) ≡ imageSize (width (now table))) ⌝ }
     ensures { λ r. ⌜ r ≡ status (now (table .entry)) (now (image .entry)) .on ⌝ }
 {
     let w = table::fields::width(table);
@@ -28,7 +28,7 @@ pub fn on_set(table: &[u8], image: &[u8]) -> u64
 
 // Another on-set in the image; its entries stay.
 pub fn set_on(table: &[u8], image: &mut [u8], on: u64)
-    requires { ⌜ (8 ≤ length (now table)) × (length (now image) ≡ imageSize (width (now table))) ⌝ }
+    requires { ⌜ WellSized (now table) × (length (now image) ≡ imageSize (width (now table))) ⌝ }
     ensures { λ _. ⌜ now (image .exit) ≡ imageOf (width (now (table .entry)))
         (statusWith (now (table .entry)) (now (image .entry)) on) ⌝ }
 {
@@ -38,7 +38,7 @@ pub fn set_on(table: &[u8], image: &mut [u8], on: u64)
 
 // Device d in state y and another on-set, in the image itself: a state by value would be copied twice for it.
 pub fn set_state(table: &[u8], image: &mut [u8], d: usize, y: u8, on: u64)
-    requires { ⌜ (8 ≤ length (now table)) × (length (now image) ≡ imageSize (width (now table))) × (d < limit (width (now table))) ⌝ }
+    requires { ⌜ WellSized (now table) × (length (now image) ≡ imageSize (width (now table))) × (d < limit (width (now table))) ⌝ }
     ensures { λ _. ⌜ now (image .exit) ≡ imageOf (width (now (table .entry)))
         (entryWith (now (table .entry)) (now (image .entry)) d
         (inState (entries (now (table .entry)) (now (image .entry)) d) y) on) ⌝ }
@@ -49,7 +49,7 @@ pub fn set_state(table: &[u8], image: &mut [u8], d: usize, y: u8, on: u64)
 
 // Another entry for device d and another on-set, through the state by value of the table's version.
 pub fn set_entry(table: &[u8], image: &mut [u8], d: usize, e: Entry, on: u64)
-    requires { ⌜ (8 ≤ length (now table)) × (length (now image) ≡ imageSize (width (now table))) × (d < limit (width (now table))) ⌝ }
+    requires { ⌜ WellSized (now table) × (length (now image) ≡ imageSize (width (now table))) × (d < limit (width (now table))) ⌝ }
     ensures { λ _. ⌜ now (image .exit) ≡ imageOf (width (now (table .entry)))
         (entryWith (now (table .entry)) (now (image .entry)) d e on) ⌝ }
 {

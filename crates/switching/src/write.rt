@@ -19,7 +19,7 @@ ghost use Rattle.switching.specs.Switching.{GoodSwitching};
 
 // The words that a list has room for in a plan.
 pub fn room(table: &[u8]) -> usize
-    requires { ⌜ 8 ≤ length (now table) ⌝ }
+    requires { ⌜ WellSized (now table) ⌝ }
     ensures { λ r. ⌜ (r ≡ listRoom (width (now (table .entry)))) × (r ≤ 65) ⌝ }
 {
     table::fields::limit(table) + 1

@@ -34,12 +34,11 @@ pub fn header_good(table: &[u8]) -> bool
     if table.len() < 8 {
         return false;
     }
-    let version = words::read16(table, 4) as u32;
-    (table[0] == MARK[0])
-        & (table[1] == MARK[1])
-        & (table[2] == MARK[2])
-        & version_good(version)
-        & (table[7] == 0)
+    let marked = (table[0] == MARK[0]) & (table[1] == MARK[1]) & (table[2] == MARK[2]);
+    if !marked {
+        return false;
+    }
+    version_good(words::read16(table, 4) as u32) & (table[7] == 0)
 }
 
 // The header of a table of R resources and D devices, over the first 8 bytes.

@@ -1,6 +1,6 @@
 -- A refusal leaves state and plan; otherwise the calls and the state of bring-up are written.
 use mathlib.Core.Path.{refl}
-use Rattle.table.proofs.Verdicts.{long-passed, table-passed}
+use Rattle.table.proofs.Verdicts.{sized-passed, table-passed}
 use Rattle.switching.proofs.Answered.{parts}
 use Rattle.bringup.proofs.Whole.{stop-table, passed-by, room-there, words-refused, words-brought, words-brings}
 use borrow.Author.Needs.{needs}
@@ -50,7 +50,7 @@ bring-up-words-spec =
     (λ c κs. search needs)
     (λ c κs. search needs)
     returns
-    (λ c κs. search (needs, long-passed))
+    (λ c κs. search (needs, sized-passed))
     (λ c κs. search (needs, table-passed))
     (λ c κs. search needs)
     (λ c. search needs)

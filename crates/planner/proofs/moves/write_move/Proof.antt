@@ -48,7 +48,7 @@ set-state-requires c κs =
     let on = c .before .before .before .before .before .before in
     let test = on .before .before .before .before .before .before .before .before in
     let turn = test .before .before .before .before .before .before .pre .0 in
-    (turn-sized _ _ _ _ turn .head, turn-long _ _ _ _ turn, turn-limit _ _ _ _ turn)
+    (turn-sized _ _ _ _ turn, turn-long _ _ _ _ turn, turn-limit _ _ _ _ turn)
 
 returns-2 : tie.Need-returns-2
 returns-2 c =

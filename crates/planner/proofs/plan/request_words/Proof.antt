@@ -1,6 +1,6 @@
 -- A refusal leaves state and plan; otherwise the calls and the state of the request are written.
 use mathlib.Core.Path.{refl}
-use Rattle.table.proofs.Verdicts.{long-passed, table-passed}
+use Rattle.table.proofs.Verdicts.{sized-passed, table-passed}
 use Rattle.request.proofs.Chain.{stop-table}
 use Rattle.request.proofs.Changes.{permitted-by}
 use Rattle.switching.proofs.Answered.{parts}
@@ -51,7 +51,7 @@ request-words-spec =
     (λ c κs. search needs)
     (λ c κs. search needs)
     returns
-    (λ c κs. search (needs, long-passed))
+    (λ c κs. search (needs, sized-passed))
     (λ c κs. search (needs, table-passed))
     (λ c κs. search needs)
     (λ c. search needs)

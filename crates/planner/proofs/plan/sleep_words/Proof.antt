@@ -1,7 +1,7 @@
 -- A refusal leaves state and plan; otherwise the calls that bring the devices to the least choice, and the state after them, are written.
 -- Where the values are too many for a search, each is named by the call that gave it, from the last one back.
 use mathlib.Core.Path.{refl}
-use Rattle.table.proofs.Verdicts.{table-passed, long-passed}
+use Rattle.table.proofs.Verdicts.{table-passed, sized-passed}
 use Rattle.switching.proofs.Answered.{parts}
 use Rattle.sleep.proofs.Verdicts.{sleep-table}
 use Rattle.planner.proofs.Choices.{states-64, choice-given, sleep-room, sleep-words-refused, sleep-words-planned}
@@ -66,7 +66,7 @@ sleep-words-spec =
     (λ c κs. search needs)
     (λ c κs. search needs)
     returns
-    (λ c κs. search (needs, long-passed))
+    (λ c κs. search (needs, sized-passed))
     (λ c. search needs)
     past-table-requires
     (λ c κs. search needs)

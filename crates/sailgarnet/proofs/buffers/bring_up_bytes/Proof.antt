@@ -6,7 +6,7 @@ use borrow.Author.Needs.{needs}
 use Rattle.rules.specs.declared.Verdict.the-variants.{Refused}
 use Rattle.rules.specs.declared.Reason.the-variants.{NotATable}
 use Rattle.rules.proofs.Answers.{refused-stops}
-use Rattle.table.proofs.Verdicts.{header-passed, table-passed, long-passed}
+use Rattle.table.proofs.Verdicts.{header-passed, table-passed, sized-passed}
 use Rattle.switching.proofs.Answered.{parts}
 use Rattle.bringup.proofs.Whole.{stop-header, stop-table, passed-by, room-bytes, bytes-refused, bytes-brought}
 use Rattle.planner.proofs.Room.{room-words, words-65, bytes-room}
@@ -30,7 +30,7 @@ returns-2 c =
 room-requires : tie.Need-room-requires
 room-requires c κs =
     let passed = c .before in
-    long-passed _ _ _ (passed .before .check-past-header .ensures) (passed .passes .ensures) (c .if2 .left)
+    sized-passed _ _ _ (passed .before .check-past-header .ensures) (passed .passes .ensures) (c .if2 .left)
 
 past-table-requires : tie.Need-past-table-requires
 past-table-requires c κs =

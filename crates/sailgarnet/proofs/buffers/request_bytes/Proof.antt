@@ -1,7 +1,7 @@
 -- A refusal leaves state and plan; otherwise the calls, as bytes, and the state of the request are written. Where the values are too many
 -- for a search, each is named by the call that gave it, from the last one back.
 use borrow.Author.Needs.{needs}
-use Rattle.table.proofs.Verdicts.{long-done}
+use Rattle.table.proofs.Verdicts.{sized-done}
 use Rattle.request.proofs.Changes.{permitted-by}
 use Rattle.switching.proofs.Answered.{parts}
 use Rattle.planner.proofs.Whole.{room-bytes, bytes-refused, bytes-planned}
@@ -55,7 +55,7 @@ pub request-bytes-spec : {M : Type 1} → statement M
 request-bytes-spec =
     tie.close
     (tie.spec
-    (λ c κs. search (needs, long-done))
+    (λ c κs. search (needs, sized-done))
     (λ c. search needs)
     (λ c κs. search needs)
     (λ c κs. search needs)

@@ -2,7 +2,7 @@
 -- written. Where the values are too many for a search, each is named by the call that gave it, from the last one back.
 use mathlib.Core.Path.{refl}
 use borrow.Author.Needs.{needs}
-use Rattle.table.proofs.Verdicts.{long-done}
+use Rattle.table.proofs.Verdicts.{sized-done}
 use Rattle.switching.proofs.Answered.{parts}
 use Rattle.planner.proofs.Choices.{states-64, choice-given, sleep-room-bytes, sleep-bytes-refused, sleep-bytes-planned}
 use Rattle.sailgarnet.proofs.buffers.sleep_bytes.Statement.{statement}
@@ -43,7 +43,7 @@ pub sleep-bytes-spec : {M : Type 1} → statement M
 sleep-bytes-spec =
     tie.close
     (tie.spec
-    (λ c κs. search (needs, long-done))
+    (λ c κs. search (needs, sized-done))
     (λ c. search needs)
     (λ c. search needs)
     (λ c κs. (search needs, search needs, search (needs, states-64)))
