@@ -29,7 +29,7 @@ use Rattle.rules.specs.BringUp.{bringUpStages, bringUpList, stateBroughtUp, bri
 use Rattle.rules.specs.BringUp.{checkBringUpBytes}
 use Rattle.rules.proofs.Answers.{done-passes}
 use Rattle.rules.proofs.Width.{version-4, version-8}
-use Rattle.laws.specs.Inverse.{AllBytes, Makes}
+use Rattle.laws.specs.Inverse.{Makes}
 use Rattle.laws.specs.Versions.{SameStation, SameState, SameOutcome, SamePlans, SameAnswers, SameFresh, VersionsAgree}
 use Rattle.laws.proofs.Stages.{bring-up-pass}
 use Rattle.laws.proofs.Lists.{refused-count, plan-outcome, plan-refused, one-each}
@@ -201,6 +201,5 @@ versions-agree t₁ t₂ m =
     (fresh-agree t₁ t₂ s four eight, answers-agree t₁ t₂ s four eight)
 
 -- and such tables there are of every description that is written as version 1
-pub same-station : (rs ds t : List ℕ) → AllBytes rs → AllBytes ds → Makes 1 rs ds t → SameStation t (tableBytes 2 rs ds)
-same-station rs ds t a b m =
-    record { resources = rs; devices = ds; bytes = (a, b); first = m; second = made-2 rs ds t m }
+pub same-station : (rs ds t : List ℕ) → Makes 1 rs ds t → SameStation t (tableBytes 2 rs ds)
+same-station rs ds t m = record { resources = rs; devices = ds; first = m; second = made-2 rs ds t m }

@@ -9,17 +9,17 @@ use Rattle.rules.specs.Answers.{countOf}
 use Rattle.rules.specs.Status.{statusOf}
 use Rattle.rules.specs.Outcomes.{Outcome, listRoom, planRoom, fresh, planWords, planBytes, checkWords, checkBytes}
 use Rattle.rules.specs.BringUp.{bringUpWords, bringUpBytes, checkBringUpWords, checkBringUpBytes}
-use Rattle.laws.specs.Inverse.{AllBytes, Makes}
+use Rattle.laws.specs.Inverse.{Makes}
 
 -- two tables that the writer makes of the same resources and devices
 pub record SameStation (t₁ t₂ : List ℕ) : Type 0 where
   pub resources : List ℕ
   pub devices : List ℕ
-  pub bytes : AllBytes resources × AllBytes devices
   pub first : Makes 1 resources devices t₁
   pub second : Makes 2 resources devices t₂
 
--- two images, each of its version's size, that say the same entries and the same on-set
+-- two images, each of its version's size, that say the same entries and the same on-set; version 1 has no entries from 32 on, so those of
+-- version 2 are then D0 and not armed
 pub record SameState (b₁ b₂ : List ℕ) : Type 0 where
   pub first : length b₁ ≡ 132
   pub second : length b₂ ≡ 264
