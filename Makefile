@@ -1,7 +1,7 @@
 # make run: the bench station's plans in words, and what is on after each call. make library: the library for C and Rust.
 # make test: everything that must hold before a change lands.
-# make check: for while you work: proves what has changed, then runs every test but the must-fail edits and the soak; half a minute if
-# nothing has changed.
+# make check: for while you work: proves what has changed, then runs every test but the must-fail edits and the soak; three or four
+# minutes if nothing has changed.
 # make install PREFIX=/usr/local: the library, its header, sailgarnet.pc for pkg-config and the command, under DESTDIR if it is given.
 # make uninstall, with the same PREFIX and DESTDIR: removes these files.
 # make bench, make instructions: time and instructions a call, Sailgarnet beside the reference. make benchmarks: docs/BENCHMARKS.md anew.

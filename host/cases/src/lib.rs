@@ -2,12 +2,12 @@
 //!
 //! [`Cases`] gives one case after the other without end. A station of either
 //! version is drawn, a walk of requests leads it from its fresh state or a drawn one
-//! through others, and each step of the walk is a case. Many are sleep entries, for which the armed
-//! devices are in most cases armed for the sleep state asked for. Bring-up has the
-//! entries of the step and any resources on. Some cases are damaged on purpose: the
-//! table, a state, the request, the room for the plan, a list, or the description of
-//! the station and the version and room for its table. The same seed gives the same
-//! cases. [`Coverage`] counts the answers they get.
+//! through others, and each step of the walk is a case. Many are sleep entries, for
+//! which the armed devices are in most cases armed for the sleep state asked for.
+//! Bring-up has the entries of the step and any resources on. Some cases are damaged
+//! on purpose: the table, a state, the request, the room for the plan, a list, or the
+//! description of the station and the version and room for its table. The same seed
+//! gives the same cases. [`Coverage`] counts the answers they get.
 //!
 //! [`workloads`] are the inputs to measure, [`sweep`] has small sets of inputs that
 //! are gone through completely, and [`Guarded`] lends a buffer between two runs of

@@ -183,8 +183,8 @@ named below the grid.
 
 Faults are below the grid: words that are no call of the table, resources that
 are off though needed, and resources that are on at the end though not needed.
-A list without a fault may still not conform: a call may be missing, or not in
-its place.
+A list without a fault may still not conform: a call may be missing, not be in
+its place, or switch what is so already.
 
 Sleep entry is traced without LIST, and refused with 10 with one, as by check. Each
 move has its calls and a grid of its own; before and after are of the move. The

@@ -1,8 +1,9 @@
-//! Why a table or a state is refused as a whole, in the numbers of its version.
+//! Why a table or a state is refused as a whole, in the numbers of its version, and
+//! why a request is, in those of its table.
 
-use sailgarnet::{Answer, Verdict, Version};
+use sailgarnet::{Answer, Request, Verdict, Version};
 
-use crate::words::{count, table_counts};
+use crate::words::{count, numbered_beyond, table_counts};
 
 /// The sentence of a refusal of a table with 1, 2 or 3.
 pub fn of_table(answer: Answer, table: &[u8]) -> Option<String> {
@@ -73,4 +74,12 @@ pub fn of_state(table: &[u8], state: &[u8]) -> Option<(String, String)> {
         )
     });
     Some((sentence, advice.unwrap_or_default()))
+}
+
+/// The sentence of answer 10 to a request about one device. As people write it, only
+/// the number of the device can be out of range.
+pub fn of_request(table: &[u8], request: Request) -> Option<String> {
+    let (_, devices) = table_counts(table);
+    let beyond = numbered_beyond("device", request.device as usize, devices)?;
+    Some(format!("the request {beyond}."))
 }

@@ -217,7 +217,7 @@ impl<'a> Subject<'a> {
     }
 
     /// The refusal of the task. For a table or a state as a whole, for a device that
-    /// is not consistent and for sleep entry it says why.
+    /// is not consistent or not there and for sleep entry it says why.
     pub fn refusal(&self, answer: Answer) -> Report {
         let (why, more) = match (answer.verdict(), self.task.sleep_entry()) {
             (Some(Verdict::NotATable | Verdict::TooMany | Verdict::WrongLength), _) => {
@@ -229,10 +229,19 @@ impl<'a> Subject<'a> {
                 (self.inconsistency(device), Some(self.remedy().into()))
             }
             (_, Some(x)) => sleep::refusal(answer, &self.table, &self.state, x).unzip(),
+            (Some(Verdict::BadRequest), None) => (self.no_such_device(), None),
             _ => (None, None),
         };
         let line = words::answer_line_with(answer, why.as_deref());
         Report::refused(line + &more.unwrap_or_default())
+    }
+
+    /// That the table does not have the device of the request.
+    fn no_such_device(&self) -> Option<String> {
+        match self.task {
+            Task::Request(request) => refusals::of_request(&self.table, request),
+            Task::BringUp => None,
+        }
     }
 
     /// Why this device is not consistent. That a resource is off is no reason to

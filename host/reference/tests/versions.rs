@@ -254,14 +254,11 @@ fn switching(in_d0: u64, in_d3hot: u64, to_wake: u64) -> Record {
 /// A request with its calls, and the entry and the on-set that it leaves.
 type Step = (Request, &'static [[u8; 4]], [u8; 4], u64);
 
-#[test]
-fn resources_above_31_are_switched_by_their_order() {
-    let mut resources = [(3, 5); 64];
-    resources[32].1 = 2;
-    resources[63].1 = 9;
-    let table = table(&resources, &[switching(HIGH | 1, 1 << 40, 1 << 47)]);
-    let (r0, r32, r63) = (1, 1 << 32, 1 << 63);
-    let steps: [Step; 4] = [
+/// What the device of these steps needs in D0.
+const IN_D0: u64 = HIGH | 1;
+
+fn steps() -> [Step; 4] {
+    [
         (
             Request::move_to(0, D3COLD),
             &[[3, 0, 3, 0], [2, 63, 0, 0], [2, 0, 0, 0], [2, 32, 0, 0]],
@@ -272,13 +269,13 @@ fn resources_above_31_are_switched_by_their_order() {
             Request::move_to(0, D0),
             &[[1, 32, 0, 0], [1, 0, 0, 0], [1, 63, 0, 0], [3, 0, 0, 0]],
             [0; 4],
-            r0 | r32 | r63,
+            IN_D0,
         ),
         (
             Request::arm(0, 3, D3COLD),
             &[[1, 47, 0, 0], [4, 0, 3, 0x84]],
             [0, 1, 3, 4],
-            r0 | r32 | r63 | 1 << 47,
+            IN_D0 | 1 << 47,
         ),
         (
             Request::move_to(0, D3HOT),
@@ -292,9 +289,17 @@ fn resources_above_31_are_switched_by_their_order() {
             [3, 1, 3, 4],
             1 << 40 | 1 << 47,
         ),
-    ];
-    let mut present = state(&[], r0 | r32 | r63);
-    for (request, calls, entry, on) in steps {
+    ]
+}
+
+#[test]
+fn resources_above_31_are_switched_by_their_order() {
+    let mut resources = [(3, 5); 64];
+    resources[32].1 = 2;
+    resources[63].1 = 9;
+    let table = table(&resources, &[switching(IN_D0, 1 << 40, 1 << 47)]);
+    let mut present = state(&[], IN_D0);
+    for (request, calls, entry, on) in steps() {
         let before = present.clone();
         let mut buffer = [0x5a; 260];
         let answer = plan(&table, &mut present, request, &mut buffer);

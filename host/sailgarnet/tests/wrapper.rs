@@ -289,9 +289,13 @@ const FRONT_CAMERA: u32 = 6;
 const LENS_HEATER: u32 = 7;
 const REAR_CAMERA: u32 = 12;
 
-/// Buffers for a state and for a plan of any kind, with a table of version 2.
+/// A buffer for a state, with a table of version 2.
 const WIDE_STATE: [u8; Version::Two.state_bytes()] = [0xaa; Version::Two.state_bytes()];
-const WIDE_PLAN: [u8; Version::Two.sleep_plan_bytes()] = [0xaa; Version::Two.sleep_plan_bytes()];
+
+/// A buffer for a plan of any kind, with a table of version 2.
+fn wide_plan() -> Vec<u8> {
+    vec![0xaa; Version::Two.sleep_plan_bytes()]
+}
 
 /// The fresh state of the line.
 fn fresh_line() -> [u8; Version::Two.state_bytes()] {
@@ -313,14 +317,10 @@ fn buffers_of_version_1_are_refused_with_a_table_of_version_2() {
         (Request::move_to(LENS_HEATER, D3HOT), 260),
         (Request::sleep(3), 16_640),
     ] {
-        let short = plan(
-            LINE,
-            &mut state,
-            request,
-            &mut WIDE_PLAN.clone()[..room - 1],
-        );
+        let mut buffer = wide_plan();
+        let short = plan(LINE, &mut state, request, &mut buffer[..room - 1]);
         assert_eq!(short.verdict(), Some(Verdict::NoRoom));
-        assert!(plan(LINE, &mut state, request, &mut WIDE_PLAN.clone()[..room]).is_done());
+        assert!(plan(LINE, &mut state, request, &mut buffer[..room]).is_done());
     }
     let short = bring_up(LINE, &mut state, &mut [0; 259]);
     assert_eq!(short.verdict(), Some(Verdict::NoRoom));
@@ -330,7 +330,7 @@ fn buffers_of_version_1_are_refused_with_a_table_of_version_2() {
 /// a resource beyond the 32nd that nothing needs.
 #[test]
 fn a_line_of_version_2_sleeps_and_is_brought_up() {
-    let (mut state, mut buffer) = (fresh_line(), WIDE_PLAN);
+    let (mut state, mut buffer) = (fresh_line(), wide_plan());
     for camera in [FRONT_CAMERA, REAR_CAMERA] {
         let arming = Request::arm(camera, 3, D2);
         assert!(plan(LINE, &mut state, arming, &mut buffer).is_done());
@@ -370,7 +370,7 @@ fn a_station_is_written_in_both_versions() {
     let (narrow, mut state) = fresh_bench();
     let mut wide_state = WIDE_STATE;
     assert!(fresh(table, &mut wide_state).is_done());
-    let (mut plans, request) = ((WIDE_PLAN, WIDE_PLAN), Request::move_to(CAMERA, D2));
+    let (mut plans, request) = ((wide_plan(), wide_plan()), Request::move_to(CAMERA, D2));
     let answer = plan(&narrow, &mut state, request, &mut plans.0);
     assert_eq!(plan(table, &mut wide_state, request, &mut plans.1), answer);
     assert_eq!((answer.number, answer.count), (0, 1));

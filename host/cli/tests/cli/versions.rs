@@ -7,7 +7,6 @@ use crate::desk::Desk;
 use crate::write::many;
 
 const EXAMPLE: &str = include_str!("../../../../examples/station.txt");
-const README: &str = include_str!("../../../../README.md");
 
 /// A desk with the bench station in version 1, `table`, and in version 2, `wide`,
 /// and the fresh state of each, `state` and `wide-state`.
@@ -45,28 +44,6 @@ fn the_bench_station_is_written_in_version_2() {
     assert_eq!(desk.read("new"), table);
     desk.run("write named --version 1 -o new").done();
     assert_eq!(desk.read("new"), desk.read("table"));
-}
-
-/// What README.md shows of the two versions is what the command prints.
-#[test]
-fn the_readme_shows_both_versions() {
-    let (_, rest) = README
-        .split_once("\n## Two versions of table\n")
-        .expect("the section");
-    let (section, _) = rest.split_once("\n## ").expect("the next section");
-    let desk = Desk::new("versions_readme");
-    let mut shown = section.lines().filter_map(|line| line.strip_prefix("    "));
-    let mut commands = 0;
-    while let Some(line) = shown.next() {
-        let operands = line.strip_prefix("sailgarnet ").expect("a command");
-        let examples = concat!(env!("CARGO_MANIFEST_DIR"), "/../../examples/");
-        let printed = desk.run(&operands.replace("examples/", examples)).done();
-        for line in printed.lines() {
-            assert_eq!(shown.next(), Some(line));
-        }
-        commands += 1;
-    }
-    assert_eq!(commands, 2);
 }
 
 #[test]

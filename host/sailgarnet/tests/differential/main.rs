@@ -161,16 +161,21 @@ fn the_bench_case_is_accepted() {
 /// A buffer of a case.
 type Part = fn(&mut Case) -> &mut Vec<u8>;
 
-const PARTS: [Part; 12] = [
+/// The buffers that some function reads.
+const READ: [Part; 7] = [
     |case| &mut case.table,
     |case| &mut case.state,
     |case| &mut case.list,
-    |case| &mut case.plan,
-    |case| &mut case.fresh,
     |case| &mut case.reported,
     |case| &mut case.bring_up_list,
     |case| &mut case.description.resources,
     |case| &mut case.description.devices,
+];
+
+/// The buffers that are filled, and that no function reads.
+const FILLED: [Part; 5] = [
+    |case| &mut case.plan,
+    |case| &mut case.fresh,
     |case| &mut case.written,
     |case| &mut case.described.resources,
     |case| &mut case.described.devices,
@@ -180,7 +185,7 @@ const PARTS: [Part; 12] = [
 #[test]
 fn each_byte_and_each_length_agree() {
     let mut comparison = Comparison::new();
-    let parts = |version| PARTS.map(|part| (version, part));
+    let parts = |version| READ.into_iter().chain(FILLED).map(move |p| (version, p));
     for (version, part) in Version::ALL.into_iter().flat_map(parts) {
         let mut case = bench_case(version);
         let good = part(&mut case).clone();
@@ -195,24 +200,24 @@ fn each_byte_and_each_length_agree() {
     comparison.report("each byte and each length of each buffer, bench station");
 }
 
-/// The inputs that are measured, as they are, each bit of their buffers turned
-/// over, and each length.
+/// The inputs that are measured, as they are, each bit of what is read turned over,
+/// all bits of what is filled, and each length.
 #[test]
 fn each_bit_and_each_length_of_a_workload_agree() {
     let mut comparison = Comparison::new();
-    for workload in workloads() {
-        let mut case = workload.case;
+    for (name, mut case) in different_workloads() {
         case.list.truncate(Version::Two.plan_bytes());
-        for part in PARTS {
+        for (i, part) in READ.into_iter().chain(FILLED).enumerate() {
             let good = part(&mut case).clone();
             let mut run = |bytes: &[u8]| {
-                part(&mut case).clone_from(&bytes.to_vec());
-                comparison.run(&case, |_| format!("damaged {}", workload.name));
+                *part(&mut case) = bytes.to_vec();
+                comparison.run(&case, |_| format!("damaged {name}"));
             };
-            // No function reads a plan, and that of sleep entry is long.
-            let is_length = |version: Version| version.sleep_plan_bytes() == good.len();
-            if !Version::ALL.into_iter().any(is_length) {
+            if i < READ.len() {
                 sweep::each_bit(&good, &mut run);
+            } else {
+                let turned: Vec<u8> = good.iter().map(|byte| !byte).collect();
+                run(&turned);
             }
             sweep::each_length(&good, 8, &mut run);
             sweep::each_wide_length(&good, &mut run);
@@ -220,6 +225,18 @@ fn each_bit_and_each_length_of_a_workload_agree() {
         }
     }
     comparison.report("each bit and each length of each buffer, inputs of the benchmark");
+}
+
+/// The inputs of the benchmark with their names. One on which several functions are
+/// measured, each for itself, is here once.
+fn different_workloads() -> Vec<(&'static str, Case)> {
+    let mut different: Vec<(&str, Case)> = Vec::new();
+    for workload in workloads() {
+        if different.iter().all(|(_, case)| *case != workload.case) {
+            different.push((workload.name, workload.case));
+        }
+    }
+    different
 }
 
 /// Requests with wild numbers, and the planner's list changed in each simple way.
