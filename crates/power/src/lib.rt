@@ -125,5 +125,8 @@ pub fn needs(table: &[u8], d: usize, at: usize, w: usize, e: rules::Entry) -> u6
     requires { ⌜ RecordAt (now table) d at w ⌝ }
     ensures { λ r. ⌜ r ≡ needs (station (now (table .entry))) d e ⌝ }
 {
-    sets::union(state_needs(table, d, at, w, e.state), wake_needs(table, d, at, w, e))
+    sets::union(
+        state_needs(table, d, at, w, e.state),
+        wake_needs(table, d, at, w, e),
+    )
 }

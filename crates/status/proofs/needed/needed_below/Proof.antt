@@ -50,9 +50,9 @@ needed-below-spec =
       search needs,
       search (needs, belows),
       (let at = c .before .before .before .before in
-      let inv = at .loop .inv in
-      more-below _ _ _ _ _ _ _ _ (inv .7) (inv .1 .sized) (c .before .before .before .loop-test .taken) (inv .2)
-      (c .before .before .entry .ensures) (c .before .needs .ensures) (c .union .ensures)),
+          let inv = at .loop .inv in
+          more-below _ _ _ _ _ _ _ _ (inv .7) (inv .1 .sized) (c .before .before .before .loop-test .taken) (inv .2)
+          (c .before .before .entry .ensures) (c .before .needs .ensures) (c .union .ensures)),
     ))
     (λ c. search needs)
     (λ c. search (needs, belows)))
