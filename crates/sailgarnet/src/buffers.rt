@@ -100,7 +100,12 @@ fn conforming(table: &[u8], state: &[u8], q: Request, list: &[u8]) -> bool
     let ListWords::Words(n) = words_in(list.len()) else {
         return false;
     };
-    let mut calls = [0u32; 65];
+    if n > 33 {
+        let mut calls = [0u32; 65];
+        words::read_words(list, n, &mut calls);
+        return checker::check::conforming(table, state, q, &calls[..n]);
+    }
+    let mut calls = [0u32; 33];
     words::read_words(list, n, &mut calls);
     checker::check::conforming(table, state, q, &calls[..n])
 }
@@ -160,7 +165,12 @@ fn conforming_to_bring_up(table: &[u8], state: &[u8], list: &[u8]) -> bool
     let ListWords::Words(n) = words_in(list.len()) else {
         return false;
     };
-    let mut calls = [0u32; 65];
+    if n > 33 {
+        let mut calls = [0u32; 65];
+        words::read_words(list, n, &mut calls);
+        return bringup::check::conforming(table, state, &calls[..n]);
+    }
+    let mut calls = [0u32; 33];
     words::read_words(list, n, &mut calls);
     bringup::check::conforming(table, state, &calls[..n])
 }
