@@ -37,7 +37,7 @@ both-zero a b c f g h =
     (λ e. let z = eqb-true c 0 e in tests.and-true _ _ (eq-eqb a 0 (f z)) (eq-eqb b 0 (g z)))
     (λ e. let z = both-true (eqb a 0) (eqb b 0) e in eq-eqb c 0 (h (eqb-true a 0 (z .0)) (eqb-true b 0 (z .1))))
 
-sum-zero : (n a b : ℕ) → 0 < n → eqb (a + n * b) 0 ≡ eqb a 0 && eqb b 0
+pub sum-zero : (n a b : ℕ) → 0 < n → eqb (a + n * b) 0 ≡ eqb a 0 && eqb b 0
 sum-zero n a b h =
     let l = mul-le-mul-right b h in
     both-zero a b (a + n * b) (λ z. omega arith) (λ z. omega arith) (λ x y. rw (x, y, mul-zero n) refl)

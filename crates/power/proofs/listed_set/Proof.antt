@@ -31,4 +31,4 @@ listed-set-spec =
     (λ c. search needs)
     (λ c. search (needs, listed-laws, field-here (λ v. v .pr), field-here-at (λ v. v .sets)))
     (λ c κs. search (needs, field-here (λ v. v .pr)))
-    (λ c. search (needs, listed-laws, field-here (λ v. v .pr), field-here-at (λ v. v .sets))))
+    (λ c. search (needs, listed-laws)))

@@ -7,4 +7,4 @@ use Rattle.power.proofs.own_set.Tie as tie
 
 pub own-set-spec : {M : Type 1} → statement M
 own-set-spec = tie.close (tie.spec (λ c κs. search needs) (λ c κs. search needs) (λ c. search (needs, set-laws, field-here-at (λ v. v .sets)))
-    (λ c. search (needs, set-laws, field-here-at (λ v. v .sets))))
+    (λ c. search (needs, set-laws)))

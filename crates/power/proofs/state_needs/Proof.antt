@@ -11,7 +11,7 @@ state-needs-spec =
     (tie.spec
     (λ c κs. search needs)
     (λ c κs. search (needs, field-here (λ v. v .pr)))
-    (λ c. search (needs, set-laws, field-here (λ v. v .pr)))
+    (λ c. search (needs, set-laws))
     (λ c. d3cold-needs _ _ (search needs))
     (λ c κs. search needs)
-    (λ c. search (needs, set-laws, field-here (λ v. v .pr))))
+    (λ c. search (needs, set-laws)))

@@ -13,4 +13,4 @@ wake-needs-spec =
     (λ c κs. search needs)
     (λ c κs. search needs)
     (λ c. search (needs, set-laws, field-here-at (λ v. v .sets)))
-    (λ c. search (needs, set-laws, field-here-at (λ v. v .sets))))
+    (λ c. search (needs, set-laws)))

@@ -7,4 +7,4 @@ use Rattle.power.proofs.wake.wake_from.Tie as tie
 
 pub wake-from-spec : {M : Type 1} → statement M
 wake-from-spec = tie.close (tie.spec (λ c κs. search needs) (λ c κs. search needs) (λ c. search (needs, wake-laws, field-here (λ v. v .deepest)))
-    (λ c. search (needs, wake-laws, field-here (λ v. v .deepest))))
+    (λ c. search (needs, wake-laws)))

@@ -9,4 +9,4 @@ pub wake-state-spec : {M : Type 1} → statement M
 wake-state-spec =
     tie.close
     (tie.spec (λ c κs. search needs) (λ c κs. search needs) (λ c κs. search needs) (λ c κs. search needs) (λ c. search (needs, wake-laws, field-here-at (λ v. v .sxd), field-here-at (λ v. v .sxw)))
-    (λ c. search (needs, wake-laws, field-here-at (λ v. v .sxd), field-here-at (λ v. v .sxw))))
+    (λ c. search (needs, wake-laws)))
