@@ -1,14 +1,7 @@
 // The same sets in a 32-bit word, for at most 32 resources: the on-set of a version 1 state, its differences, and masks of a few bits.
 ghost use mathlib.Core.Path.{_≡_};
 ghost use Prim.Native.Nat.{_<_, _≤_};
-ghost use Rattle.sets.specs.Sets.{member, union, minus, single, firstN};
-
-// What is in a or in b.
-pub fn union(a: u32, b: u32) -> u32
-    ensures { λ s. ⌜ s ≡ union a b ⌝ }
-{
-    a | b
-}
+ghost use Rattle.sets.specs.Sets.{member, minus, single, firstN};
 
 // What is in a and not in b.
 pub fn minus(a: u32, b: u32) -> u32

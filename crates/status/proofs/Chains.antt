@@ -1,5 +1,5 @@
 -- Answers 7 and 8, and what making a fresh state leaves: one law for each way out.
-use mathlib.Core.Path.{_≡_, refl, sym, ap, _∙_}
+use mathlib.Core.Path.{_≡_, refl, sym, _∙_}
 use mathlib.Core.Bool.{Bool, true, false, not, cond}
 use mathlib.Core.List.{List, [], _∷_}
 use Prim.Native.Nat.{ℕ, _≤_}
@@ -13,7 +13,7 @@ use Rattle.rules.specs.declared.Verdict.the-variants.{Done, Refused}
 use Rattle.rules.specs.declared.Reason.the-variants.{BadState, Inconsistent}
 use Rattle.rules.specs.Index.{least}
 use Rattle.rules.specs.Answers.{passes, firstOf, unless, lowest}
-use Rattle.rules.specs.Station.{width, limit, countR, stationOf, station}
+use Rattle.rules.specs.Station.{width, limit, station}
 use Rattle.rules.specs.Table.{tableVerdict}
 use Rattle.rules.specs.Status.{entries, statusOf, status, imageSize, entriesGood, onGood, valuesGood, imageGood, valuesVerdict}
 use Rattle.rules.specs.Status.{consistencyVerdict, stateVerdict, imageOf, freshStatus}

@@ -16,6 +16,7 @@ pub record Held : Type 0 where
   pub devices : List ℕ
   pub on : ℕ
 
+-- that of version 1, and that of version 2
 abbrev pub held : State → Held
 held st = record { devices = st .devices; on = st .on }
 

@@ -1,6 +1,6 @@
 -- What the readers of a table cite: its width, where a record starts and that it ends inside the table, and each field of the station, from
 -- what the readers of a record give.
-use mathlib.Core.Path.{_≡_, refl, ap, _∙_}
+use mathlib.Core.Path.{_≡_, refl, _∙_}
 use mathlib.Core.Bool.{true}
 use mathlib.Core.List.{List}
 use Prim.Native.Nat.{ℕ, _+_, _*_, _^_, _<_, _≤_}

@@ -1,4 +1,5 @@
--- What a table's first three checks show: the counts are in range and the length is theirs. Every reader of a field leans on it.
+-- What a table's first three checks show: the version is known, the counts are in its range and the length is theirs. Every reader of a
+-- field leans on it.
 use Prim.Native.Nat.{ℕ, _+_, _*_, _≤_, _<_}
 use mathlib.Core.Path.{_≡_}
 use mathlib.Core.Bool.{true}
