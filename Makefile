@@ -1,13 +1,13 @@
 # make run: the bench station's plans in words, and what is on after each call. make library: the library for C and Rust.
 # make test: everything that must hold before a change lands.
-# make check: for while you work: proves what has changed, then runs every test but the must-fail edits and the soak; half a minute if
-# nothing has changed.
+# make check: for while you work: proves what has changed, then runs every test but the must-fail edits and the soak; three or four
+# minutes if nothing has changed.
 # make install PREFIX=/usr/local: the library, its header, sailgarnet.pc for pkg-config and the command, under DESTDIR if it is given.
 # make uninstall, with the same PREFIX and DESTDIR: removes these files.
 # make bench, make instructions: time and instructions a call, Sailgarnet beside the reference. make benchmarks: docs/BENCHMARKS.md anew.
 # make pictures: those in docs, the traces of W4, of W5 and of a sleep entry, and which crate stands on which.
-# make soak SECONDS=600 SEED=7: the library against the reference, sweeps and then random cases for so long; without SEED with a new one,
-# which is printed.
+# make soak SECONDS=600 SEED=7: the library against the reference on random cases for so long; without SEED with a new one, which is
+# printed.
 .PHONY: test check run library install uninstall bench instructions soak pictures benchmarks
 .DELETE_ON_ERROR:
 
@@ -60,7 +60,7 @@ instructions:
 	@python3 tests/instructions.py host/target/release/examples/benchmark
 
 soak:
-	@SAILGARNET_SECONDS=$(SECONDS) SAILGARNET_SEED=$(SEED) cargo test $(HOST) --release -p sailgarnet --test differential -- --nocapture --test-threads 1
+	@SAILGARNET_SECONDS=$(SECONDS) SAILGARNET_SEED=$(SEED) cargo test $(HOST) --release -p sailgarnet --test differential -- --nocapture --test-threads 1 random_cases_agree
 
 pictures:
 	@bash tests/pictures.sh docs

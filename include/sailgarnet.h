@@ -21,28 +21,55 @@
 extern "C" {
 #endif
 
+/* Versions of the table. Each function takes a table of either, and goes by the version that stands in the table. */
+#define SAILGARNET_TABLE_VERSION_1 1u /* at most 32 resources and 32 devices, device records of 40 bytes */
+#define SAILGARNET_TABLE_VERSION_2 2u /* at most 64 resources and 64 devices, device records of 64 bytes */
+
 /*
- * Sizes. A state image has 132 bytes; a plan at most 33 calls of four bytes, that of a sleep entry at most 1,056; there
- * are at most 32 resources and 32 devices.
+ * Sizes, in bytes, and limits. Those of version 1 have the plain names, those of version 2 have V2 in them. A program for
+ * tables of either version takes buffers of the ANY sizes, and passes the lengths that sailgarnet_sizes_of gives for its
+ * table: a state must have exactly the size of its version.
+ *
+ * A plan has at most a call of four bytes for each resource and one for the device: 33 calls, or 65. That of a sleep entry
+ * has at most as many for each device: 1,056, or 4,160.
  */
 #define SAILGARNET_STATE_SIZE 132u
-#define SAILGARNET_ENTRIES_SIZE 128u /* the device entries of a state; its on-set is after them */
+#define SAILGARNET_ENTRIES_SIZE 128u /* the device entries of a state; its on-set, of 4 bytes, is after them */
 #define SAILGARNET_PLAN_SIZE 132u
-#define SAILGARNET_SLEEP_PLAN_SIZE 4224u /* the plan of a sleep entry: room for 33 calls for each of 32 devices */
+#define SAILGARNET_SLEEP_PLAN_SIZE 4224u
 #define SAILGARNET_MAX_RESOURCES 32u
 #define SAILGARNET_MAX_DEVICES 32u
 #define SAILGARNET_RECORD_SIZE 40u /* a device's record in a table */
-#define SAILGARNET_NONE 255u       /* no parent, or no such _SxD or _SxW */
 
-/* Descriptions: the bytes of a resource and of a device, then what the lists and the table of any station fit in. */
+#define SAILGARNET_V2_STATE_SIZE 264u
+#define SAILGARNET_V2_ENTRIES_SIZE 256u /* the on-set after them has 8 bytes */
+#define SAILGARNET_V2_PLAN_SIZE 260u
+#define SAILGARNET_V2_SLEEP_PLAN_SIZE 16640u
+#define SAILGARNET_V2_MAX_RESOURCES 64u
+#define SAILGARNET_V2_MAX_DEVICES 64u
+#define SAILGARNET_V2_RECORD_SIZE 64u
+
+#define SAILGARNET_ANY_STATE_SIZE SAILGARNET_V2_STATE_SIZE
+#define SAILGARNET_ANY_PLAN_SIZE SAILGARNET_V2_PLAN_SIZE
+#define SAILGARNET_ANY_SLEEP_PLAN_SIZE SAILGARNET_V2_SLEEP_PLAN_SIZE
+
+#define SAILGARNET_NONE 255u /* no parent, or no such _SxD or _SxW */
+
+/*
+ * Descriptions: the bytes of a resource and of a device, the same for both versions. Then what the lists and the table of
+ * any station of version 1 fit in, of version 2, and of either.
+ */
 #define SAILGARNET_DESCRIBED_RESOURCE_SIZE 4u
 #define SAILGARNET_DESCRIBED_DEVICE_SIZE 54u
 #define SAILGARNET_MAX_RESOURCES_SIZE 128u
 #define SAILGARNET_MAX_DEVICES_SIZE 1728u
 #define SAILGARNET_MAX_TABLE_SIZE 1416u
-
-/* Versions of the table. */
-#define SAILGARNET_TABLE_VERSION_1 1u /* at most 32 resources and 32 devices, device records of 40 bytes */
+#define SAILGARNET_V2_MAX_RESOURCES_SIZE 256u
+#define SAILGARNET_V2_MAX_DEVICES_SIZE 3456u
+#define SAILGARNET_V2_MAX_TABLE_SIZE 4360u
+#define SAILGARNET_ANY_MAX_RESOURCES_SIZE SAILGARNET_V2_MAX_RESOURCES_SIZE
+#define SAILGARNET_ANY_MAX_DEVICES_SIZE SAILGARNET_V2_MAX_DEVICES_SIZE
+#define SAILGARNET_ANY_MAX_TABLE_SIZE SAILGARNET_V2_MAX_TABLE_SIZE
 
 /* Request kinds. */
 #define SAILGARNET_MOVE 1u   /* device to state a; b is 0 */
@@ -60,15 +87,15 @@ extern "C" {
 /* Answer numbers, named as in crates/rules. In brackets what the place names; it is 0 where nothing is named. */
 enum sailgarnet_number {
     SAILGARNET_DONE = 0,              /* done; count is calls for plan and bring_up, bytes for write and describe, else 0 */
-    SAILGARNET_NOT_A_TABLE = 1,       /* table under 8 bytes, or wrong mark, version or byte 7; write: version is not 1 */
-    SAILGARNET_TOO_MANY = 2,          /* more than 32 resources or devices */
-    SAILGARNET_WRONG_LENGTH = 3,      /* the table's length is not 8 + 4 R + 40 D */
+    SAILGARNET_NOT_A_TABLE = 1,       /* table under 8 bytes, or wrong mark, byte 7 or version; write: version not 1 or 2 */
+    SAILGARNET_TOO_MANY = 2,          /* more than 32 resources or devices, in version 2 more than 64 */
+    SAILGARNET_WRONG_LENGTH = 3,      /* the table's length is not 8 + 4 R + 40 D, in version 2 8 + 4 R + 64 D */
     SAILGARNET_BAD_RESOURCE = 4,      /* a resource record has a bad field or, in a description, is cut short [resource] */
     SAILGARNET_BAD_DEVICE = 5,        /* a device record has a bad field or, in a description, is cut short [device] */
     SAILGARNET_BAD_OBJECTS = 6,       /* a device breaks an object rule, see struct sailgarnet_device [device] */
-    SAILGARNET_BAD_STATE = 7,         /* the state is not 132 bytes, or a value is out of its rules */
+    SAILGARNET_BAD_STATE = 7,         /* the state is not 132 bytes, in version 2 264, or a value is out of its rules */
     SAILGARNET_INCONSISTENT = 8,      /* the state is not consistent, for bring-up even with all on [lowest such device] */
-    SAILGARNET_NO_ROOM = 9,           /* a plan under 132 bytes, 4224 for sleep entry; a buffer too short for its output */
+    SAILGARNET_NO_ROOM = 9,           /* plan under 132 (V2 260), of sleep entry 4224 (16640); other output without room */
     SAILGARNET_BAD_REQUEST = 10,      /* kind, device or number out of range, or an unused number not zero */
     SAILGARNET_UNSUPPORTED = 11,      /* the device does not support the state */
     SAILGARNET_SHALLOWER = 12,        /* the target is shallower than the present state and not D0 */
@@ -84,22 +111,23 @@ enum sailgarnet_number {
 };
 
 /*
- * The fresh state of a table: every device in D0, none armed, all resources on. Writes the 132 bytes of `state`.
- * Answers 1 to 6, then 7 if the buffer is not 132 bytes, else 0.
+ * The fresh state of a table: every device in D0, none armed, all resources on. Writes every byte of `state`. Answers 1 to
+ * 6, then 7 if the buffer is not 132 bytes, for a table of version 2 264, else 0.
  */
 uint64_t sailgarnet_fresh(const uint8_t *table, size_t table_len, uint8_t *state, size_t state_len);
 
 /*
  * Plans one request. Done: the first 4 * count bytes of `plan` are the calls in their order, four bytes each, the rest
- * of `plan` is as it was, and `state` is the state after the calls. Refused: nothing is written.
+ * of `plan` is as it was, and `state` is the state after the calls. Refused: nothing is written. `plan` must have at least
+ * SAILGARNET_PLAN_SIZE bytes, for a table of version 2 SAILGARNET_V2_PLAN_SIZE, else the answer is 9.
  *
- * SAILGARNET_SLEEP prepares all devices for sleep state x = a, which the board enters afterwards. `plan` must have
- * SAILGARNET_SLEEP_PLAN_SIZE bytes, else the answer is 9. Each device takes the shallowest state that it may take: one
- * that it supports, that is not shallower than its present state, its _SxD or the state of its parent, in which all that
- * it needs has systemlevel x or more, and which is its wake state if it is armed. The calls are those of SAILGARNET_MOVE
- * for each device whose state changes, from the highest down. If none changes, they turn off what is on and not needed.
- * Answers 1 to 9, then 10 if a is not 1 to 4 or device or b is not 0, 20 if a device is armed for another sleep state, 21
- * if some device is left without a state, else 0.
+ * SAILGARNET_SLEEP prepares all devices for sleep state x = a, which the board enters afterwards. `plan` must then have
+ * SAILGARNET_SLEEP_PLAN_SIZE bytes, or SAILGARNET_V2_SLEEP_PLAN_SIZE. Each device takes the shallowest state that it may
+ * take: one that it supports, that is not shallower than its present state, its _SxD or the state of its parent, in which
+ * all that it needs has systemlevel x or more, and which is its wake state if it is armed. The calls are those of
+ * SAILGARNET_MOVE for each device whose state changes, from the highest down. If none changes, they turn off what is on and
+ * not needed. Answers 1 to 9, then 10 if a is not 1 to 4 or device or b is not 0, 20 if a device is armed for another sleep
+ * state, 21 if some device is left without a state, else 0.
  */
 uint64_t sailgarnet_plan(const uint8_t *table, size_t table_len, uint8_t *state, size_t state_len,
                          uint32_t kind, uint32_t device, uint32_t a, uint32_t b,
@@ -115,14 +143,14 @@ uint64_t sailgarnet_check(const uint8_t *table, size_t table_len, const uint8_t 
                           const uint8_t *list, size_t list_len);
 
 /*
- * What to switch at power-on. The lent `state` has the device entries that the board kept and, as its on-set, the resources
- * that are on by _STA (sailgarnet_on_write); a needed one may be off. Answers 1 to 7, then 8 for the lowest device that is
- * in a state which it does not have, shallower than its parent, armed for a wake pair that is not legal, or deeper than its
- * wake state; resources that are off are no reason. Then 9 if `plan` has fewer than 132 bytes, else 0. Done: the first
- * 4 * count bytes of `plan` are the calls in their order, _ON of each resource that is needed and off, then _OFF of each
- * that is on and not needed, and the rest of `plan` is as it was. No method of a device is called, not even where its
- * supply was off. `state` keeps its device entries and has exactly the needed resources on, so it is consistent. Refused:
- * nothing is written.
+ * What to switch at power-on. The lent `state` has the device entries that the board kept and, as its on-set, the
+ * resources that are on by _STA (sailgarnet_on_write_for); a needed one may be off. Answers 1 to 7, then 8 for the lowest
+ * device that is in a state which it does not have, shallower than its parent, armed for a wake pair that is not legal,
+ * or deeper than its wake state; resources that are off are no reason. Then 9 if `plan` has fewer than 132 bytes, for a
+ * table of version 2 fewer than 260, else 0. Done: the first 4 * count bytes of `plan` are the calls in their order, _ON
+ * of each resource that is needed and off, then _OFF of each that is on and not needed, and the rest of `plan` is as it
+ * was. No method of a device is called, not even where its supply was off. `state` keeps its device entries and has
+ * exactly the needed resources on, so it is consistent. Refused: nothing is written.
  */
 uint64_t sailgarnet_bring_up(const uint8_t *table, size_t table_len, uint8_t *state, size_t state_len,
                              uint8_t *plan, size_t plan_len);
@@ -136,20 +164,22 @@ uint64_t sailgarnet_check_bring_up(const uint8_t *table, size_t table_len, const
                                    const uint8_t *list, size_t list_len);
 
 /*
- * Writes the table that a description makes: `resources` has R records of 4 bytes, `devices` D records of 54, and a record
- * that is cut short counts. Their lengths say how many records there are: lend 4 R and 54 D bytes, not the whole buffers,
- * whose unused bytes would be taken for records. Answers 1 for a version other than 1, then 2, then 9 if `table` has fewer
- * than 8 + 4 R + 40 D bytes, then 4, 5 and 6 as for the table, else 0. Done: the first count bytes of `table` are the
- * table, and the rest is as it was. Refused: nothing is written.
+ * Writes the table that a description makes, of the version that is asked for: `resources` has R records of 4 bytes,
+ * `devices` D records of 54, and a record that is cut short counts. Their lengths say how many records there are: lend 4
+ * R and 54 D bytes, not the whole buffers, whose unused bytes would be taken for records. Answers 1 for a version other
+ * than 1 and 2, then 2 for more than 32 of either, in version 2 more than 64, then 9 if `table` has fewer than 8 + 4 R +
+ * 40 D bytes, in version 2 fewer than 8 + 4 R + 64 D, then 4, 5 and 6 as for the table, else 0. Done: the first count
+ * bytes of `table` are the table, and the rest is as it was. Refused: nothing is written. With at most 32 resources and
+ * 32 devices, and room, a description is written as either version or refused as either, with the same answer.
  */
 uint64_t sailgarnet_write(uint32_t version, const uint8_t *resources, size_t resources_len,
                           const uint8_t *devices, size_t devices_len, uint8_t *table, size_t table_len);
 
 /*
- * Describes a table; sailgarnet_write makes the same table of the description. Answers 1 to 6, then 9 if `resources` has
- * fewer than 4 R bytes or `devices` fewer than 54 D, else 0. Done: the first 4 R bytes of `resources` and the first 54 D
- * bytes of `devices` are the description, the count is their sum, and the rest is as it was. R and D are then
- * sailgarnet_resource_count and sailgarnet_device_count of the table. Refused: nothing is written.
+ * Describes a table; sailgarnet_write with the table's version makes the same table of the description. Answers 1 to 6,
+ * then 9 if `resources` has fewer than 4 R bytes or `devices` fewer than 54 D, else 0. Done: the first 4 R bytes of
+ * `resources` and the first 54 D bytes of `devices` are the description, the count is their sum, and the rest is as it was.
+ * R and D are then sailgarnet_resource_count and sailgarnet_device_count of the table. Refused: nothing is written.
  */
 uint64_t sailgarnet_describe(const uint8_t *table, size_t table_len, uint8_t *resources, size_t resources_len,
                              uint8_t *devices, size_t devices_len);
@@ -194,7 +224,74 @@ static inline void sailgarnet_sized_set_write(uint8_t *bytes, unsigned size, uin
         bytes[i] = (uint8_t)(set >> 8 * i & 0xffu);
 }
 
-/* The on-set of a state, the resources that are on. The two touch its 4 bytes alone. */
+/* R and D of a good table, the numbers of its resources and devices. */
+static inline unsigned sailgarnet_resource_count(const uint8_t *table) { return table[3]; }
+static inline unsigned sailgarnet_device_count(const uint8_t *table) { return table[6]; }
+
+/* What the version of a table decides. */
+struct sailgarnet_sizes {
+    unsigned version;       /* 1 or 2 */
+    unsigned max_resources; /* 32 or 64 */
+    unsigned max_devices;   /* 32 or 64 */
+    size_t record;          /* a device's record in the table: 40 or 64 bytes */
+    size_t set;             /* a set in a device's record, and the on-set of a state: 4 or 8 */
+    size_t entries;         /* the device entries of a state; its on-set is after them: 128 or 256 */
+    size_t state;           /* a state, exactly: 132 or 264 */
+    size_t plan;            /* a plan, at least: 132 or 260 */
+    size_t sleep_plan;      /* the plan of a sleep entry, at least: 4224 or 16640 */
+};
+
+/* The sizes of a version. Of a version other than 1 and 2, all are 0. */
+static inline struct sailgarnet_sizes sailgarnet_sizes_of_version(uint32_t version)
+{
+    static const struct sailgarnet_sizes sizes[3] = {
+        {0, 0, 0, 0, 0, 0, 0, 0, 0},
+        {SAILGARNET_TABLE_VERSION_1, SAILGARNET_MAX_RESOURCES, SAILGARNET_MAX_DEVICES, SAILGARNET_RECORD_SIZE, 4,
+         SAILGARNET_ENTRIES_SIZE, SAILGARNET_STATE_SIZE, SAILGARNET_PLAN_SIZE, SAILGARNET_SLEEP_PLAN_SIZE},
+        {SAILGARNET_TABLE_VERSION_2, SAILGARNET_V2_MAX_RESOURCES, SAILGARNET_V2_MAX_DEVICES, SAILGARNET_V2_RECORD_SIZE, 8,
+         SAILGARNET_V2_ENTRIES_SIZE, SAILGARNET_V2_STATE_SIZE, SAILGARNET_V2_PLAN_SIZE, SAILGARNET_V2_SLEEP_PLAN_SIZE},
+    };
+
+    return sizes[version <= SAILGARNET_TABLE_VERSION_2 ? version : 0];
+}
+
+/* The version of a table. It is 0 exactly for the bytes that the functions answer 1: they are no table. */
+static inline uint32_t sailgarnet_version_of(const uint8_t *table, size_t table_len)
+{
+    if (table_len < 8 || table[0] != 'P' || table[1] != 'W' || table[2] != 'T' || table[5] != 0 || table[7] != 0)
+        return 0;
+    return sailgarnet_sizes_of_version(table[4]).version;
+}
+
+/*
+ * The sizes of a table's version. For bytes that are no table all are 0: a function that is lent them answers 1, whatever
+ * lengths it is passed. A table that has sizes may still be refused with 2 to 6.
+ */
+static inline struct sailgarnet_sizes sailgarnet_sizes_of(const uint8_t *table, size_t table_len)
+{
+    return sailgarnet_sizes_of_version(sailgarnet_version_of(table, table_len));
+}
+
+/*
+ * The on-set of a state, the resources that are on, for a table of either version. The two touch the bytes of the on-set
+ * alone, 4 or 8, and none for bytes that are no table. A state of version 1 has no room for resources from 32 on: they are
+ * not written.
+ */
+static inline uint64_t sailgarnet_on_read_for(const uint8_t *table, size_t table_len, const uint8_t *state)
+{
+    struct sailgarnet_sizes sizes = sailgarnet_sizes_of(table, table_len);
+
+    return sailgarnet_sized_set_read(state + sizes.entries, (unsigned)sizes.set);
+}
+
+static inline void sailgarnet_on_write_for(const uint8_t *table, size_t table_len, uint8_t *state, uint64_t on)
+{
+    struct sailgarnet_sizes sizes = sailgarnet_sizes_of(table, table_len);
+
+    sailgarnet_sized_set_write(state + sizes.entries, (unsigned)sizes.set, on);
+}
+
+/* The same for a state of version 1. The two touch its 4 bytes alone. */
 static inline uint32_t sailgarnet_on_read(const uint8_t *state)
 {
     return (uint32_t)sailgarnet_sized_set_read(state + SAILGARNET_ENTRIES_SIZE, 4);
@@ -204,10 +301,6 @@ static inline void sailgarnet_on_write(uint8_t *state, uint32_t on)
 {
     sailgarnet_sized_set_write(state + SAILGARNET_ENTRIES_SIZE, 4, on);
 }
-
-/* R and D of a good table, the numbers of its resources and devices. */
-static inline unsigned sailgarnet_resource_count(const uint8_t *table) { return table[3]; }
-static inline unsigned sailgarnet_device_count(const uint8_t *table) { return table[6]; }
 
 /* A described resource. A value out of its range is answered 4. */
 struct sailgarnet_resource {

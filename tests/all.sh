@@ -109,6 +109,8 @@ step example edit -O2
 step example edit -g -fsanitize=address,undefined
 step example sleep -O2
 step example sleep -g -fsanitize=address,undefined
+step example wide -O2
+step example wide -g -fsanitize=address,undefined
 step bash tests/stack.sh
 step fence
 host

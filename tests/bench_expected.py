@@ -2,6 +2,7 @@
 """What the program `bench` must print for the cases of its file `stdin`, worked out by docs/RULES.md alone: it shares the cases with the
 program and nothing else. (`wake_verdicts.py` prints the text of an array of the code by `in_range`; the prover holds that array to the
 definition.) `bench_expected.py bench > crates/bench/stdout` writes the page anew."""
+import collections
 import itertools
 import pathlib
 import sys
@@ -9,6 +10,11 @@ import sys
 ABSENT = 255
 MOVE, ARM, DISARM, SLEEP = 1, 2, 3, 4
 BRING_UP = None  # in the place of a request
+
+# ---- RULES.md 2.2, 2.7 and 2.10: by the version, how many bytes a set, a device record and a state have, how many resources and devices a
+# table may have, and how many words a plan must have, for sleep entry and else
+Sizes = collections.namedtuple("Sizes", "set device state limit list sleep")
+SIZES = {1: Sizes(4, 40, 132, 32, 33, 1056), 2: Sizes(8, 64, 264, 64, 65, 4160)}
 
 
 def le(b):
@@ -31,7 +37,7 @@ def powered_in(s, resources, levels):
     return not any(resources >> r & 1 and level < s for r, level in enumerate(levels))
 
 
-# a device by the bytes of its record; sets have w bytes, 4 in a table and 8 in a description
+# a device by the bytes of its record; sets have w bytes, in a table by its version, in a description 8
 class Device:
     def __init__(self, b, w):
         self.parent, self.ps, self.pr, self.flags = b[0], b[1], b[2], b[3]
@@ -111,10 +117,23 @@ class Device:
         return powered_in(s, self.sets[4], levels) and self.supported(d) and self.may_wake(s, d)
 
 
+# of a table whose version is one that there is
+def sizes(t):
+    return SIZES[le(t[4:6])]
+
+
+def table_size(size, R, D):
+    return 8 + 4 * R + size.device * D
+
+
+def record_at(t, d):
+    at = table_size(sizes(t), t[3], d)
+    return t[at:at + sizes(t).device]
+
+
 def split(t):
-    R, D = t[3], t[6]
-    resources = [t[8 + 4 * r:12 + 4 * r] for r in range(R)]
-    devices = [Device(t[8 + 4 * R + 40 * d:48 + 4 * R + 40 * d], 4) for d in range(D)]
+    resources = [t[8 + 4 * r:12 + 4 * r] for r in range(t[3])]
+    devices = [Device(record_at(t, d), sizes(t).set) for d in range(t[6])]
     return resources, devices
 
 
@@ -133,22 +152,31 @@ def check_records(resources, devices):
 
 # ---- RULES.md 2.6, answers 1 to 6
 def check_table(t):
-    if len(t) < 8 or t[:3] != b"PWT" or le(t[4:6]) != 1 or t[7] != 0:
+    if len(t) < 8 or t[:3] != b"PWT" or le(t[4:6]) not in SIZES or t[7] != 0:
         return 1, 0
     R, D = t[3], t[6]
-    if R > 32 or D > 32:
+    if max(R, D) > sizes(t).limit:
         return 2, 0
-    if len(t) != 8 + 4 * R + 40 * D:
+    if len(t) != table_size(sizes(t), R, D):
         return 3, 0
     return check_records(*split(t))
+
+
+# the on-set of a state, past the entries, of which there are as many as the version allows
+def on_set(t, image):
+    return le(image[4 * sizes(t).limit:])
+
+
+def with_on_set(t, image, on):
+    return bytes(image[:4 * sizes(t).limit]) + on.to_bytes(sizes(t).set, "little")
 
 
 # ---- RULES.md 4.2 and 4.3, answers 7 and 8 of a table that is accepted; powered: whether what a device needs must be on
 def check_state(t, image, powered):
     resources, devices = split(t)
-    if len(image) != 132:
+    if len(image) != sizes(t).state:
         return 7, 0
-    for k in range(32):
+    for k in range(sizes(t).limit):
         state, armed, s, d = image[4 * k:4 * k + 4]
         if state > 4 or armed > 1 or s > 4 or d > 4:
             return 7, 0
@@ -156,7 +184,7 @@ def check_state(t, image, powered):
             return 7, 0
         if k >= len(devices) and (state or armed or s or d):
             return 7, 0
-    on = le(image[128:])
+    on = on_set(t, image)
     if on >> len(resources):
         return 7, 0
     levels = [b[0] for b in resources]
@@ -177,19 +205,16 @@ def check_both(t, image, powered=True):
 
 
 def record(t, d):
-    if check_table(t)[0] or d >= t[6]:
-        return b""
-    at = 8 + 4 * t[3] + 40 * d
-    return t[at:at + 40]
+    return b"" if check_table(t)[0] or d >= t[6] else record_at(t, d)
 
 
 def fresh(t, buffer):
     number, place = check_table(t)
     if number:
         return number, place, buffer
-    if len(buffer) != 132:
+    if len(buffer) != sizes(t).state:
         return 7, 0, buffer
-    return 0, 0, bytes(128) + (2 ** t[3] - 1).to_bytes(4, "little")
+    return 0, 0, with_on_set(t, bytes(len(buffer)), 2 ** t[3] - 1)
 
 
 # ---- RULES.md 11, descriptions: 4 bytes a resource, 54 a device. The last record may be cut short
@@ -205,17 +230,19 @@ def at_front(b, buffer):
 def write(version, resources, devices, buffer):
     records, parts = in_records(resources, 4), in_records(devices, 54)
     R, D = len(records), len(parts)
-    if version != 1:
+    if version not in SIZES:
         return 1, 0, 0, buffer
-    if R > 32 or D > 32:
+    size = SIZES[version]
+    if max(R, D) > size.limit:
         return 2, 0, 0, buffer
-    if len(buffer) < 8 + 4 * R + 40 * D:
+    if len(buffer) < table_size(size, R, D):
         return 9, 0, 0, buffer
     described = [Device(b, 8) if len(b) == 54 else None for b in parts]
     number, place = check_records(records, described)
     if number:
         return number, place, 0, buffer
-    t = b"PWT" + bytes([R, 1, 0, D, 0]) + resources + b"".join(device.fields(4) + bytes(6) for device in described)
+    t = b"PWT" + bytes([R, version, 0, D, 0]) + resources
+    t += b"".join(device.fields(size.set).ljust(size.device, b"\0") for device in described)
     return 0, 0, len(t), at_front(t, buffer)
 
 
@@ -301,7 +328,7 @@ def with_new_entry(image, q):
     return after
 
 
-# the ONs and the OFFs, each with the order that it must keep
+# the turn-on calls and the turn-off calls, each with the order that it must keep
 def switching(resources, have, want):
     order = [le(r[2:4]) for r in resources]
     turn_on = [(order[r], r) for r in range(len(resources)) if want >> r & 1 and not have >> r & 1]
@@ -316,14 +343,13 @@ def parts_and_image(t, image, q):
     resources, devices = split(t)
     after = bytearray(image) if q is BRING_UP else with_new_entry(image, q)
     want = needed(devices, after)
-    after[128:] = want.to_bytes(4, "little")
-    parts = switching(resources, le(image[128:]), want)
+    parts = switching(resources, on_set(t, image), want)
     if q is not BRING_UP:
         kind, d, a, _ = q
         own = [(0, call) for call in own_call(devices[d], image[4 * d:4 * d + 4], q)]
         own_first = kind == DISARM or (kind == MOVE and a > image[4 * d])
         parts = [own, *parts] if own_first else [*parts, own]
-    return parts, bytes(after)
+    return parts, with_on_set(t, after, want)
 
 
 # ---- RULES.md 13, sleep entry for sleep state x: whether a device with this entry may take a state
@@ -362,7 +388,7 @@ def check_sleep_entry(t, image, q):
     return (0, 0) if least_choice(t, image, x) is not None else (21, 0)
 
 
-# its moves, from the highest device on. Where none moves, bring-up gives the OFFs alone, since all that is needed is on
+# its moves, from the highest device on. Where none moves, bring-up gives the turn-off calls alone, since all that is needed is on
 def sleep_moves(t, image, x):
     moves = [(MOVE, d, y, 0) for d, y in enumerate(least_choice(t, image, x)) if y != image[4 * d]]
     return moves[::-1] or [BRING_UP]
@@ -375,7 +401,7 @@ def is_sleep(q):
 # number, place, the calls, the image afterwards; room: the bytes of the plan
 def plan(t, image, q, room):
     number, place = check_both(t, image, powered=q is not BRING_UP)
-    if number == 0 and room < 4 * (1056 if is_sleep(q) else 33):
+    if number == 0 and room < 4 * (sizes(t).sleep if is_sleep(q) else sizes(t).list):
         number, place = 9, 0
     if number == 0:
         number, place = check_sleep_entry(t, image, q) if is_sleep(q) else permitted(t, image, q)
@@ -423,26 +449,50 @@ def asked(args):
     return tuple(low + (high << 24) for low, high in zip(args[:4], args[4:8] or bytes(4)))
 
 
+# numbers of a line by their lower and their higher bytes; a higher byte that is not there is zero
+def counts(low, high):
+    return [a + 256 * b for a, b in itertools.zip_longest(low, high, fillvalue=0)]
+
+
 class Script:
     def __init__(self):
-        self.table = self.state = b""
+        self.table, self.state = b"", bytes(265)
+
+    # the state is the first bytes of 265: as many as the version wants that the table states
+    def sizes(self):
+        return SIZES[2 if self.table[4:5] == b"\2" else 1]
+
+    def lent(self):
+        return self.state[:self.sizes().state]
 
     def planned(self, q, room):
-        before = self.state
-        number, place, calls, self.state = plan(self.table, before, q, room)
+        before = self.lent()
+        number, place, calls, after = plan(self.table, before, q, room)
+        self.state = at_front(after, self.state)
         listed = b"".join(calls)
         told = "%d %d 0" % check_list(self.table, before, q, listed)
-        return f" {number} {place} {len(calls)} calls{hexed(listed)} state{hexed(self.state)}: check {told}"
+        return f" {number} {place} {len(calls)} calls{hexed(listed)} state{hexed(after)}: check {told}"
 
     # the table's bytes are resources, then devices; a version has its lowest and its highest byte
-    def written(self, end, at, x, room, low, high=0):
+    def written(self, r, at, x, n, low, high=0, *higher):
+        end, at, room = counts((r, at, n), higher)
         lists = damaged(self.table, len(self.table), at, x)
         number, place, count, table = write(low + (high << 24), lists[:end], lists[end:], blank(room))
         return f" {number} {place} {count} table{hexed(table)}"
 
-    def described(self, n, m):
+    def described(self, n, m, *higher):
+        n, m = counts((n, m), higher)
         number, place, count, resources, devices = describe(self.table, blank(n), blank(m))
         return f" {number} {place} {count} resources{hexed(resources)} devices{hexed(devices)}"
+
+    # the state's first n bytes with x at `at`
+    def state_given(self, n, at, x, *higher):
+        n, at = counts((n, at), higher)
+        return damaged(self.state, n, at, x)
+
+    def table_tried(self, n, at, x, m, *higher):
+        n, at, m = counts((n, at, m), higher)
+        return fresh(damaged(self.table, n, at, x), blank(m))[:2]
 
     # what is printed after a line, if anything
     def line(self, letter, args):
@@ -451,28 +501,30 @@ class Script:
         elif letter == "+":
             self.table += args[1:] * args[0]
         elif letter == "F":
-            number, place, self.state = fresh(self.table, blank(132))
+            number, place, state = fresh(self.table, blank(self.sizes().state))
+            self.state = at_front(state, blank(265))
             return f" {number} {place} 0"
         elif letter == "K":
-            self.state = (args[4:] + bytes(128))[:128] + (args + bytes(4))[:4]
+            w, entries = self.sizes().set, 4 * self.sizes().limit
+            self.state = at_front(args[w:].ljust(entries, b"\0")[:entries] + args[:w].ljust(w, b"\0"), bytes(265))
         elif letter == "Q":
-            return self.planned(asked(args), 132)
+            return self.planned(asked(args), 4 * self.sizes().list)
         elif letter == "P":
             return self.planned(asked(args), le(args[8:10]))
         elif letter == "B":
-            return self.planned(BRING_UP, args[0])
+            return self.planned(BRING_UP, le(args[:2]))
         elif letter == "C":
-            return " check %d %d 0" % check_list(self.table, self.state, BRING_UP, args)
+            return " check %d %d 0" % check_list(self.table, self.lent(), BRING_UP, args)
         elif letter == "L":
-            return " check %d %d 0" % check_list(self.table, self.state, asked(args[:4]), args[4:])
+            return " check %d %d 0" % check_list(self.table, self.lent(), asked(args[:4]), args[4:])
         elif letter == "W":
-            return " check %d %d 0" % check_list(self.table, self.state, asked(args[:4]), args[4:len(args) // 4 * 4])
+            return " check %d %d 0" % check_list(self.table, self.lent(), asked(args[:4]), args[4:len(args) // 4 * 4])
         elif letter == "D":
-            return " %d %d 0" % fresh(damaged(self.table, *args[:3]), blank(args[3]))[:2]
+            return " %d %d 0" % self.table_tried(*args)
         elif letter == "S":
-            return " check %d %d 0" % check_list(self.table, damaged(self.state, *args[4:]), asked(args[:4]), b"")
+            return " check %d %d 0" % check_list(self.table, self.state_given(*args[4:]), asked(args[:4]), b"")
         elif letter == "V":
-            return " check %d %d 0" % check_both(self.table, damaged(self.state, *args))
+            return " check %d %d 0" % check_both(self.table, self.state_given(*args))
         elif letter == "R":
             return hexed(record(self.table, args[0]))
         elif letter == "M":
@@ -482,20 +534,21 @@ class Script:
         return None
 
 
-# ---- checks of this script itself, on the bench station: what it describes is written as itself, and each refusal comes in its turn
+# ---- checks of this script itself, on the bench station in each version: what it describes is written as itself, and each refusal comes
+# in its turn
 def check_descriptions(t):
-    R, D = t[3], t[6]
+    R, D, limit = t[3], t[6], sizes(t).limit
     number, place, count, resources, devices = describe(t, blank(4 * R + 1), blank(54 * D + 2))
     assert (number, place, count) == (0, 0, 4 * R + 54 * D) and resources[4 * R:] == blank(1) and devices[54 * D:] == blank(2)
     resources, devices = resources[:-1], devices[:-2]
-    assert write(1, resources, devices, blank(len(t) + 3)) == (0, 0, len(t), t + blank(3))
+    assert write(t[4], resources, devices, blank(len(t) + 3)) == (0, 0, len(t), t + blank(3))
 
-    def refused(number, place, resources=resources, devices=devices, version=1, room=len(t)):
+    def refused(number, place, resources=resources, devices=devices, version=t[4], room=len(t)):
         assert write(version, resources, devices, blank(room)) == (number, place, 0, blank(room))
 
-    refused(1, 0, version=65537, resources=blank(200))
-    refused(2, 0, resources=blank(129), room=0)
-    refused(2, 0, devices=blank(32 * 54 + 1), room=0)
+    refused(1, 0, version=65536 + t[4], resources=blank(400))
+    refused(2, 0, resources=blank(limit * 4 + 1), room=0)
+    refused(2, 0, devices=blank(limit * 54 + 1), room=0)
     refused(9, 0, resources=blank(4 * R), room=len(t) - 1)
     refused(4, R - 1, resources=resources[:-1], devices=blank(54 * D))
     refused(5, D - 1, devices=devices[:-1])
@@ -505,24 +558,36 @@ def check_descriptions(t):
     assert describe(t[:-1], blank(0), blank(0)) == (3, 0, 0, blank(0), blank(0))
 
 
+# the same station in another version
+def as_version(t, version):
+    _, _, _, resources, devices = describe(t, bytes(4 * t[3]), bytes(54 * t[6]))
+    room = table_size(SIZES[version], t[3], t[6])
+    return write(version, resources, devices, bytes(room))[3]
+
+
+# a state from the first entries and the on-set
+def image_of(t, entries, on):
+    return with_on_set(t, entries.ljust(4 * sizes(t).limit, b"\0"), on)
+
+
 # bring-up from any states, the camera armed for S3 and D2 or not, and any on-set: it is refused as though all were on; else only the on-set
 # changes, and then nothing is left to do
 def check_bring_up(t):
     for bus, camera, lamp, pair, on in itertools.product(range(5), range(5), range(5), (bytes(3), bytes([1, 3, 2])), range(8)):
-        entries = bytes([bus, 0, 0, 0, camera]) + pair + bytes([lamp]) + bytes(119)
-        image = entries + bytes([on, 0, 0, 0])
-        number, place, calls, after = plan(t, image, BRING_UP, 132)
-        assert (number, place) == check_both(t, entries + bytes([7, 0, 0, 0]))
+        entries = bytes([bus, 0, 0, 0, camera]) + pair + bytes([lamp])
+        image = image_of(t, entries, on)
+        number, place, calls, after = plan(t, image, BRING_UP, 4 * sizes(t).list)
+        assert (number, place) == check_both(t, image_of(t, entries, 7))
         assert check_list(t, image, BRING_UP, b"".join(calls)) == (number, place)
         if number == 0:
-            assert after[:128] == entries and check_both(t, after) == (0, 0)
-            assert plan(t, after, BRING_UP, 132) == (0, 0, [], after)
+            assert after == image_of(t, entries, on_set(t, after)) and check_both(t, after) == (0, 0)
+            assert plan(t, after, BRING_UP, 4 * sizes(t).list) == (0, 0, [], after)
 
 
 # the calls of sleep entry are the planner's for its moves, one after the other
 def check_moves(t, image, x, calls, after):
     for q in sleep_moves(t, image, x):
-        number, _, listed, image = plan(t, image, q, 132)
+        number, _, listed, image = plan(t, image, q, 4 * sizes(t).list)
         assert number == 0 and calls[:len(listed)] == listed
         calls = calls[len(listed):]
     assert not calls and image == after
@@ -537,12 +602,12 @@ def check_sleep(t):
     pairs = (bytes(3), bytes([1, 3, 2]), bytes([1, 3, 3]))
     numbers = set()
     for bus, camera, lamp, pair, x in itertools.product(range(5), range(5), range(5), pairs, range(1, 5)):
-        image = bytes([bus, 0, 0, 0, camera]) + pair + bytes([lamp]) + bytes(119) + bytes([7, 0, 0, 0])
+        image = image_of(t, bytes([bus, 0, 0, 0, camera]) + pair + bytes([lamp]), 7)
         if check_both(t, image) != (0, 0):
             continue
         fit = [[y for y in range(5) if may_take(devices[d], levels, image[4 * d:4 * d + 4], x, y)] for d in range(3)]
         choices = [c for c in itertools.product(*fit) if c[0] <= c[1] and c[0] <= c[2]]
-        number, place, calls, after = plan(t, image, (SLEEP, 0, x, 0), 4224)
+        number, place, calls, after = plan(t, image, (SLEEP, 0, x, 0), 4 * sizes(t).sleep)
         numbers.add(number)
         if number:
             assert (number, place) == ((20, 1) if pair[0] and x != 3 else (21, 0)) and (calls, after) == ([], image)
@@ -551,19 +616,36 @@ def check_sleep(t):
         states = (after[0], after[4], after[8])
         assert states in choices and all(states[d] <= c[d] for c in choices for d in range(3))
         check_moves(t, image, x, calls, after)
-        assert powered_in(x, le(after[128:]), levels)
-        assert plan(t, after, (SLEEP, 0, x, 0), 4224) == (0, 0, [], after)
+        assert powered_in(x, on_set(t, after), levels)
+        assert plan(t, after, (SLEEP, 0, x, 0), 4 * sizes(t).sleep) == (0, 0, [], after)
     return numbers
+
+
+# a table of version 1 and the same station in version 2: the same answer and calls, and the same end, from any consistent state with all on
+def check_versions(t):
+    other = as_version(t, 2)
+    requests = [(MOVE, d, a, 0) for d in range(3) for a in range(5)] + [(ARM, 1, s, d) for s in range(5) for d in range(5)]
+    requests += [(DISARM, 1, 0, 0), BRING_UP] + [(SLEEP, 0, x, 0) for x in range(1, 5)]
+    for bus, camera, lamp, pair in itertools.product(range(5), range(5), range(5), (bytes(3), bytes([1, 3, 2]))):
+        entries = bytes([bus, 0, 0, 0, camera]) + pair + bytes([lamp])
+        image, wide = image_of(t, entries, 7), image_of(other, entries, 7)
+        assert check_both(t, image) == check_both(other, wide)
+        for q in requests if check_both(t, image) == (0, 0) else []:
+            *answer, after = plan(t, image, q, 4224)
+            assert plan(other, wide, q, 16640) == (*answer, image_of(other, after[:128], on_set(t, after)))
 
 
 if __name__ == "__main__":
     root = pathlib.Path(__file__).parent.parent
     station = (root / "examples" / "station.pwt").read_bytes()
-    check_descriptions(station)
-    check_bring_up(station)
+    assert as_version(as_version(station, 2), 1) == station
     # also with _S3D 3 of the bus, with r1 in the camera's _PR2, and without the lamp's _PR3
     stations = [station, *(damaged(station, len(station), at, x) for at, x in ((46, 3), (72, 7), (102, 1)))]
-    assert [check_sleep(t) for t in stations] == [{0, 20}, {0, 20, 21}, {0, 20, 21}, {20, 21}]
+    for version in SIZES:
+        check_descriptions(as_version(station, version))
+        check_bring_up(as_version(station, version))
+        assert [check_sleep(as_version(t, version)) for t in stations] == [{0, 20}, {0, 20, 21}, {0, 20, 21}, {20, 21}]
+    check_versions(station)
     script = Script()
     for line in (root / "crates" / sys.argv[1] / "stdin").read_text().splitlines():
         answer = script.line(line[:1], bytes.fromhex("" if line[:1] == "#" else line[1:]))

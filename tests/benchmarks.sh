@@ -49,17 +49,21 @@ Writer and describer have the bench station, and a station of 32 resources and 3
 every bit of every set. Their refusals are of that station: the last field of the last device for the writer, a buffer for
 the devices that is one byte too short for the describer. The inputs are in \`host/cases/src/workload.rs\`.
 
+The rows of *version 2* have the same on tables of 64 resources and 64 devices: the last device moves with its own call and
+56 resources to switch, fifteen devices are armed, and every set of the station to write and describe has 64 bits. The
+*double-camera line* is \`examples/double-camera.pwt\`, a table of version 2 with 47 resources and 41 devices, fresh: its
+panel goes to D3hot, it is prepared for S3, and it is brought up with nothing on. All other rows are of version 1.
+
 ## Time
 
 \`make bench\`:
 
 $(cat target/bench.md)
 
-Neither side has a hint on what to inline. Of the requests on the full table those with 25 calls have the highest ratios:
-the planner sorts 24 keys by insertion, with a branch for each key that the processor cannot foresee, and the checker
-looks at each word. Bring-up of 32 armed devices is above them, since it works out what each device needs twice, once for
-answer 8. On the bench station the table is small, and the call itself, the state, the change by value and the decoding of
-each word weigh more. There a value that is stored in parts and read as one soon after shows in the time and not in the
+Neither side has a hint on what to inline. Of the requests on a full table those with most calls have the highest ratios:
+the planner sorts the keys by insertion, with a branch for each key that the processor cannot foresee, and the checker
+looks at each word. So it is at bring-up. On the bench station the table is small, and the call itself, a buffer that has
+room for version 2, the state, the change by value and the decoding of each word weigh more. There a value that is stored in parts and read as one soon after shows in the time and not in the
 instructions: the read waits until the parts have been stored. Where a list of words or a slice was handed on so, it is
 handed on so no longer; the own call in a change, two bytes, still is.
 

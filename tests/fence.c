@@ -4,7 +4,7 @@
  * reads and what is past its output, and on a refusal leave every byte. What write wrote must be described as what it was lent, and what
  * describe described must be written as the table that it was lent. What bring_up planned must pass its checker, and the state after it
  * have its entries as before and exactly what they need on. A sleep entry must have the calls of its moves, each as it is planned alone and
- * passed by the checker, and leave exactly what is needed on and nothing for a second one.
+ * passed by the checker, and leave exactly what is needed on and nothing for a second one. All this for tables of each version.
  */
 #define _DEFAULT_SOURCE
 #include <setjmp.h>
@@ -15,12 +15,11 @@
 #include <sys/mman.h>
 #include <unistd.h>
 
-#include "../examples/station.h"
 #include "full.h"
 
-enum { PAGE = 4096, LONGEST = 200, RESOURCE = SAILGARNET_DESCRIBED_RESOURCE_SIZE, DEVICE = SAILGARNET_DESCRIBED_DEVICE_SIZE };
-/* The bytes between two forbidden pages: the plan of a sleep entry has more than a page. */
-enum { OPEN = 2 * PAGE };
+enum { PAGE = 4096, RESOURCE = SAILGARNET_DESCRIBED_RESOURCE_SIZE, DEVICE = SAILGARNET_DESCRIBED_DEVICE_SIZE };
+/* The bytes between two forbidden pages: the plan of a sleep entry has more than four pages, in version 1 more than one. */
+enum { OPEN = 5 * PAGE };
 /* The functions, and two that touch the byte before and the byte past a buffer, to see that both are caught. */
 enum function { FRESH, PLAN, CHECK, BRING_UP, CHECK_BRING_UP, WRITE, DESCRIBE, FUNCTIONS, BEFORE = FUNCTIONS, PAST, TOUCHES };
 /* What is lent; ROOM is for a plan. Bring-up has a state of its own, REPORTED, and its checker a list of its own, SWITCHING. */
@@ -61,8 +60,10 @@ static struct call {
     enum function function;
     size_t length[LENT];
     uint32_t kind, device, a, b;
-    uint32_t version;
-    uint8_t *const *empty; /* where buffers without bytes are, if not at their fence */
+    uint32_t version;              /* to be written */
+    struct sailgarnet_sizes sizes; /* of the table, before it is damaged or cut */
+    int large;                     /* a table of more than a page: for it fewer pairs of lengths and fewer changes are tried */
+    uint8_t *const *empty;         /* where buffers without bytes are, if not at their fence */
 } in;
 static uint8_t content[LENT][OPEN];
 static uint8_t ordinary[LENT][OPEN + 1]; /* at odd addresses too */
@@ -78,7 +79,6 @@ static enum use use(int i) { return uses[in.function][i]; }
 static int lends(int i) { return use(i) != NONE; }
 static int is_state(int i) { return i == STATE || i == REPORTED; }
 static int is_list(int i) { return i == LIST || i == SWITCHING; }
-static size_t room_for(uint32_t kind) { return kind == SAILGARNET_SLEEP ? SAILGARNET_SLEEP_PLAN_SIZE : SAILGARNET_PLAN_SIZE; }
 
 static void fail(const char *what)
 {
@@ -178,7 +178,7 @@ static size_t output(int i, uint64_t answer)
     if (use(i) == NONE || use(i) == READS)
         return 0;
     if (is_state(i))
-        return SAILGARNET_STATE_SIZE;
+        return in.sizes.state;
     if (i == ROOM)
         return 4 * count;
     if (in.function == WRITE)
@@ -199,9 +199,9 @@ static void describe_written(size_t count)
 
 static void write_described(size_t count, size_t resources_len, size_t devices_len)
 {
-    static uint8_t table[PAGE];
+    static uint8_t table[OPEN];
     size_t length = in.length[TABLE];
-    uint64_t answer = sailgarnet_write(1, ordinary[RESOURCES], resources_len, ordinary[DEVICES], devices_len, table, length);
+    uint64_t answer = sailgarnet_write(in.sizes.version, ordinary[RESOURCES], resources_len, ordinary[DEVICES], devices_len, table, length);
 
     if (count != resources_len + devices_len || answer != (uint64_t)length << 8 || !same(table, content[TABLE], length))
         fail("what it described is not written as what it was lent");
@@ -211,34 +211,34 @@ static void write_described(size_t count, size_t resources_len, size_t devices_l
 static void check_brought_up(size_t count)
 {
     const uint8_t *table = content[TABLE], *before = content[REPORTED], *after = ordinary[REPORTED], *list = ordinary[ROOM];
-    size_t length = in.length[TABLE];
+    size_t length = in.length[TABLE], state_len = in.sizes.state;
 
-    if (sailgarnet_check_bring_up(table, length, before, SAILGARNET_STATE_SIZE, list, 4 * count) != SAILGARNET_DONE)
+    if (sailgarnet_check_bring_up(table, length, before, state_len, list, 4 * count) != SAILGARNET_DONE)
         fail("its checker refuses its list");
-    if (!same(before, after, SAILGARNET_ENTRIES_SIZE))
+    if (!same(before, after, in.sizes.entries))
         fail("it changed device entries");
-    if (sailgarnet_check_bring_up(table, length, after, SAILGARNET_STATE_SIZE, list, 0) != SAILGARNET_DONE)
+    if (sailgarnet_check_bring_up(table, length, after, state_len, list, 0) != SAILGARNET_DONE)
         fail("another bring-up would have calls");
     if (sailgarnet_device_count(table) > 0 &&
-        sailgarnet_check(table, length, after, SAILGARNET_STATE_SIZE, SAILGARNET_MOVE, 0, after[0], 0, list, 0) != SAILGARNET_DONE)
+        sailgarnet_check(table, length, after, state_len, SAILGARNET_MOVE, 0, after[0], 0, list, 0) != SAILGARNET_DONE)
         fail("what is on is not what is needed");
 }
 
 /* The bytes of the move of a device to its state after a sleep entry, planned alone; `state` moves on. The calls must begin with them. */
 static size_t check_move(uint8_t *state, unsigned d, const uint8_t *calls)
 {
-    uint8_t before[SAILGARNET_STATE_SIZE], plan[SAILGARNET_PLAN_SIZE];
+    uint8_t before[SAILGARNET_ANY_STATE_SIZE], plan[SAILGARNET_ANY_PLAN_SIZE];
     const uint8_t *table = content[TABLE];
-    size_t length = in.length[TABLE], bytes;
+    size_t length = in.length[TABLE], state_len = in.sizes.state, bytes;
     uint32_t target = ordinary[STATE][4 * d];
     uint64_t answer;
 
-    memcpy(before, state, sizeof before);
-    answer = sailgarnet_plan(table, length, state, sizeof before, SAILGARNET_MOVE, d, target, 0, plan, sizeof plan);
+    memcpy(before, state, state_len);
+    answer = sailgarnet_plan(table, length, state, state_len, SAILGARNET_MOVE, d, target, 0, plan, in.sizes.plan);
     bytes = 4 * (size_t)sailgarnet_count_of(answer);
     if (sailgarnet_number_of(answer) != SAILGARNET_DONE || !same(calls, plan, bytes))
         fail("its calls are not those of its moves");
-    if (sailgarnet_check(table, length, before, sizeof before, SAILGARNET_MOVE, d, target, 0, calls, bytes) != SAILGARNET_DONE)
+    if (sailgarnet_check(table, length, before, state_len, SAILGARNET_MOVE, d, target, 0, calls, bytes) != SAILGARNET_DONE)
         fail("the checker refuses a move");
     return bytes;
 }
@@ -247,28 +247,28 @@ static size_t check_move(uint8_t *state, unsigned d, const uint8_t *calls)
 static void check_slept(size_t count)
 {
     const uint8_t *table = content[TABLE], *before = content[STATE], *after = ordinary[STATE], *calls = ordinary[ROOM];
-    uint8_t state[SAILGARNET_STATE_SIZE], plan[SAILGARNET_SLEEP_PLAN_SIZE];
-    size_t length = in.length[TABLE], bytes = 0;
+    uint8_t state[SAILGARNET_ANY_STATE_SIZE], plan[SAILGARNET_ANY_SLEEP_PLAN_SIZE];
+    size_t length = in.length[TABLE], state_len = in.sizes.state, bytes = 0;
 
-    memcpy(state, before, sizeof state);
+    memcpy(state, before, state_len);
     for (unsigned d = sailgarnet_device_count(table); d-- > 0;) {
         if (after[4 * d] != before[4 * d])
             bytes += check_move(state, d, calls + bytes);
         if (after[4 * d + 1] && (after[4 * d] != after[4 * d + 3] || after[4 * d + 2] != in.a))
             fail("an armed device cannot wake the system");
     }
-    if (!same(state, after, SAILGARNET_ENTRIES_SIZE))
+    if (!same(state, after, in.sizes.entries))
         fail("it changed more than the states of devices");
-    if (same(before, after, SAILGARNET_ENTRIES_SIZE)) {
-        if (sailgarnet_check_bring_up(table, length, before, SAILGARNET_STATE_SIZE, calls, 4 * count) != SAILGARNET_DONE)
+    if (same(before, after, in.sizes.entries)) {
+        if (sailgarnet_check_bring_up(table, length, before, state_len, calls, 4 * count) != SAILGARNET_DONE)
             fail("without a move, it does not turn off what is not needed");
-    } else if (bytes != 4 * count || !same(state, after, sizeof state)) {
+    } else if (bytes != 4 * count || !same(state, after, state_len)) {
         fail("it does more than its moves");
     }
-    if (sailgarnet_check_bring_up(table, length, after, SAILGARNET_STATE_SIZE, calls, 0) != SAILGARNET_DONE)
+    if (sailgarnet_check_bring_up(table, length, after, state_len, calls, 0) != SAILGARNET_DONE)
         fail("what is on is not what is needed");
-    memcpy(state, after, sizeof state);
-    if (sailgarnet_plan(table, length, state, sizeof state, SAILGARNET_SLEEP, 0, in.a, 0, plan, sizeof plan) != SAILGARNET_DONE)
+    memcpy(state, after, state_len);
+    if (sailgarnet_plan(table, length, state, state_len, SAILGARNET_SLEEP, 0, in.a, 0, plan, in.sizes.sleep_plan) != SAILGARNET_DONE)
         fail("another sleep entry would have calls");
 }
 
@@ -278,9 +278,9 @@ static int good_length(int i)
     size_t length = in.length[i];
 
     if (is_state(i))
-        return length == SAILGARNET_STATE_SIZE;
+        return length == in.sizes.state;
     if (i == ROOM)
-        return length >= (in.function == PLAN ? room_for(in.kind) : SAILGARNET_PLAN_SIZE);
+        return length >= (in.function == PLAN ? room_for(&in.sizes, in.kind) : in.sizes.plan);
     return !is_list(i) || length % 4 == 0;
 }
 
@@ -386,29 +386,36 @@ static void request(uint32_t kind, uint32_t device, uint32_t a, uint32_t b)
     in.device = device;
     in.a = a;
     in.b = b;
-    in.length[ROOM] = room_for(kind);
+    in.length[ROOM] = room_for(&in.sizes, kind);
 }
+
+/* The lengths that are tried beside others are so many: those of a state or a plan are among them, and some more. */
+static size_t longest(void) { return in.sizes.state + 68; }
 
 /* Lends a checker the calls of a plan; they again follow the list. Of a refusal the list is empty. */
 static void lend_list(int i, const uint8_t *plan, uint64_t answer)
 {
     size_t length = 4 * (size_t)sailgarnet_count_of(answer);
 
-    for (size_t k = 0; length > 0 && (k < LONGEST || k < length); k++)
+    for (size_t k = 0; length > 0 && (k < longest() || k < length); k++)
         content[i][k] = plan[k % length];
     in.length[i] = length;
 }
 
 /* Lends bring-up the entries of the state in content with this on-set, and its checker the list that it gives. */
-static void report(uint32_t on)
+static void report(uint64_t on)
 {
-    uint8_t state[SAILGARNET_STATE_SIZE], plan[SAILGARNET_PLAN_SIZE];
+    uint8_t state[SAILGARNET_ANY_STATE_SIZE], plan[SAILGARNET_ANY_PLAN_SIZE];
+    size_t length = in.length[TABLE], state_len = in.sizes.state;
 
-    memcpy(state, content[STATE], sizeof state);
-    sailgarnet_on_write(state, on);
-    memcpy(content[REPORTED], state, sizeof state);
-    lend_list(SWITCHING, plan, sailgarnet_bring_up(content[TABLE], in.length[TABLE], state, sizeof state, plan, sizeof plan));
+    memcpy(state, content[STATE], state_len);
+    sailgarnet_on_write_for(content[TABLE], length, state, on);
+    memcpy(content[REPORTED], state, state_len);
+    lend_list(SWITCHING, plan, sailgarnet_bring_up(content[TABLE], length, state, state_len, plan, in.sizes.plan));
 }
+
+/* The on-set of the state in content. */
+static uint64_t on(void) { return sailgarnet_on_read_for(content[TABLE], in.length[TABLE], content[STATE]); }
 
 /* The table in content, of this length, its description, and its fresh state, for bring-up too. */
 static void begin(size_t length)
@@ -416,36 +423,33 @@ static void begin(size_t length)
     uint64_t answer;
 
     memset(&in, 0, sizeof in);
+    in.sizes = sailgarnet_sizes_of(content[TABLE], length);
+    in.large = length > PAGE;
     in.length[TABLE] = length;
-    in.length[STATE] = in.length[REPORTED] = SAILGARNET_STATE_SIZE;
-    in.length[ROOM] = SAILGARNET_PLAN_SIZE;
+    in.length[STATE] = in.length[REPORTED] = in.sizes.state;
+    in.length[ROOM] = in.sizes.plan;
     in.length[RESOURCES] = RESOURCE * (size_t)content[TABLE][3];
     in.length[DEVICES] = DEVICE * (size_t)content[TABLE][6];
-    in.version = SAILGARNET_TABLE_VERSION_1;
+    in.version = in.sizes.version;
     answer = sailgarnet_describe(content[TABLE], length, content[RESOURCES], PAGE, content[DEVICES], PAGE);
     if (sailgarnet_number_of(answer) != SAILGARNET_DONE ||
-        sailgarnet_fresh(content[TABLE], length, content[STATE], SAILGARNET_STATE_SIZE) != SAILGARNET_DONE)
+        sailgarnet_fresh(content[TABLE], length, content[STATE], in.sizes.state) != SAILGARNET_DONE)
         fail("the table of the test is refused");
-    report(sailgarnet_on_read(content[STATE]));
+    report(on());
 }
 
-static void begin_station(void)
-{
-    memcpy(content[TABLE], station, sizeof station);
-    begin(sizeof station);
-}
+static void begin_station(uint32_t version) { begin(fill_station(content[TABLE], version)); }
 
 /* Plans the request for the table in content. */
 static uint64_t plan_for(uint8_t *state, uint8_t *plan)
 {
-    return sailgarnet_plan(content[TABLE], in.length[TABLE], state, SAILGARNET_STATE_SIZE, in.kind, in.device, in.a, in.b, plan,
-                           in.length[ROOM]);
+    return sailgarnet_plan(content[TABLE], in.length[TABLE], state, in.sizes.state, in.kind, in.device, in.a, in.b, plan, in.length[ROOM]);
 }
 
 /* Carries out a request, so that the next one starts from there. */
 static void walk(uint32_t kind, uint32_t device, uint32_t a, uint32_t b)
 {
-    uint8_t plan[SAILGARNET_SLEEP_PLAN_SIZE];
+    uint8_t plan[SAILGARNET_ANY_SLEEP_PLAN_SIZE];
 
     request(kind, device, a, b);
     if (sailgarnet_number_of(plan_for(content[STATE], plan)) != SAILGARNET_DONE)
@@ -455,23 +459,24 @@ static void walk(uint32_t kind, uint32_t device, uint32_t a, uint32_t b)
 /* Lends the checker the planner's own list for a request. */
 static void ask(uint32_t kind, uint32_t device, uint32_t a, uint32_t b)
 {
-    uint8_t state[SAILGARNET_STATE_SIZE], plan[SAILGARNET_SLEEP_PLAN_SIZE];
+    uint8_t state[SAILGARNET_ANY_STATE_SIZE], plan[SAILGARNET_ANY_SLEEP_PLAN_SIZE];
 
     request(kind, device, a, b);
-    memcpy(state, content[STATE], sizeof state);
+    memcpy(state, content[STATE], in.sizes.state);
     lend_list(LIST, plan, plan_for(state, plan));
 }
 
 /* The shortest length that is tried beside others: zero, but for a plan of sleep entry one that is near its room. */
-static size_t shortest(int i) { return i == ROOM && in.kind == SAILGARNET_SLEEP ? SAILGARNET_SLEEP_PLAN_SIZE - LONGEST / 2 : 0; }
+static size_t shortest(int i) { return i == ROOM && in.kind == SAILGARNET_SLEEP ? in.sizes.sleep_plan - 100 : 0; }
 
-/* Every such length of a lent buffer beside every one of another, the third as it is. */
+/* Every such length of a lent buffer beside every one of another, the third as it is; with a large table every fourth one. */
 static void pairs_of_lengths(int one, int other)
 {
     struct call before = in;
+    size_t step = in.large ? 4 : 1;
 
-    for (in.length[one] = shortest(one); in.length[one] <= shortest(one) + LONGEST; in.length[one]++)
-        for (in.length[other] = shortest(other); in.length[other] <= shortest(other) + LONGEST; in.length[other]++)
+    for (in.length[one] = shortest(one); in.length[one] <= shortest(one) + longest(); in.length[one] += step)
+        for (in.length[other] = shortest(other); in.length[other] <= shortest(other) + longest(); in.length[other] += step)
             compare();
     in = before;
 }
@@ -503,12 +508,12 @@ static void single_lengths(void)
     }
 }
 
-/* Every byte of a buffer changed to each other value. */
+/* Every byte of a buffer changed to each other value; with a large table every bit of it. */
 static void damage_for(enum function function, int i)
 {
     in.function = function;
     for (size_t k = 0; k < in.length[i]; k++)
-        for (unsigned change = 1; change < 256; change++) {
+        for (unsigned change = 1; change < 256; change += in.large ? change : 1) {
             content[i][k] ^= (uint8_t)change;
             compare();
             content[i][k] ^= (uint8_t)change;
@@ -541,7 +546,7 @@ static void damage_description(void)
 /* A version is compared as a whole, and before all else. */
 static void versions(void)
 {
-    static const uint32_t others[] = {0, 2, 255, 256, 257, 65535, 65536, 65537, 0x1000001, UINT32_MAX};
+    static const uint32_t others[] = {0, 3, 255, 256, 257, 258, 65535, 65536, 65537, 65538, 0x1000001, 0x1000002, UINT32_MAX};
     struct call before = in;
 
     in.function = WRITE;
@@ -554,6 +559,36 @@ static void versions(void)
         if (compare() != SAILGARNET_NOT_A_TABLE)
             fail("there is no such version, whatever else is lent");
     }
+    in = before;
+}
+
+static uint32_t other_version(void) { return SAILGARNET_TABLE_VERSION_1 + SAILGARNET_TABLE_VERSION_2 - in.sizes.version; }
+
+/* A state of the other version's size is none of this table's. */
+static void states_of_other_version(void)
+{
+    struct call before = in;
+
+    in.length[STATE] = in.length[REPORTED] = sailgarnet_sizes_of_version(other_version()).state;
+    for (in.function = FRESH; in.function < FUNCTIONS; in.function++)
+        if ((lends(STATE) || lends(REPORTED)) && compare() != SAILGARNET_BAD_STATE)
+            fail("the state has the size of the other version");
+    in = before;
+}
+
+/* What is described is written as the other version too, into exactly its room. */
+static void write_other_version(void)
+{
+    struct call before = in;
+
+    in.function = WRITE;
+    in.version = other_version();
+    in.length[TABLE] = table_size(in.version, content[TABLE][3], content[TABLE][6]);
+    if (compare() != (uint64_t)in.length[TABLE] << 8)
+        fail("it is not written as the other version");
+    in.length[TABLE]--;
+    if (compare() != SAILGARNET_NO_ROOM)
+        fail("there is no room for it as the other version");
     in = before;
 }
 
@@ -576,10 +611,10 @@ static void requests(void)
 /* Bring-up with no resource on, with one, with all but one and with all; and with one that there is not. */
 static void on_sets(void)
 {
-    uint32_t all = (uint32_t)((UINT64_C(1) << sailgarnet_resource_count(content[TABLE])) - 1);
+    uint64_t all = all_of(sailgarnet_resource_count(content[TABLE]));
 
-    for (unsigned r = 0; r <= SAILGARNET_MAX_RESOURCES; r++) {
-        uint32_t one = (uint32_t)(UINT64_C(1) << r);
+    for (unsigned r = 0; r <= in.sizes.max_resources; r++) {
+        uint64_t one = all_of(r + 1) & ~all_of(r);
 
         report(one);
         compare_readers(REPORTED);
@@ -622,7 +657,7 @@ static void empty_at(uint8_t *const *address)
 }
 
 /* A request and a bring-up without calls, to which the empty list conforms, so that nothing but the empty buffer decides. */
-static void empties(void)
+static void empties(uint32_t version)
 {
     uint8_t *addresses[] = {NULL,
                             (uint8_t *)1,
@@ -636,7 +671,7 @@ static void empties(void)
                             fenced[RESOURCES] + OPEN,
                             fenced[DEVICES] - 1};
 
-    begin_station();
+    begin_station(version);
     ask(SAILGARNET_MOVE, 2, SAILGARNET_D3COLD, 0);
     for (size_t i = 0; i < sizeof addresses / sizeof addresses[0]; i++)
         empty_at(&addresses[i]);
@@ -680,13 +715,13 @@ static void long_buffer(uint8_t *vast, int i)
 }
 
 /* All of the long buffer may be read, and its first page be written: no output is longer. */
-static void long_buffers(void)
+static void long_buffers(uint32_t version)
 {
     size_t size = ((size_t)DEVICE << 32) + PAGE;
     uint8_t *vast = mmap(NULL, size, PROT_READ, MAP_PRIVATE | MAP_ANONYMOUS | MAP_NORESERVE, -1, 0);
 
     require(vast != MAP_FAILED && mprotect(vast, PAGE, PROT_READ | PROT_WRITE) == 0, "no address space to be had");
-    begin_station();
+    begin_station(version);
     ask(SAILGARNET_MOVE, 1, SAILGARNET_D3HOT, 0);
     report(1u << 1);
     for (in.function = FRESH; in.function < FUNCTIONS; in.function++)
@@ -701,10 +736,12 @@ static void long_buffers(void)
     munmap(vast, size);
 }
 
-static void bench_station(void)
+static void bench_station(uint32_t version)
 {
-    begin_station();
+    begin_station(version);
     versions();
+    states_of_other_version();
+    write_other_version();
     damage_description();
     requests();
     ask(SAILGARNET_ARM, 1, 4, SAILGARNET_D2);
@@ -712,7 +749,7 @@ static void bench_station(void)
     damages();
     walk(SAILGARNET_ARM, 1, 3, SAILGARNET_D2);
     requests();
-    begin_station();
+    begin_station(version);
     walk(SAILGARNET_MOVE, 2, SAILGARNET_D3COLD, 0);
     ask(SAILGARNET_MOVE, 1, SAILGARNET_D3HOT, 0);
     lengths();
@@ -724,9 +761,9 @@ static void bench_station(void)
 }
 
 /* The camera in D2 and armed, the lamp in D3cold: r2 is to be turned on, and r1 to be turned off. */
-static void bench_bring_up(void)
+static void bench_bring_up(uint32_t version)
 {
-    begin_station();
+    begin_station(version);
     walk(SAILGARNET_ARM, 1, 3, SAILGARNET_D2);
     walk(SAILGARNET_MOVE, 1, SAILGARNET_D2, 0);
     walk(SAILGARNET_MOVE, 2, SAILGARNET_D3COLD, 0);
@@ -737,23 +774,26 @@ static void bench_bring_up(void)
 }
 
 /* All but the last device in D0, every fourth one armed; the last one has the most calls. Bring-up has to switch each resource. */
-static void full_table(void)
+static void full_table(uint32_t version)
 {
-    begin(fill_table(content[TABLE], FULL, FULL));
-    for (unsigned d = 3; d < FULL - 1; d += 4)
+    unsigned last;
+
+    begin(fill_full_table(content[TABLE], version));
+    last = in.sizes.max_devices - 1;
+    for (unsigned d = 3; d < last; d += 4)
         walk(SAILGARNET_ARM, d, 3, SAILGARNET_D3HOT);
     requests();
-    ask(SAILGARNET_MOVE, FULL - 1, SAILGARNET_D3COLD, 0);
+    ask(SAILGARNET_MOVE, last, SAILGARNET_D3COLD, 0);
     on_sets();
     report(0);
     single_lengths();
     lengths();
     damages();
     damage_description();
-    walk(SAILGARNET_MOVE, FULL - 1, SAILGARNET_D3COLD, 0);
-    ask(SAILGARNET_MOVE, FULL - 1, SAILGARNET_D0, 0);
+    walk(SAILGARNET_MOVE, last, SAILGARNET_D3COLD, 0);
+    ask(SAILGARNET_MOVE, last, SAILGARNET_D0, 0);
     on_sets();
-    report(0xffffff00u);
+    report(~all_of(8));
     lengths();
     damage(REPORTED);
     damage(SWITCHING);
@@ -768,42 +808,46 @@ static void sleep_entry(void)
 }
 
 /* The camera armed for S3 and D2: it and the lamp move. Then none moves, and r1 is to be turned off. */
-static void bench_sleep_entry(void)
+static void bench_sleep_entry(uint32_t version)
 {
-    begin_station();
+    begin_station(version);
     walk(SAILGARNET_ARM, 1, 3, SAILGARNET_D2);
     sleep_entry();
     damage_for(PLAN, TABLE);
     walk(SAILGARNET_SLEEP, 0, 3, 0);
-    sailgarnet_on_write(content[STATE], 7);
+    sailgarnet_on_write_for(content[TABLE], in.length[TABLE], content[STATE], 7);
     sleep_entry();
     damage_for(PLAN, TABLE);
 }
 
 /* The longest plan of a sleep entry; then D3cold for the first device and D3hot for the last, which is its descendant. */
-static void full_sleep_entry(void)
+static void full_sleep_entry(uint32_t version)
 {
-    begin(fill_sleep_table(content[TABLE]));
+    unsigned devices;
+
+    begin(fill_sleep_table(content[TABLE], version));
+    devices = in.sizes.max_devices;
     ask(SAILGARNET_SLEEP, 0, 3, 0);
-    require(in.length[LIST] == 4 * (3 * FULL), "this sleep entry has another number of calls");
+    require(in.length[LIST] == 4 * 3 * (size_t)devices, "this sleep entry has another number of calls");
     single_lengths();
     sleep_entry();
     walk(SAILGARNET_ARM, 0, 3, SAILGARNET_D3COLD);
-    walk(SAILGARNET_ARM, FULL - 1, 3, SAILGARNET_D3HOT);
+    walk(SAILGARNET_ARM, devices - 1, 3, SAILGARNET_D3HOT);
     sleep_entry();
 }
 
 /* Whole tables of every size. A buffer without bytes is a null pointer. For sleep entry the first device is armed, so that all move. */
-static void sizes(void)
+static void sizes(uint32_t version)
 {
+    struct sailgarnet_sizes limits = sailgarnet_sizes_of_version(version);
     uint8_t *nothing = NULL;
 
-    for (unsigned resources = 0; resources <= FULL; resources++)
-        for (unsigned devices = 0; devices <= FULL; devices++) {
-            begin(fill_table(content[TABLE], resources, devices));
+    for (unsigned resources = 0; resources <= limits.max_resources; resources++)
+        for (unsigned devices = 0; devices <= limits.max_devices; devices++) {
+            begin(fill_table(content[TABLE], version, resources, devices));
             in.empty = &nothing;
             ask(SAILGARNET_MOVE, devices - 1, SAILGARNET_D3COLD, 0);
-            report(sailgarnet_on_read(content[STATE]) & 0xaaaaaaaau);
+            report(on() & UINT64_C(0xaaaaaaaaaaaaaaaa));
             compare_lent(TABLE);
             if (devices > 0)
                 walk(SAILGARNET_ARM, 0, 4, SAILGARNET_D3COLD);
@@ -814,12 +858,12 @@ static void sizes(void)
 }
 
 /* A touch beside a buffer is caught on the side of its fence, and there alone. */
-static void control(void)
+static void control(uint32_t version)
 {
     uint8_t *at[LENT];
     uint64_t byte;
 
-    begin_station();
+    begin_station(version);
     for (int place = 0; place < PLACES; place++)
         for (in.device = 0; in.device < LENT; in.device++)
             for (in.function = BEFORE; in.function <= PAST; in.function++) {
@@ -849,21 +893,29 @@ static void build_fences(void)
     sigaction(SIGBUS, &action, NULL);
 }
 
+static void each_of(uint32_t version)
+{
+    memset(calls, 0, sizeof calls);
+    memset(given, 0, sizeof given);
+    control(version);
+    empties(version);
+    long_buffers(version);
+    bench_station(version);
+    bench_bring_up(version);
+    bench_sleep_entry(version);
+    full_table(version);
+    full_sleep_entry(version);
+    sizes(version);
+    for (int i = 0; i < FUNCTIONS; i++) {
+        require(given[i] == possible[i], "some function never gave one of its answers");
+        printf("%s, version %u: %lu calls beside forbidden pages, with each of its answers\n", functions[i], version, calls[i]);
+    }
+}
+
 int main(void)
 {
     build_fences();
-    control();
-    empties();
-    long_buffers();
-    bench_station();
-    bench_bring_up();
-    bench_sleep_entry();
-    full_table();
-    full_sleep_entry();
-    sizes();
-    for (int i = 0; i < FUNCTIONS; i++) {
-        require(given[i] == possible[i], "some function never gave one of its answers");
-        printf("%s: %lu calls beside forbidden pages, with each of its answers\n", functions[i], calls[i]);
-    }
+    each_of(SAILGARNET_TABLE_VERSION_1);
+    each_of(SAILGARNET_TABLE_VERSION_2);
     return 0;
 }

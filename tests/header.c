@@ -1,6 +1,6 @@
 /*
- * The header alone, as C and as C++: its sizes and kinds, and that its functions on answers, calls, on-sets and records read and write the
- * bytes that docs/RULES.md says and no other.
+ * The header alone, as C and as C++: its sizes and kinds, and that its functions on answers, calls, versions, on-sets and records read and
+ * write the bytes that docs/RULES.md says and no other.
  */
 #include <stdio.h>
 #include <string.h>
@@ -19,23 +19,87 @@ static void require(int holds, const char *what)
     }
 }
 
+/* All of a version follows from the bytes of a set: a bit for each resource, and as many devices. */
+static void sizes_by_set(uint32_t version, unsigned set)
+{
+    struct sailgarnet_sizes sizes = sailgarnet_sizes_of_version(version);
+
+    require(sizes.version == version && sizes.set == set, "a version and the bytes of its sets");
+    require(sizes.max_resources == 8 * set && sizes.max_devices == 8 * set, "the limits of a version");
+    require(sizes.record == 4 + 5 * sizes.set + 10 + (set == 4 ? 6 : 10), "a device's record");
+    require(sizes.entries == 4 * (size_t)sizes.max_devices, "the device entries of a state image");
+    require(sizes.state == sizes.entries + sizes.set, "a state image");
+    require(sizes.plan == 4 * ((size_t)sizes.max_resources + 1), "a plan");
+    require(sizes.sleep_plan == sizes.max_devices * sizes.plan, "a plan of sleep entry");
+}
+
+/* What the longest lists and the longest table of a version must be. */
+static void longest(uint32_t version, size_t resources, size_t devices, size_t table)
+{
+    struct sailgarnet_sizes sizes = sailgarnet_sizes_of_version(version);
+
+    require(resources == sizes.max_resources * (size_t)RESOURCE, "the longest list of resources");
+    require(devices == sizes.max_devices * (size_t)DEVICE, "the longest list of devices");
+    require(table == 8 + resources + sizes.max_devices * sizes.record, "the longest table");
+}
+
+static int no_sizes(struct sailgarnet_sizes sizes)
+{
+    return sizes.version == 0 && sizes.max_resources == 0 && sizes.max_devices == 0 && sizes.record == 0 && sizes.set == 0 &&
+           sizes.entries == 0 && sizes.state == 0 && sizes.plan == 0 && sizes.sleep_plan == 0;
+}
+
 static void sizes(void)
 {
-    require(SAILGARNET_MAX_RESOURCES_SIZE == SAILGARNET_MAX_RESOURCES * RESOURCE, "the longest list of resources");
-    require(SAILGARNET_MAX_DEVICES_SIZE == SAILGARNET_MAX_DEVICES * DEVICE, "the longest list of devices");
-    require(SAILGARNET_MAX_TABLE_SIZE == 8 + RESOURCE * SAILGARNET_MAX_RESOURCES + SAILGARNET_RECORD_SIZE * SAILGARNET_MAX_DEVICES,
-            "the longest table");
-    require(SAILGARNET_PLAN_SIZE == 4 * (SAILGARNET_MAX_RESOURCES + 1), "a plan");
-    require(SAILGARNET_SLEEP_PLAN_SIZE == SAILGARNET_MAX_DEVICES * SAILGARNET_PLAN_SIZE, "a plan of sleep entry");
-    require(SAILGARNET_ENTRIES_SIZE == 4 * SAILGARNET_MAX_DEVICES, "the device entries of a state image");
-    require(SAILGARNET_STATE_SIZE == SAILGARNET_ENTRIES_SIZE + 4, "a state image");
+    static const uint32_t others[] = {0, 3, 255, 256, 257, 258, 65537, 65538, UINT32_MAX};
+
+    sizes_by_set(SAILGARNET_TABLE_VERSION_1, 4);
+    sizes_by_set(SAILGARNET_TABLE_VERSION_2, 8);
+    for (size_t i = 0; i < sizeof others / sizeof others[0]; i++)
+        require(no_sizes(sailgarnet_sizes_of_version(others[i])), "another version has no sizes");
+    longest(SAILGARNET_TABLE_VERSION_1, SAILGARNET_MAX_RESOURCES_SIZE, SAILGARNET_MAX_DEVICES_SIZE, SAILGARNET_MAX_TABLE_SIZE);
+    longest(SAILGARNET_TABLE_VERSION_2, SAILGARNET_V2_MAX_RESOURCES_SIZE, SAILGARNET_V2_MAX_DEVICES_SIZE, SAILGARNET_V2_MAX_TABLE_SIZE);
+}
+
+/* Buffers of the ANY sizes have room for each version. */
+static void any_version(uint32_t version)
+{
+    struct sailgarnet_sizes sizes = sailgarnet_sizes_of_version(version);
+
+    require(SAILGARNET_ANY_STATE_SIZE >= sizes.state, "a state of any version");
+    require(SAILGARNET_ANY_PLAN_SIZE >= sizes.plan, "a plan of any version");
+    require(SAILGARNET_ANY_SLEEP_PLAN_SIZE >= sizes.sleep_plan, "a plan of sleep entry of any version");
+    require(SAILGARNET_ANY_MAX_RESOURCES_SIZE >= sizes.max_resources * RESOURCE, "the resources of any version");
+    require(SAILGARNET_ANY_MAX_DEVICES_SIZE >= sizes.max_devices * DEVICE, "the devices of any version");
+    require(SAILGARNET_ANY_MAX_TABLE_SIZE >= 8 + sizes.max_resources * RESOURCE + sizes.max_devices * sizes.record,
+            "a table of any version");
+}
+
+/* The header of a table with each byte changed to each value, and cut short (RULES.md 2.2). R and D decide nothing here. */
+static void versions(void)
+{
+    static const uint8_t good[8] = {'P', 'W', 'T', 200, 1, 0, 200, 0};
+    uint8_t table[8];
+
+    for (size_t k = 0; k < sizeof table; k++)
+        for (unsigned value = 0; value < 256; value++) {
+            uint32_t expected = k == 3 || k == 6 || value == good[k] ? 1 : k == 4 && value == 2 ? 2 : 0;
+
+            memcpy(table, good, sizeof table);
+            table[k] = (uint8_t)value;
+            require(sailgarnet_version_of(table, sizeof table) == expected, "the version of a table");
+            require(sailgarnet_sizes_of(table, sizeof table).version == expected, "the sizes of a table");
+        }
+    for (size_t length = 0; length < sizeof good; length++)
+        require(no_sizes(sailgarnet_sizes_of(good, length)), "less than a header has no sizes");
+    require(no_sizes(sailgarnet_sizes_of(NULL, 0)), "nothing has no sizes");
 }
 
 /* The answers of RULES.md 9.5, and a count of more than a byte. */
 static void answers(void)
 {
     require(sailgarnet_number_of(0x300) == SAILGARNET_DONE && sailgarnet_count_of(0x300) == 3, "done with 3 calls");
-    require(sailgarnet_count_of(UINT64_C(1416) << 8) == 1416, "done with 1416 bytes");
+    require(sailgarnet_count_of(UINT64_C(4360) << 8) == 4360, "done with 4360 bytes");
     require(sailgarnet_number_of(0x0100000e) == SAILGARNET_CHILD_SHALLOWER && sailgarnet_place_of(0x0100000e) == 1, "14 at place 1");
     require(sailgarnet_count_of(0x0100000e) == 0, "the count of 14 at place 1");
     require(sailgarnet_number_of(0x01000014) == SAILGARNET_ARMED_FOR_OTHER && sailgarnet_place_of(0x01000014) == 1, "20 at place 1");
@@ -75,6 +139,23 @@ static void on_set(void)
     sailgarnet_on_write(state, 0x80ff2001u);
     require(memcmp(state, expected, sizeof state) == 0, "an on-set is written to its bytes and to no other");
     require(sailgarnet_on_read(state) == 0x80ff2001u, "an on-set that was written");
+}
+
+/* The on-set for a table: so many bytes of a state after its entries, numbered from 0 at first. There are bytes past them. */
+static void on_set_for(uint8_t version, size_t entries, size_t set)
+{
+    static const uint8_t on[] = {0x01, 0x20, 0xff, 0x80, 0x02, 0x40, 0xfe, 0x90};
+    const uint8_t table[8] = {'P', 'W', 'T', 0, version, 0, 0, 0};
+    const uint64_t mask = set < 8 ? (UINT64_C(1) << 8 * set) - 1 : UINT64_MAX;
+    uint8_t state[SAILGARNET_ANY_STATE_SIZE + 8], expected[SAILGARNET_ANY_STATE_SIZE + 8];
+
+    for (size_t k = 0; k < sizeof state; k++)
+        state[k] = expected[k] = (uint8_t)(k - entries);
+    require(sailgarnet_on_read_for(table, sizeof table, state) == (UINT64_C(0x0706050403020100) & mask), "the on-set for a table");
+    memcpy(expected + entries, on, set);
+    sailgarnet_on_write_for(table, sizeof table, state, UINT64_C(0x90fe400280ff2001));
+    require(memcmp(state, expected, sizeof state) == 0, "an on-set is written for a table to its bytes and to no other");
+    require(sailgarnet_on_read_for(table, sizeof table, state) == (UINT64_C(0x90fe400280ff2001) & mask), "what was written for a table");
 }
 
 /* Lists of three records, of which byte k is k. */
@@ -151,10 +232,16 @@ static void survives(size_t size, void (*rewrite)(uint8_t *, size_t), const char
 int main(void)
 {
     sizes();
+    any_version(SAILGARNET_TABLE_VERSION_1);
+    any_version(SAILGARNET_TABLE_VERSION_2);
+    versions();
     answers();
     kinds();
     calls();
     on_set();
+    on_set_for(1, 128, 4);
+    on_set_for(2, 256, 8);
+    on_set_for(3, 0, 0);
     layout();
     none();
     survives(RESOURCE, rewrite_resource, "a resource's bytes are not the same once read and written");

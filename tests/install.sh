@@ -41,9 +41,9 @@ use() {
   read -ra flags <<< "$(field "$pc" Cflags)"
   read -ra libs <<< "$(field "$pc" Libs)"
   if command -v pkg-config > /dev/null; then pkg_config_agrees "$pc"; fi
-  cp examples/board.c examples/edit.c examples/sleep.c examples/station.h "$work"
+  cp examples/board.c examples/edit.c examples/sleep.c examples/wide.c examples/station.h "$work"
   cd "$work"
-  for program in board edit sleep; do
+  for program in board edit sleep wide; do
     gcc -std=c99 -Wall -Wextra -Wpedantic -Werror "${flags[@]}" "$program.c" "${libs[@]}" -o "$program"
     "./$program" | diff - "$repository/examples/$program.out"
   done

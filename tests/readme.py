@@ -1,6 +1,7 @@
 #!/usr/bin/env python3
-"""What README.md and host/README.md show is true: their programs are the files they name, their commands print what they say, their links
-and those of docs/STATION-TEXT.md and docs/changes lead to a file and a heading of it, and the map has every crate."""
+"""What README.md and host/README.md show is true: their programs are the files they name, their commands print what they say, the library
+calls what they say, their links and those of docs/STATION-TEXT.md and docs/changes lead to a file and a heading of it, and the map has every
+crate."""
 
 import glob
 import os
@@ -74,18 +75,26 @@ def plans(page):
         sys.exit(f"not in examples/demo.out:\n{shown}")
 
 
-def command(page, heading, start):
-    """The first command of this section that begins so prints what is shown below it, after the commands that leave the state so; in a folder
-    that is removed again."""
+def command(page, heading, start, first=None):
+    """The first command of this section that begins so prints what is shown below it, after the block of commands that begins with `first`,
+    if there is one; in a folder that is removed again."""
     section = page[page.index(f"\n## {heading}\n"):]
     line, *expected = block(section, start)
     cargo = f"cargo run --quiet --offline --manifest-path '{os.getcwd()}/host/Cargo.toml' -p sailgarnet-cli --"
     with tempfile.TemporaryDirectory() as folder:
         os.symlink(os.path.abspath("examples"), os.path.join(folder, "examples"))
-        before = [f'sailgarnet() {{ {cargo} "$@"; }}', f"cd '{folder}'", *block(section, "sailgarnet fresh examples/")]
+        before = [f'sailgarnet() {{ {cargo} "$@"; }}', f"cd '{folder}'", *(block(section, first) if first else [])]
         printed = run("\n".join([*before, "echo --", line]))
     if printed[printed.index("--") + 1:] != expected:
         sys.exit("\n".join([line, "prints", *printed]))
+
+
+def called(page):
+    """Which functions of the C library the library calls."""
+    lines = run("nm --undefined-only target/staticlib/libsailgarnet.a")
+    names = " and ".join(f"`{line.split()[-1]}`" for line in sorted(lines) if line.startswith(" "))
+    if f"It calls {names} of the C library and nothing else" not in " ".join(page.split()):
+        sys.exit(f"the library calls {names}")
 
 
 def mapped(page):
@@ -116,8 +125,11 @@ program(host, "rust", "host/sailgarnet/examples/first.rs", "cargo run --quiet --
 installed(readme, program(readme, "c", "examples/first.c", "gcc -Iinclude"))
 proving(readme)
 plans(readme)
-command(readme, "At power-on", "sailgarnet bring-up")
-command(readme, "Sleep entry", "sailgarnet plan examples/station.pwt state sleep")
+command(readme, "At power-on", "sailgarnet bring-up", "sailgarnet fresh")
+command(readme, "Sleep entry", "sailgarnet plan examples/station.pwt state sleep", "sailgarnet fresh")
+command(readme, "Two versions of table", "sailgarnet write")
+command(readme, "Two versions of table", "sailgarnet convert")
+called(readme)
 mapped(readme)
 links("README.md")
 links("host/README.md")

@@ -1,14 +1,14 @@
 /*
- * The stack that the exported functions use, on the bench station, on a table of full size, on refusals at each stage and on long lists.
- * Each call runs on a stack of its own, filled with one byte value before. What was overwritten, less what an empty function with as many
- * arguments on the stack overwrites, is the call's. Two values are tried, since a function may write the one that was there.
+ * The stack that the exported functions use for tables of each version, on the bench station, on a table of full size, on refusals at each
+ * stage and on long lists. Each call runs on a stack of its own, filled with one byte value before. What was overwritten, less what an
+ * empty function with as many arguments on the stack overwrites, is the call's. Two values are tried, since a function may write the one
+ * that was there.
  */
 #define _XOPEN_SOURCE 700
 #include <stdio.h>
 #include <string.h>
 #include <ucontext.h>
 
-#include "../examples/station.h"
 #include "full.h"
 
 enum { STACK = 64 * 1024, LIMIT = 8192, LONG_LIST = 40000 };
@@ -17,23 +17,25 @@ enum { STACK = 64 * 1024, LIMIT = 8192, LONG_LIST = 40000 };
 struct input {
     const uint8_t *table;
     size_t table_len;
-    uint8_t state[SAILGARNET_STATE_SIZE];
+    struct sailgarnet_sizes sizes; /* of the table */
+    uint8_t state[SAILGARNET_ANY_STATE_SIZE];
     size_t state_len;
     uint32_t kind, device, a, b;
-    uint8_t plan[SAILGARNET_SLEEP_PLAN_SIZE];
+    uint8_t plan[SAILGARNET_ANY_SLEEP_PLAN_SIZE];
     size_t plan_len;
     const uint8_t *list;
     size_t list_len;
     uint32_t version;
-    uint8_t resources[SAILGARNET_MAX_RESOURCES_SIZE + 1];
+    uint8_t resources[SAILGARNET_ANY_MAX_RESOURCES_SIZE + 1];
     size_t resources_len;
-    uint8_t devices[SAILGARNET_MAX_DEVICES_SIZE];
+    uint8_t devices[SAILGARNET_ANY_MAX_DEVICES_SIZE];
     size_t devices_len;
-    uint8_t written[SAILGARNET_MAX_TABLE_SIZE];
+    uint8_t written[SAILGARNET_ANY_MAX_TABLE_SIZE];
     size_t written_len;
 };
 
 static struct input in;
+static uint8_t table[SAILGARNET_ANY_MAX_TABLE_SIZE]; /* the one that is lent, as it is filled for a test */
 static uint64_t answer;
 static unsigned char stack[STACK] __attribute__((aligned(64)));
 static ucontext_t outside, inside;
@@ -177,11 +179,20 @@ static void measure(int function, const char *title, unsigned number)
 {
     size_t bytes = used(function);
 
-    printf("| %s | %s | %u | %zu |\n", functions[function].name, title, sailgarnet_number_of(answer), bytes);
+    printf("| %s | %u | %s | %u | %zu |\n", functions[function].name, in.sizes.version, title, sailgarnet_number_of(answer), bytes);
     if (sailgarnet_number_of(answer) != number || bytes >= LIMIT) {
         printf("FAILED: answer %u was expected, and less than %d bytes\n", number, LIMIT);
         failures++;
     }
+}
+
+/* A title with a number in it, good until the next one. */
+static const char *titled(const char *format, unsigned number)
+{
+    static char title[80];
+
+    snprintf(title, sizeof title, format, number);
+    return title;
 }
 
 /* Measures a planner and its checker. */
@@ -205,7 +216,7 @@ static void request(uint32_t kind, uint32_t device, uint32_t a, uint32_t b)
     in.device = device;
     in.a = a;
     in.b = b;
-    in.plan_len = kind == SAILGARNET_SLEEP ? SAILGARNET_SLEEP_PLAN_SIZE : SAILGARNET_PLAN_SIZE;
+    in.plan_len = room_for(&in.sizes, kind);
 }
 
 /* Runs what must be done before another call is measured. */
@@ -215,15 +226,16 @@ static void prepare(void (*run)(void))
     require(sailgarnet_number_of(answer) == SAILGARNET_DONE, "a call that prepares another is refused");
 }
 
-/* Lends a table, its fresh state and its description, and no list. */
-static void lend(const uint8_t *table, size_t table_len)
+/* Lends the table, its fresh state and its description, and no list. */
+static void lend(size_t table_len)
 {
     memset(&in, 0, sizeof in);
     in.table = table;
     in.table_len = table_len;
-    in.state_len = sizeof in.state;
-    in.plan_len = SAILGARNET_PLAN_SIZE;
-    in.version = SAILGARNET_TABLE_VERSION_1;
+    in.sizes = sailgarnet_sizes_of(table, table_len);
+    in.state_len = in.sizes.state;
+    in.plan_len = in.sizes.plan;
+    in.version = in.sizes.version;
     in.resources_len = SAILGARNET_DESCRIBED_RESOURCE_SIZE * (size_t)sailgarnet_resource_count(table);
     in.devices_len = SAILGARNET_DESCRIBED_DEVICE_SIZE * (size_t)sailgarnet_device_count(table);
     in.written_len = table_len;
@@ -241,7 +253,7 @@ static void walk(uint32_t kind, uint32_t device, uint32_t a, uint32_t b)
 /* Lends a planner's own list from what is lent. */
 static void own_list(int planner)
 {
-    static uint8_t list[SAILGARNET_PLAN_SIZE];
+    static uint8_t list[SAILGARNET_ANY_PLAN_SIZE];
     struct input before = in;
 
     prepare(functions[planner].run);
@@ -260,20 +272,20 @@ static void measure_request(const char *title, uint32_t kind, uint32_t device, u
 }
 
 /* Bring-up with this on-set, which has so many calls. The state is as before afterwards. */
-static void measure_bring_up(const char *title, uint32_t on, unsigned count)
+static void measure_bring_up(const char *title, uint64_t on, unsigned count)
 {
-    uint32_t before = sailgarnet_on_read(in.state);
+    uint64_t before = sailgarnet_on_read_for(in.table, in.table_len, in.state);
 
-    sailgarnet_on_write(in.state, on);
+    sailgarnet_on_write_for(in.table, in.table_len, in.state, on);
     own_list(BRING_UP);
     require(sailgarnet_count_of(answer) == count, "this bring-up has another number of calls");
     both(BRING_UP, title, 0);
-    sailgarnet_on_write(in.state, before);
+    sailgarnet_on_write_for(in.table, in.table_len, in.state, before);
 }
 
-static void bench_station(void)
+static void bench_station(uint32_t version)
 {
-    lend(station, sizeof station);
+    lend(fill_station(table, version));
     measure(FRESH, "bench", 0);
     measure(DESCRIBE, "bench", 0);
     measure(WRITE, "bench", 0);
@@ -284,62 +296,69 @@ static void bench_station(void)
     measure_bring_up("bench, 3 calls", 1u << 1 | 1u << 2, 3);
 }
 
-/* All but the last device in D0, every fourth one armed. */
-static void lend_full(const uint8_t *table)
+/* All but the last device in D0, every fourth one armed. Returns the number of the last one. */
+static unsigned lend_full(uint32_t version)
 {
-    lend(table, FULL_TABLE);
-    for (unsigned d = 3; d < FULL - 1; d += 4)
+    unsigned last;
+
+    lend(fill_full_table(table, version));
+    last = in.sizes.max_devices - 1;
+    for (unsigned d = 3; d < last; d += 4)
         walk(SAILGARNET_ARM, d, 3, SAILGARNET_D3HOT);
+    return last;
 }
 
-static void full_table(const uint8_t *table)
+/* The last device has all but 8 resources for itself. */
+static void full_table(uint32_t version)
 {
-    lend_full(table);
+    unsigned last = lend_full(version), all = in.sizes.max_resources, own = all - 8;
+
     measure(FRESH, "full", 0);
     measure(DESCRIBE, "full", 0);
     measure(WRITE, "full", 0);
-    measure_request("full, 25 calls to D3cold", SAILGARNET_MOVE, FULL - 1, SAILGARNET_D3COLD, 0);
-    measure_bring_up("full, 32 to turn on", 0, 32);
-    walk(SAILGARNET_MOVE, FULL - 1, SAILGARNET_D3COLD, 0);
-    measure_request("full, 25 calls to D0", SAILGARNET_MOVE, FULL - 1, SAILGARNET_D0, 0);
+    measure_request(titled("full, %u calls to D3cold", own + 1), SAILGARNET_MOVE, last, SAILGARNET_D3COLD, 0);
+    measure_bring_up(titled("full, %u to turn on", all), 0, all);
+    walk(SAILGARNET_MOVE, last, SAILGARNET_D3COLD, 0);
+    measure_request(titled("full, %u calls to D0", own + 1), SAILGARNET_MOVE, last, SAILGARNET_D0, 0);
     measure_request("full, arming again", SAILGARNET_ARM, 3, 4, SAILGARNET_D3COLD);
     measure_request("full, disarming", SAILGARNET_DISARM, 3, 0, 0);
-    measure_bring_up("full, 8 to turn on and 24 off", 0xffffff00u, 32);
+    measure_bring_up(titled("full, 8 to turn on and %u off", own), ~all_of(8), all);
 }
 
-static void refused_tables_and_states(uint8_t *table)
+static void refused_tables_and_states(uint32_t version)
 {
     static const uint8_t deeper_than_wake[] = {SAILGARNET_D1, 1, 3, SAILGARNET_D0};
+    unsigned last = lend_full(version);
+    size_t length = in.table_len;
 
-    lend_full(table);
     in.table_len = 0;
     measure(FRESH, "empty table", 1);
     measure(DESCRIBE, "empty table", 1);
     all_four("empty table", 1);
-    in.table_len = FULL_TABLE;
-    table[FULL_TABLE - 1] = 1;
+    in.table_len = length;
+    table[length - 1] = 1;
     measure(FRESH, "table, last field", 5);
     measure(DESCRIBE, "table, last field", 5);
     all_four("table, last field", 5);
-    table[FULL_TABLE - 1] = 0;
+    table[length - 1] = 0;
     in.state_len--;
-    measure(FRESH, "state of 131 bytes", 7);
-    all_four("state of 131 bytes", 7);
+    measure(FRESH, titled("state of %u bytes", (unsigned)in.state_len), 7);
+    all_four(titled("state of %u bytes", (unsigned)in.state_len), 7);
     in.state_len++;
-    memcpy(in.state + 4 * (FULL - 1), deeper_than_wake, sizeof deeper_than_wake);
+    memcpy(in.state + 4 * last, deeper_than_wake, sizeof deeper_than_wake);
     all_four("consistency, last device", 8);
 }
 
-static void refused_requests_and_lists(const uint8_t *table)
+static void refused_requests_and_lists(uint32_t version)
 {
     static uint8_t list[LONG_LIST];
+    unsigned last = lend_full(version);
 
-    lend_full(table);
     request(0, 0, 0, 0);
     both(PLAN, "request, kind", 10);
     request(SAILGARNET_MOVE, 0, SAILGARNET_D3COLD, 0);
     both(PLAN, "request, child", 14);
-    request(SAILGARNET_ARM, 31, 4, SAILGARNET_D3COLD);
+    request(SAILGARNET_ARM, last, 4, SAILGARNET_D3COLD);
     in.plan_len--;
     measure(PLAN, "room", 9);
     measure(BRING_UP, "room", 9);
@@ -353,30 +372,32 @@ static void refused_requests_and_lists(const uint8_t *table)
 }
 
 /* What is refused stays, since what is refused after it is looked at before it. */
-static void refused_descriptions(const uint8_t *table)
+static void refused_descriptions(uint32_t version)
 {
     struct sailgarnet_resource resource;
     struct sailgarnet_device device;
+    unsigned last;
 
-    lend(table, FULL_TABLE);
+    lend(fill_full_table(table, version));
+    last = in.sizes.max_devices - 1; /* the last resource too */
     in.devices_len--;
     measure(DESCRIBE, "room", 9);
     measure(WRITE, "last device cut short", 5);
     in.devices_len++;
-    device = sailgarnet_device_read(in.devices, FULL - 1);
+    device = sailgarnet_device_read(in.devices, last);
     device.ps = 1;
-    sailgarnet_device_write(in.devices, FULL - 1, &device);
+    sailgarnet_device_write(in.devices, last, &device);
     measure(WRITE, "objects, last device", 6);
-    resource = sailgarnet_resource_read(in.resources, FULL - 1);
+    resource = sailgarnet_resource_read(in.resources, last);
     resource.systemlevel = 5;
-    sailgarnet_resource_write(in.resources, FULL - 1, &resource);
+    sailgarnet_resource_write(in.resources, last, &resource);
     measure(WRITE, "last resource", 4);
     in.written_len--;
     measure(WRITE, "room", 9);
     in.resources_len++;
-    measure(WRITE, "33 resources", 2);
-    in.version = 2;
-    measure(WRITE, "version", 1);
+    measure(WRITE, titled("%u resources", in.sizes.max_resources + 1), 2);
+    in.version = 3;
+    measure(WRITE, "no such version", 1);
 }
 
 /* Sleep entry for S3, which has so many calls. */
@@ -387,24 +408,27 @@ static void measure_sleep_entry(const char *title, unsigned count)
     require(sailgarnet_count_of(answer) == count, "this sleep entry has another number of calls");
 }
 
-/* The bench station; then 32 devices that all move, and refusals at each stage past 8. */
-static void sleep_entries(uint8_t *table)
+/* The bench station; then as many devices as there can be, which all move, and refusals at each stage past 8. */
+static void sleep_entries(uint32_t version)
 {
-    lend(station, sizeof station);
+    unsigned devices;
+
+    lend(fill_station(table, version));
     walk(SAILGARNET_ARM, 1, 3, SAILGARNET_D2);
     measure_sleep_entry("bench, sleep entry, 2 moves", 2);
     request(SAILGARNET_SLEEP, 0, 4, 0);
     measure(PLAN, "bench, sleep entry, armed for S3", 20);
     walk(SAILGARNET_SLEEP, 0, 3, 0);
-    sailgarnet_on_write(in.state, 7);
+    sailgarnet_on_write_for(in.table, in.table_len, in.state, 7);
     measure_sleep_entry("bench, sleep entry, none moves", 1);
-    lend(table, fill_sleep_table(table));
-    measure_sleep_entry("full, sleep entry, 32 moves", 3 * FULL);
+    lend(fill_sleep_table(table, version));
+    devices = in.sizes.max_devices;
+    measure_sleep_entry(titled("full, sleep entry, %u moves", devices), 3 * devices);
     in.plan_len--;
     measure(PLAN, "full, sleep entry, room", 9);
     request(SAILGARNET_SLEEP, 0, 5, 0);
     both(PLAN, "full, sleep entry, S5", 10);
-    walk(SAILGARNET_ARM, FULL - 1, 3, SAILGARNET_D3HOT);
+    walk(SAILGARNET_ARM, devices - 1, 3, SAILGARNET_D3HOT);
     request(SAILGARNET_SLEEP, 0, 4, 0);
     measure(PLAN, "full, sleep entry, last device armed for S3", 20);
     walk(SAILGARNET_ARM, 0, 3, SAILGARNET_D3COLD);
@@ -423,18 +447,21 @@ static void control(void)
     }
 }
 
+static void each_of(uint32_t version)
+{
+    bench_station(version);
+    full_table(version);
+    refused_tables_and_states(version);
+    refused_requests_and_lists(version);
+    refused_descriptions(version);
+    sleep_entries(version);
+}
+
 int main(void)
 {
-    static uint8_t table[FULL_TABLE];
-
-    fill_table(table, FULL, FULL);
-    printf("| function | input | answer | stack bytes |\n|---|---|---|---|\n");
-    bench_station();
-    full_table(table);
-    refused_tables_and_states(table);
-    refused_requests_and_lists(table);
-    refused_descriptions(table);
-    sleep_entries(table);
+    printf("| function | version | input | answer | stack bytes |\n|---|---|---|---|---|\n");
+    each_of(SAILGARNET_TABLE_VERSION_1);
+    each_of(SAILGARNET_TABLE_VERSION_2);
     control();
     return failures != 0;
 }

@@ -1,15 +1,16 @@
 -- What a line does and answers, by its letter x.
 use mathlib.Core.Path.{_≡_, refl, sym, ap, _∙_}
 use mathlib.Core.List.{List}
-use Prim.Native.Nat.{ℕ, _+_}
+use Prim.Native.Nat.{ℕ, _+_, _*_}
 use borrow.Author.Tests.{ne-eqb}
-use lib.ListN.{length, getD}
+use lib.ListN.{length, take, getD}
 use Rattle.rules.specs.declared.Request.{Request}
 use Rattle.rules.specs.declared.Verdict.{Verdict}
 use Rattle.rules.specs.Answers.{numberOf}
 use Rattle.bench.specs.declared.tasks.Task.the-variants.{Plan, BringUp}
-use Rattle.bench.specs.Script.{byteAt, roomAt, requestAt}
-use Rattle.bench.specs.Cases.{more, added, sizeBy, sizeAfter, tableBy, tableAfter, started, kept, moved, stateBy, stateThen}
+use Rattle.bench.specs.Script.{countAt, requestAt}
+use Rattle.bench.specs.Cases.{more, added, sizeBy, sizeAfter, tableBy, tableAfter}
+use Rattle.bench.specs.Cases.{setSize, stateSize, started, kept, moved, stateBy, stateThen}
 use Rattle.bench.specs.Cases.{tableAnswer, stateAnswer, statusGiven, listAnswer, wordsGiven, recordLength}
 use Rattle.bench.specs.Cases.{writeAnswer, describeAnswer, seenBy, seen}
 
@@ -47,19 +48,31 @@ module _ (l : List ℕ) (x : ℕ) (e : x ≡ getD l 0 0) (t b r : List ℕ) wher
   unfolding stateBy
   state-f k h = of (λ z. stateBy z t b l) x _ e 0x46 r k h
 
-  pub state-k : x ≡ 0x4b → r ≡ kept l → r ≡ stateThen t b l
+  pub state-k : x ≡ 0x4b → (w : ℕ) → w ≡ setSize t → r ≡ kept w l → r ≡ stateThen t b l
   unfolding stateBy
-  state-k k h = of (λ z. stateBy z t b l) x _ e 0x4b r k h
+  state-k k w f h = of (λ z. stateBy z t b l) x _ e 0x4b r k (h ∙ rw f refl)
 
-  pub state-q : x ≡ 0x51 → (q : Request) → q ≡ requestAt l 4 → r ≡ moved t b (Plan q) 132 → r ≡ stateThen t b l
+  pub state-q :
+      x ≡ 0x51 →
+      (q : Request) (w : ℕ) →
+      q ≡ requestAt l 4 →
+      w ≡ setSize t →
+      r ≡ moved t b (Plan q) (32 * w + 4) →
+      r ≡ stateThen t b l
   unfolding stateBy
-  state-q k q f h = of (λ z. stateBy z t b l) x _ e 0x51 r k (h ∙ rw f refl)
+  state-q k q w f g h = of (λ z. stateBy z t b l) x _ e 0x51 r k (h ∙ rw (f, g) refl)
 
-  pub state-p : x ≡ 0x50 → (q : Request) (n : ℕ) → q ≡ requestAt l 4 → n ≡ roomAt l 8 → r ≡ moved t b (Plan q) n → r ≡ stateThen t b l
+  pub state-p :
+      x ≡ 0x50 →
+      (q : Request) (n : ℕ) →
+      q ≡ requestAt l 4 →
+      n ≡ countAt l 8 9 16_644 →
+      r ≡ moved t b (Plan q) n →
+      r ≡ stateThen t b l
   unfolding stateBy
   state-p k q n f g h = of (λ z. stateBy z t b l) x _ e 0x50 r k (h ∙ rw (f, g) refl)
 
-  pub state-b : x ≡ 0x42 → (n : ℕ) → n ≡ byteAt l 0 → r ≡ moved t b BringUp n → r ≡ stateThen t b l
+  pub state-b : x ≡ 0x42 → (n : ℕ) → n ≡ countAt l 0 1 16_644 → r ≡ moved t b BringUp n → r ≡ stateThen t b l
   unfolding stateBy
   state-b k n g h = of (λ z. stateBy z t b l) x _ e 0x42 r k (h ∙ rw g refl)
 
@@ -80,17 +93,29 @@ module _ (l : List ℕ) (x : ℕ) (e : x ≡ getD l 0 0) (t whole b : List ℕ) 
   unfolding seenBy
   seen-v k v f h = of (λ z. seenBy z t whole b l) x _ e 0x56 r k (h ∙ ap numberOf f)
 
-  pub seen-l : x ≡ 0x4c → (q : Request) → q ≡ requestAt l 4096 → r ≡ listAnswer t b (Plan q) l 4 → r ≡ seen t whole b l
+  pub seen-l :
+      x ≡ 0x4c →
+      (n : ℕ) (q : Request) →
+      n ≡ stateSize t →
+      q ≡ requestAt l 4096 →
+      r ≡ listAnswer t (take n b) (Plan q) l 4 →
+      r ≡ seen t whole b l
   unfolding seenBy
-  seen-l k q f h = of (λ z. seenBy z t whole b l) x _ e 0x4c r k (h ∙ rw f refl)
+  seen-l k n q g f h = of (λ z. seenBy z t whole b l) x _ e 0x4c r k (h ∙ rw (g, f) refl)
 
-  pub seen-c : x ≡ 0x43 → r ≡ listAnswer t b BringUp l 0 → r ≡ seen t whole b l
+  pub seen-c : x ≡ 0x43 → (n : ℕ) → n ≡ stateSize t → r ≡ listAnswer t (take n b) BringUp l 0 → r ≡ seen t whole b l
   unfolding seenBy
-  seen-c k h = of (λ z. seenBy z t whole b l) x _ e 0x43 r k h
+  seen-c k n g h = of (λ z. seenBy z t whole b l) x _ e 0x43 r k (h ∙ rw g refl)
 
-  pub seen-w : x ≡ 0x57 → (v : Verdict) → v ≡ wordsGiven t b l → r ≡ numberOf v → r ≡ seen t whole b l
+  pub seen-w :
+      x ≡ 0x57 →
+      (n : ℕ) (v : Verdict) →
+      n ≡ stateSize t →
+      v ≡ wordsGiven t (take n b) l →
+      r ≡ numberOf v →
+      r ≡ seen t whole b l
   unfolding seenBy
-  seen-w k v f h = of (λ z. seenBy z t whole b l) x _ e 0x57 r k (h ∙ ap numberOf f)
+  seen-w k n v g f h = of (λ z. seenBy z t whole b l) x _ e 0x57 r k (h ∙ rw (f, g) refl)
 
   pub seen-r : x ≡ 0x52 → r ≡ recordLength t l → r ≡ seen t whole b l
   unfolding seenBy

@@ -1,12 +1,12 @@
 -- What the program's functions lean on: digits, bytes and numbers of a line, bytes set one after another, and the length of a part.
 use mathlib.Core.Path.{_≡_, refl, sym, _∙_}
 use mathlib.Core.Bool.{true, false}
-use mathlib.Core.List.{List}
+use mathlib.Core.List.{List, _++_}
 use Prim.Native.Nat.{ℕ, _+_, _*_, _/_, _%_, _-_, _≤_, _<_, min}
 use native.Mathlib.Nat.{mod-lt, mod-le, mod-zero, mul-le-mul}
 use native.Mathlib.Omega.{arith}
 use native.Mathlib.Numerals.{add-one}
-use lib.ListN.{length, getD, set, take, drop, replicate, length-drop, List·getD-eq-default}
+use lib.ListN.{length, getD, set, take, drop, replicate, length-drop, length-append, List·getD-eq-default}
 use lib.Seq.{take-all, length-take-le}
 use borrow.Author.Tests.{eq-eqb, ne-eqb}
 use Rattle.words.specs.Words.{put, byteWords}
@@ -15,11 +15,14 @@ use Rattle.words.proofs.Put.{take-put}
 use Rattle.rules.specs.declared.Request.{Request}
 use Rattle.rules.specs.declared.Verdict.{Verdict}
 use Rattle.rules.specs.Index.{leastFrom}
-use Rattle.rules.specs.Outcomes.{checkWords}
+use Rattle.rules.specs.Outcomes.{fresh, checkWords}
+use Rattle.rules.specs.Rows.{blank}
 use Rattle.rules.proofs.Index.{starts, found, next, done}
 use Rattle.rules.specs.Write.{write}
 use Rattle.sailgarnet.specs.Packed.{packed, asked}
 use Rattle.bench.specs.Cases.{more, added, listLength, listBytes, wordsGiven}
+use Rattle.bench.specs.Cases.{setSize, stateSize, started, taskOutcome, moved}
+use Rattle.bench.specs.declared.tasks.Task.{Task}
 use Rattle.bench.specs.Script.{endsAt, digitOf, byteAt, numberAt, requestAt, filled}
 
 -- ---- a line
@@ -86,12 +89,12 @@ turn-none i p e = rw e (sym (mod-zero i))
 pub turn-small : (i p : ℕ) → i % p ≤ i
 turn-small i p = mod-le i p
 
-pub product-fits : (t p : ℕ) → t < 256 → p ≤ 54 → t * p < 0x1_0000_0000_0000_0000
-product-fits t p h k = let q : t * p ≤ 256 * 54 = mul-le-mul {n₁ = t} {m₁ = p} {n₂ = 256} {m₂ = 54} (omega arith) k in omega (arith, q)
+pub product-fits : (t p : ℕ) → t < 256 → p ≤ 64 → t * p < 0x1_0000_0000_0000_0000
+product-fits t p h k = let q : t * p ≤ 256 * 64 = mul-le-mul {n₁ = t} {m₁ = p} {n₂ = 256} {m₂ = 64} (omega arith) k in omega (arith, q)
 
 -- ---- `+`, and q, p, t and n as it works them out
-module _ (l b : List ℕ) (size q p t n : ℕ) (e : q ≡ length l / 3 - 1) (f : p ≡ min q 54) (g : t ≡ byteAt l 0)
-    (h : n ≡ min (t * p) (1782 - size)) where
+module _ (l b : List ℕ) (size q p t n : ℕ) (e : q ≡ length l / 3 - 1) (f : p ≡ min q 64) (g : t ≡ byteAt l 0)
+    (h : n ≡ min (t * p) (4428 - size)) where
   pub added-size : size + n ≡ size + more size l
   added-size = rw (h, f, g, e) refl
 
@@ -108,9 +111,42 @@ module _ (t : List ℕ) (i n v : ℕ) (inv : leastFrom (endsAt t) i (n - i) ≡ 
   unfolding endsAt
   line-next e = next (endsAt t) i n v false inv h (sym (ne-eqb _ _ e)) refl
 
+-- ---- the bytes of a set
+module _ (t : List ℕ) (x : ℕ) (e : x ≡ getD t 4 0) where
+  pub set-size-2 : x ≡ 2 → 8 ≡ setSize t
+  unfolding setSize
+  set-size-2 h = rw (← e, h) refl
+
+  pub set-size-else : (x ≡ 2 → ⊥) → 4 ≡ setSize t
+  unfolding setSize
+  set-size-else h = rw (← e) (rw (ne-eqb _ _ h) refl)
+
 -- ---- the length of a part
 pub part-long : (n m : ℕ) (l : List ℕ) → length l ≡ m → n ≤ m → n ≡ length (take n l)
 part-long n m l e h = sym (length-take-le n l (omega arith))
+
+-- ---- a state in the place of the first n bytes of b
+pub in-place-long :
+    (n m : ℕ) (b b′ : List ℕ) →
+    length b ≡ m →
+    n ≤ m →
+    length b′ ≡ length (take n b) →
+    length (b′ ++ drop n b) ≡ m
+in-place-long n m b b′ e h k = omega (arith, length-append b′ (drop n b), length-drop n b, part-long n m b e h)
+
+pub started-is :
+    (t b′ : List ℕ) (n : ℕ) →
+    n ≡ stateSize t →
+    b′ ≡ fresh t (take n (blank 265)) .state →
+    b′ ++ drop n (blank 265) ≡ started t
+started-is t b′ n e h = rw (h, e) refl
+
+pub moved-is :
+    (t b b′ : List ℕ) (task : Task) (n k : ℕ) →
+    n ≡ stateSize t →
+    b′ ≡ taskOutcome t (take n b) task (take k (blank 16_644)) .state →
+    b′ ++ drop n b ≡ moved t b task k
+moved-is t b b′ task n k e h = rw (h, e) refl
 
 -- ---- `M`: the devices are the rest of the lists
 pub rest-is :
@@ -126,7 +162,7 @@ words-fit n m l e h = omega (arith, part-long n m l e h)
 pub words-are :
     (t b l list d ws : List ℕ) (n : ℕ) (q : Request) (v : Verdict) →
     n ≡ listLength l 4 →
-    list ≡ listBytes (replicate 1782 0) l 4 →
+    list ≡ listBytes (replicate 4428 0) l 4 →
     ws ≡ put d 0 (byteWords (n / 4) (take n list)) →
     q ≡ requestAt l 4096 →
     v ≡ checkWords t b q (take (n / 4) ws) →

@@ -19,9 +19,9 @@ digitOf c = (c % 16 + 9 * (c / 64)) % 16
 unfoldable pub byteAt : List ℕ → ℕ → ℕ
 byteAt l i = 16 * digitOf (getD l (3 * i + 2) 0) + digitOf (getD l (3 * i + 3) 0)
 
--- two bytes as the length of a plan, 4228 at most
-abbrev pub roomAt : List ℕ → ℕ → ℕ
-roomAt l i = min (byteAt l i + 256 * byteAt l (i + 1)) 4228
+-- two bytes as a length or a place, the lower one and the higher one; at most so much
+abbrev pub countAt : List ℕ → ℕ → ℕ → ℕ → ℕ
+countAt l low high most = min (byteAt l low + 256 * byteAt l high) most
 
 -- a number of a request: its byte, and its highest byte
 unfoldable pub numberAt : List ℕ → ℕ → ℕ → ℕ

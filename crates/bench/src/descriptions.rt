@@ -25,13 +25,13 @@ fn write_lists(version: u32, lists: &[u8], end: usize, table: &mut [u8]) -> u64
 
 // `M`: a table in as many bytes as the line says, from resources and devices, with one of their bytes changed.
 pub fn write(lists: Whole, size: usize, line: &[u8]) -> u64
-    requires { ⌜ (length lists ≡ 1782) × (size ≤ 1782) ⌝ }
+    requires { ⌜ (length lists ≡ 4428) × (size ≤ 4428) ⌝ }
     ensures { λ r. ⌜ r ≡ writeAnswer lists size (now (line .entry)) ⌝ }
 {
-    let bytes = tables::changed(lists, line);
-    let mut table = [0xa5u8; 255];
-    let end = script::within(script::size(line, 0), size);
-    let n = script::size(line, 3);
+    let bytes = tables::changed(lists, line, 7);
+    let mut table = [0xa5u8; 4428];
+    let end = script::count(line, 0, 6, size);
+    let n = script::count(line, 3, 8, 4428);
     write_lists(
         script::number(line, 4, 5),
         &bytes[..size],
@@ -55,9 +55,9 @@ fn describe_in(table: &[u8], resources: &mut [u8], devices: &mut [u8]) -> u64
 pub fn describe(table: &[u8], line: &[u8]) -> u64
     ensures { λ r. ⌜ r ≡ describeAnswer (now (table .entry)) (now (line .entry)) ⌝ }
 {
-    let mut resources = [0xa5u8; 255];
-    let mut devices = [0xa5u8; 255];
-    let n = script::size(line, 0);
-    let m = script::size(line, 1);
+    let mut resources = [0xa5u8; 4428];
+    let mut devices = [0xa5u8; 4428];
+    let n = script::count(line, 0, 2, 4428);
+    let m = script::count(line, 1, 3, 4428);
     describe_in(table, &mut resources[..n], &mut devices[..m])
 }

@@ -17,34 +17,35 @@ ghost use Rattle.bench.specs.Cases.{damagedState, statusGiven, listLengt
 
 // `D`: the table's first bytes, with one of them changed, and a fresh state in as many bytes as the line says last.
 fn damaged_table(table: Whole, line: &[u8]) -> u64
-    requires { ⌜ length table ≡ 1782 ⌝ }
+    requires { ⌜ length table ≡ 4428 ⌝ }
     ensures { λ r. ⌜ r ≡ tableAnswer table (now (line .entry)) ⌝ }
 {
-    let bytes = tables::changed(table, line);
-    let mut state = [0xa5u8; 255];
-    let n = script::size(line, 0);
-    let room = script::size(line, 3);
+    let bytes = tables::changed(table, line, 5);
+    let mut state = [0xa5u8; 265];
+    let n = script::count(line, 0, 4, 4428);
+    let room = script::count(line, 3, 6, 265);
     states::fresh(&bytes[..n], &mut state[..room])
 }
 
-// A state with one byte changed, by the two bytes of a line past byte `from`: a place, and what is then there.
+// A state with one byte changed, by the bytes of a line past byte `from`: a place, and what is then there; two bytes on, the place's higher
+// byte.
 fn changed(state: Image, line: &[u8], from: usize) -> Image
-    requires { ⌜ (length state ≡ 132) × (from ≤ 64) ⌝ }
-    ensures { λ r. ⌜ (length r ≡ 132) × (r ≡ damagedState state (now (line .entry)) from) ⌝ }
+    requires { ⌜ (length state ≡ 265) × (from ≤ 64) ⌝ }
+    ensures { λ r. ⌜ (length r ≡ 265) × (r ≡ damagedState state (now (line .entry)) from) ⌝ }
 {
     let mut bytes = state;
-    let at = script::within(script::size(line, from + 1), 131);
+    let at = script::count(line, from + 1, from + 4, 264);
     bytes[at] = script::byte(line, from + 2);
     bytes
 }
 
 // `S`: a request with no calls, for the state's first bytes with one of them changed.
 fn damaged_state(table: &[u8], state: Image, line: &[u8]) -> u64
-    requires { ⌜ length state ≡ 132 ⌝ }
+    requires { ⌜ length state ≡ 265 ⌝ }
     ensures { λ r. ⌜ r ≡ stateAnswer (now (table .entry)) state (now (line .entry)) ⌝ }
 {
     let bytes = changed(state, line, 4);
-    let n = script::within(script::size(line, 4), 132);
+    let n = script::count(line, 4, 7, 265);
     tasks::check(
         table,
         &bytes[..n],
@@ -55,21 +56,21 @@ fn damaged_state(table: &[u8], state: Image, line: &[u8]) -> u64
 
 // `V`: whether the table and the state's first bytes, with one of them changed, are a table and a consistent state of it.
 fn status_verdict(table: &[u8], state: Image, line: &[u8]) -> Verdict
-    requires { ⌜ length state ≡ 132 ⌝ }
+    requires { ⌜ length state ≡ 265 ⌝ }
     ensures { λ r. ⌜ r ≡ statusGiven (now (table .entry)) state (now (line .entry)) ⌝ }
 {
     let bytes = changed(state, line, 0);
-    let n = script::within(script::size(line, 0), 132);
+    let n = script::count(line, 0, 3, 265);
     status::verdict(table, &bytes[..n])
 }
 
 // Stores the bytes of a line from byte `from` on, as many as there is room for, and answers how many.
 fn store_list(list: &mut [u8], line: &[u8], from: usize) -> usize
-    requires { ⌜ (length (now list) ≡ 1782) × (from ≤ 64) ⌝ }
-    ensures { λ r. ⌜ (r ≡ listLength (now (line .entry)) from) × (r ≤ 1782) ⌝ }
+    requires { ⌜ (length (now list) ≡ 4428) × (from ≤ 64) ⌝ }
+    ensures { λ r. ⌜ (r ≡ listLength (now (line .entry)) from) × (r ≤ 4428) ⌝ }
     ensures list { λ _. ⌜ now (list .exit) ≡ listBytes (now (list .entry)) (now (line .entry)) from ⌝ }
 {
-    let n = script::within(script::past(line.len() / 3, from), 1782);
+    let n = script::within(script::past(line.len() / 3, from), 4428);
     script::fill(list, 0, line, from, 0, n);
     n
 }
@@ -79,7 +80,7 @@ fn list(table: &[u8], state: &[u8], task: Task, line: &[u8], from: usize) -> u64
     requires { ⌜ from ≤ 64 ⌝ }
     ensures { λ r. ⌜ r ≡ listAnswer (now (table .entry)) (now (state .entry)) task (now (line .entry)) from ⌝ }
 {
-    let mut list = [0u8; 1782];
+    let mut list = [0u8; 4428];
     let n = store_list(&mut list, line, from);
     tasks::check(table, state, task, &list[..n])
 }
@@ -88,10 +89,10 @@ fn list(table: &[u8], state: &[u8], task: Task, line: &[u8], from: usize) -> u64
 fn words_verdict(table: &[u8], state: &[u8], line: &[u8]) -> Verdict
     ensures { λ r. ⌜ r ≡ wordsGiven (now (table .entry)) (now (state .entry)) (now (line .entry)) ⌝ }
 {
-    let mut list = [0u8; 1782];
+    let mut list = [0u8; 4428];
     let size = store_list(&mut list, line, 4);
     let n = size / 4;
-    let mut calls = [0u32; 445];
+    let mut calls = [0u32; 1107];
     words::read_words(&list[..size], n, &mut calls);
     checker::check::check_words(table, state, script::request(line, 4096), &calls[..n])
 }
@@ -105,22 +106,24 @@ fn record(table: &[u8], line: &[u8]) -> usize
 
 // What such a line answers. `whole` has the table, and the room past it.
 pub fn look(table: &[u8], whole: Whole, state: Image, line: &[u8]) -> u64
-    requires { ⌜ (length whole ≡ 1782) × (length (now table) ≤ 1782) × (length state ≡ 132) ⌝ }
+    requires { ⌜ (length whole ≡ 4428) × (length (now table) ≤ 4428) × (length state ≡ 265) ⌝ }
     ensures { λ r. ⌜ r ≡ seen (now (table .entry)) whole state (now (line .entry)) ⌝ }
 {
+    let n = states::size(table);
+    let lent = &state[..n];
     match script::letter(line, 0) {
         b'D' => damaged_table(whole, line),
         b'S' => damaged_state(table, state, line),
         b'V' => print::verdict(status_verdict(table, state, line)),
         b'L' => list(
             table,
-            &state,
+            lent,
             Task::Plan(script::request(line, 4096)),
             line,
             4,
         ),
-        b'C' => list(table, &state, Task::BringUp, line, 0),
-        b'W' => print::verdict(words_verdict(table, &state, line)),
+        b'C' => list(table, lent, Task::BringUp, line, 0),
+        b'W' => print::verdict(words_verdict(table, lent, line)),
         b'R' => record(table, line) as u64,
         b'M' => descriptions::write(whole, table.len(), line),
         b'E' => descriptions::describe(table, line),

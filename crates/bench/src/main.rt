@@ -11,9 +11,9 @@ mod tasks;
 fn main() {
     let mut text = io::large_buffer();
     let n = io::read_full(libc::STDIN_FILENO, &mut text);
-    let mut table = [0u8; 1782];
+    let mut table = [0u8; 4428];
     let mut size = 0;
-    let mut state = [0u8; 132];
+    let mut state = [0u8; 265];
     let mut at = 0;
     while at < n {
         let end = at + script::line_length(&text[at..n]);

@@ -5,7 +5,7 @@ ghost use mathlib.Core.Path.{_≡_};
 ghost use Prim.Native.Nat.{_+_, _*_, _/_, _%_, _-_, _≤_, _<_, min};
 ghost use lib.ListN.{length, getD};
 ghost use Rattle.rules.specs.Index.{least};
-ghost use Rattle.bench.specs.Script.{endsAt, digitOf, byteAt, roomAt, numberAt, requestAt, filled};
+ghost use Rattle.bench.specs.Script.{endsAt, digitOf, byteAt, countAt, numberAt, requestAt, filled};
 
 // A length, or the whole where it is longer than that.
 pub fn within(n: usize, size: usize) -> usize
@@ -78,12 +78,12 @@ pub fn size(line: &[u8], i: usize) -> usize
     words::wide(byte(line, i)) as usize
 }
 
-// Bytes i and i + 1 of a line as the length of a plan, lowest first; at most one word more than sleep entry has room for.
-pub fn room(line: &[u8], i: usize) -> usize
-    requires { ⌜ i < 256 ⌝ }
-    ensures { λ r. ⌜ (r ≡ roomAt (now (line .entry)) i) × (r ≤ 4228) ⌝ }
+// Two bytes of a line as a length or a place, the lower one and the higher one; at most so much.
+pub fn count(line: &[u8], low: usize, high: usize, most: usize) -> usize
+    requires { ⌜ (low < 256) × (high < 256) ⌝ }
+    ensures { λ r. ⌜ (r ≡ countAt (now (line .entry)) low high most) × (r ≤ most) ⌝ }
 {
-    within(size(line, i) + 256 * size(line, i + 1), 4228)
+    within(size(line, low) + 256 * size(line, high), most)
 }
 
 // A number of 32 bits: a byte, and its highest byte, which a line that has no such byte leaves zero.
@@ -118,7 +118,7 @@ fn turn(i: usize, period: usize) -> usize
 
 // Sets n bytes from `at` on to those of a line that start at byte `from`, again after each period.
 pub fn fill(bytes: &mut [u8], at: usize, line: &[u8], from: usize, period: usize, n: usize)
-    requires { ⌜ (from ≤ 64) × (at + n ≤ length (now bytes)) × (length (now bytes) ≤ 1782) ⌝ }
+    requires { ⌜ (from ≤ 64) × (at + n ≤ length (now bytes)) × (length (now bytes) ≤ 4428) ⌝ }
     ensures { λ _. ⌜ now (bytes .exit) ≡ filled (now (bytes .entry)) at (now (line .entry)) from period n ⌝ }
 {
     let mut i = 0;

@@ -1,6 +1,7 @@
 // The calls of a request or of bring-up, and what the checker answers on a list.
 use crate::print;
 use crate::script;
+use crate::states;
 use crate::states::Image;
 use rules::Request;
 ghost use mathlib.Core.Path.{_≡_};
@@ -62,28 +63,34 @@ pub fn check(table: &[u8], state: &[u8], task: Task, list: &[u8]) -> u64
     answer
 }
 
-// A task on a lent plan: prints the answer, the calls and the whole state; then what the checker answers on these calls, given the state
-// as it was before. Answers the state afterwards.
-fn plan_in(table: &[u8], before: Image, task: Task, plan: &mut [u8]) -> Image
-    requires { ⌜ length before ≡ 132 ⌝ }
-    ensures state { λ r. ⌜ (length r ≡ 132) × (r ≡ taskOutcome (now (table .entry)) before task (now (plan .entry)) .state) ⌝ }
-    ensures plan { λ _. ⌜ now (plan .exit) ≡ taskOutcome (now (table .entry)) before task (now (plan .entry)) .plan ⌝ }
+// A task on a lent state and plan: prints the answer, the calls and the whole state; then what the checker answers on these calls, given
+// the state as it was before.
+fn plan_in(table: &[u8], before: &[u8], task: Task, state: &mut [u8], plan: &mut [u8])
+    ensures state { λ _. ⌜ now (state .exit) ≡ taskOutcome (now (table .entry)) (now (state .entry)) task (now (plan .entry)) .state ⌝ }
+    ensures plan { λ _. ⌜ now (plan .exit) ≡ taskOutcome (now (table .entry)) (now (state .entry)) task (now (plan .entry)) .plan ⌝ }
 {
-    let mut state = before;
-    let answer = outcome(table, &mut state, task, plan);
+    let answer = outcome(table, state, task, plan);
     let end = script::within(4 * (print::answer(b":", answer) as usize), plan.len());
     let calls = &plan[..end];
     print::hex(b" calls", calls);
-    print::hex(b" state", &state);
-    check(table, &before, task, calls);
-    state
+    print::hex(b" state", state);
+    check(table, before, task, calls);
 }
 
 // `Q`, `P` and `B`: a task with a plan of n bytes, A5 each.
 pub fn plan(table: &[u8], before: Image, task: Task, n: usize) -> Image
-    requires { ⌜ (length before ≡ 132) × (n ≤ 4228) ⌝ }
-    ensures { λ r. ⌜ (length r ≡ 132) × (r ≡ moved (now (table .entry)) before task n) ⌝ }
+    requires { ⌜ (length before ≡ 265) × (n ≤ 16_644) ⌝ }
+    ensures { λ r. ⌜ (length r ≡ 265) × (r ≡ moved (now (table .entry)) before task n) ⌝ }
 {
-    let mut plan = [0xa5u8; 4228];
-    plan_in(table, before, task, &mut plan[..n])
+    let mut plan = [0xa5u8; 16_644];
+    let mut state = before;
+    let size = states::size(table);
+    plan_in(
+        table,
+        &before[..size],
+        task,
+        &mut state[..size],
+        &mut plan[..n],
+    );
+    state
 }

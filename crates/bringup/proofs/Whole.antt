@@ -103,16 +103,23 @@ module _ (t b : List ℕ) (g : BringUpState t b) where
   pub state-long : entriesSize (width t) ≤ length b
   state-long = omega (arith, g .long)
 
+  -- both sets have resources of the table alone
+  pub on-small : (on : ℕ) → on ≡ status t b .on → on < 2 ^ countR t
+  unfolding stationOf
+  on-small on h = rw h (values-of t b (bring-up-passed .values) .on)
+
+  pub target-small : (target : ℕ) → target ≡ needed (station t) (entries t b) → target < 2 ^ countR t
+  unfolding stationOf
+  target-small target n = rw n (needed-small t (bring-up-passed .table) (entries t b))
+
 -- ---- the switching, from the values as the code has them: u is turned on, v off
 module _ (t b : List ℕ) (g : BringUpState t b) (on target u v : ℕ) (h : on ≡ status t b .on)
     (n : target ≡ needed (station t) (entries t b)) where
   pub added-small : u ≡ minus target on → u < 2 ^ countR t
-  unfolding stationOf
-  added-small p = rw (p, n) (minus-lt _ _ on (needed-small t (bring-up-passed t b g .table) (entries t b)))
+  added-small p = rw p (minus-lt _ target on (target-small t b g target n))
 
   pub removed-small : v ≡ minus on target → v < 2 ^ countR t
-  unfolding stationOf
-  removed-small q = rw (q, h) (minus-lt _ _ target (values-of t b (bring-up-passed t b g .values) .on))
+  removed-small q = rw q (minus-lt _ on target (on-small t b g on h))
 
 pub switches-room : (t b : List ℕ) (m on target u v : ℕ) → BringUpState t b → u ≡ minus target on → v ≡ minus on target
     → listRoom (width t) ≤ m → 0 + length (phaseWords (station t) u v) ≤ m
@@ -141,7 +148,7 @@ module _ (t b : List ℕ) (on target u v : ℕ) (h : on ≡ status t b .on) (n :
         words = put′ ∙ ap (put plan 0) list-is;
       }
 
-pub ruleset switch-laws = (state-sized, state-long, added-small, removed-small, test-is)
+pub ruleset switch-laws = (state-sized, state-long, on-small, target-small, added-small, removed-small, test-is)
 
 -- ---- the outcome; n: the room that a plan must have, in words; m: the words or bytes that it has
 module _ (t b : List ℕ) (n m : ℕ) (i : n ≡ listRoom (width t)) (v : Verdict) (p : Bool) (f : p ≡ passes v) where

@@ -19,8 +19,8 @@ pub fn write_bring_up(table: &[u8], state: &mut [u8], plan: &mut [u32]) -> usize
 {
     let on = status::image::on_set(table, state);
     let target = status::needed::needed(table, state);
-    let added = sets::minus(target, on);
-    let removed = sets::minus(on, target);
+    let added = switching::difference(table, target, on);
+    let removed = switching::difference(table, on, target);
     let count = switching::write::write_switches(table, added, removed, plan, 0);
     status::image::set_on(table, state, target);
     count
@@ -34,8 +34,12 @@ pub fn bring_up_words(table: &[u8], state: &mut [u8], plan: &mut [u32]) -> Verdi
     ensures brings { λ r. ⌜ BringsUpWords (now (table .entry)) (now (state .entry)) (now (plan .entry)) (numberOf r) (countOf r)
         (now (state .exit)) (now (plan .exit)) ⌝ }
 {
+    let of_table = table::check_table(table);
+    if !rules::passes(of_table) {
+        return of_table;
+    }
     let fits = plan.len() >= switching::write::room(table);
-    let v = crate::stages::verdict(table, state, fits);
+    let v = crate::stages::past_table(table, state, fits);
     if !rules::passes(v) {
         return v;
     }

@@ -43,7 +43,7 @@ fn move_call(table: &[u8], e: Entry, d: u32, x: u32) -> OptionalCall
         return OptionalCall::NoCall;
     }
     let m = method_for(x);
-    if !sets::has(words::wide(table::fields::ps(table, d as usize)), m) {
+    if !sets::narrow::has(words::wide(table::fields::ps(table, d as usize)), m) {
         return OptionalCall::NoCall;
     }
     OptionalCall::Is(Call::SetState {
@@ -58,7 +58,7 @@ fn wake_call(table: &[u8], e: Entry, q: Request) -> OptionalCall
     ensures { λ r. ⌜ r ≡ wakeCall (station (now (table .entry))) e q ⌝ }
 {
     let d = q.device;
-    if !sets::has(words::wide(table::fields::flags(table, d as usize)), 1) {
+    if !sets::narrow::has(words::wide(table::fields::flags(table, d as usize)), 1) {
         return OptionalCall::NoCall;
     }
     if q.kind == 2 {

@@ -24,7 +24,7 @@ use Rattle.laws.proofs.Fields.{number-part, fields-back, fields-long, d
 use Rattle.laws.proofs.Same.{same-device}
 
 -- what a good header says
-header-says : (t : List ℕ) → headerGood t ≡ true
+pub header-says : (t : List ℕ) → headerGood t ≡ true
     → (8 ≤ length t) × (getD t 0 0 ≡ 0x50) × (getD t 1 0 ≡ 0x57) × (getD t 2 0 ≡ 0x54) × (versionGood (versionOf t) ≡ true)
     × (getD t 7 0 ≡ 0)
 unfolding headerGood

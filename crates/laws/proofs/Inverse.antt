@@ -54,7 +54,7 @@ module _ (version : ℕ) (rs ds : List ℕ) (room : ℕ) (e : passes (writeVerdi
   abbrev t : List ℕ
   t = tableBytes version rs ds
 
-  records-pass : passes (recordsVerdict rs ds) ≡ true
+  pub records-pass : passes (recordsVerdict rs ds) ≡ true
   unfolding writeVerdict
   records-pass = first-both _ _ _ (first-both _ _ _ (first-both _ _ _ (first-both _ _ _ e .1) .1) .1) .0
 

@@ -40,3 +40,6 @@ pub mod SleepMoves
 pub mod SleepStages
 pub mod Sleep
 pub mod Runs
+pub mod Made
+pub mod OneStation
+pub mod Versions

@@ -1,7 +1,7 @@
 -- A plan whose checks pass is done with the count of its words, which stand at its front, the rest being as it was; and a list passes
 -- exactly if its checks pass and its test holds. Of words and of bytes, for any checks, words and test.
 use mathlib.Core.Path.{_≡_, refl, sym, ap, _∙_}
-use mathlib.Core.Bool.{Bool, true, true≢false}
+use mathlib.Core.Bool.{Bool, true, false, true≢false}
 use mathlib.Core.List.{List, [], _∷_}
 use Prim.Native.Nat.{ℕ, _+_, _*_, _/_, _%_, _^_, _<_}
 use native.Mathlib.Omega.{arith}
@@ -34,6 +34,11 @@ pub passes-number : (v : Verdict) → passes v ≡ true → numberOf v ≡ 0
 passes-number (Done n) e = refl
 passes-number (Refused why at) e = absurd (true≢false (sym e ∙ refused-stops why at))
 
+-- a refusal counts nothing
+pub refused-count : (v : Verdict) → passes v ≡ false → countOf v ≡ 0
+refused-count (Done n) e = absurd (true≢false (sym (done-passes n) ∙ e))
+refused-count (Refused why at) e = refl
+
 -- ---- plans
 drop-put : (d ws : List ℕ) → drop (length ws) (put d 0 ws) ≡ drop (length ws) d
 unfolding put
@@ -61,6 +66,11 @@ module _ (written : List ℕ → List ℕ) (checks : Verdict) (b plan b′ words
   pub plan-outcome : passes checks ≡ true → o ≡ record { verdict = Done (length words); state = b′; plan = put plan 0 (written words) }
   unfolding planOutcome outcome passes
   plan-outcome e = rw (plan-done checks words e) refl
+
+  -- refused, state and plan are as they were lent
+  pub plan-refused : passes checks ≡ false → o ≡ record { verdict = checks; state = b; plan = plan }
+  unfolding planOutcome outcome planVerdict
+  plan-refused e = rw (first-stop checks [] (Done (length words)) e, e) refl
 
   pub outcome-number : numberOf (o .verdict) ≡ numberOf checks
   unfolding planOutcome outcome

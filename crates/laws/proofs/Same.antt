@@ -1,4 +1,4 @@
--- Two places with the same bytes have the same device.
+-- Two places with the same bytes have the same number and the same device.
 use mathlib.Core.Path.{_≡_, refl, sym, ap, _∙_, fun-ext}
 use mathlib.Core.Bool.{cond}
 use mathlib.Core.List.{List}
@@ -15,7 +15,7 @@ use Rattle.rules.specs.Station.{absent, fieldsSize, deviceAt}
 use Rattle.rules.proofs.Index.{below-in, below-out}
 use Rattle.laws.proofs.Fields.{set-inside}
 
-read-same : (k : ℕ) (s t : List ℕ) (x y : ℕ) → ((i : ℕ) → i < k → getD s (x + i) 0 ≡ getD t (y + i) 0) → readLE k s x ≡ readLE k t y
+pub read-same : (k : ℕ) (s t : List ℕ) (x y : ℕ) → ((i : ℕ) → i < k → getD s (x + i) 0 ≡ getD t (y + i) 0) → readLE k s x ≡ readLE k t y
 unfolding readLE
 read-same zero s t x y h = refl
 read-same (suc k) s t x y h =
@@ -27,7 +27,7 @@ read-same (suc k) s t x y h =
     rw (a, b) (h (i + 1) (omega arith))) in
     rw (first, rest) refl
 
-below-same : (n other : ℕ) (f g : ℕ → ℕ) → ((i : ℕ) → i < n → f i ≡ g i) → below n other f ≡ below n other g
+pub below-same : {A : Type 0} (n : ℕ) (other : A) (f g : ℕ → A) → ((i : ℕ) → i < n → f i ≡ g i) → below n other f ≡ below n other g
 below-same n other f g h =
     fun-ext (λ i. decide (ltb i n)
     (λ e. let l = ltb-true i n e in below-in n other f i l ∙ h i l ∙ sym (below-in n other g i l))

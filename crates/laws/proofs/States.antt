@@ -170,10 +170,20 @@ fresh-status-consistent n s rules =
       power = λ d h. all-on s rules d h noEntry;
     }
 
-pub fresh-consistent : (t : List ℕ) → passes (tableVerdict t) ≡ true → stateVerdict t (imageOf (width t) (freshStatus (station t))) ≡ Done 0
-fresh-consistent t e =
-    image-consistent t e (freshStatus (station t)) (fresh-status-consistent (limit (width t)) (station t) (station-rules t (accepted t e)))
-    (λ k h. unfold freshStatus in refl)
+-- its image reads back as it, and gets neither 7 nor 8
+module _ (t : List ℕ) (e : passes (tableVerdict t) ≡ true) where
+  start : ConsistentStatus (limit (width t)) (station t) (freshStatus (station t))
+  start = fresh-status-consistent (limit (width t)) (station t) (station-rules t (accepted t e))
+
+  start-out : (k : ℕ) → limit (width t) ≤ k → freshStatus (station t) .entries k ≡ noEntry
+  unfolding freshStatus
+  start-out k h = refl
+
+  pub fresh-reads : status t (imageOf (width t) (freshStatus (station t))) ≡ freshStatus (station t)
+  fresh-reads = image-reads t e (freshStatus (station t)) start start-out
+
+  pub fresh-consistent : stateVerdict t (imageOf (width t) (freshStatus (station t))) ≡ Done 0
+  fresh-consistent = image-consistent t e (freshStatus (station t)) start start-out
 
 -- ---- an accepted request
 pub form-passed : (s : Station) (entries : ℕ → Entry) (q : Request) → passes (requestVerdict s entries q) ≡ true → formGood s q ≡ true

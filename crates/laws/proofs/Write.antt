@@ -7,8 +7,10 @@ use Prim.Native.Nat.{ℕ, _+_, _*_, _^_, _<_}
 use native.Mathlib.Nat.{mod-eq-of-lt}
 use native.Mathlib.Omega.{arith}
 use borrow.Author.Tests.{eqb-true}
+use lib.Dec.{eqb}
 use lib.ListN.{length, getD, take, drop, replicate, length-append, getD-replicate, List·getD-append}
 use lib.Seq.{take-at, take-all}
+use Rattle.sets.proofs.Laws.{decide}
 use Rattle.words.specs.Words.{bytesLE}
 use Rattle.words.proofs.Laws.{read-bytes-at}
 use Rattle.rules.specs.Index.{join}
@@ -26,7 +28,8 @@ use Rattle.laws.proofs.Same.{same-device}
 -- a version that there is fits in its two bytes
 known-version : (version : ℕ) → versionGood version ≡ true → version < 256 ^ 2
 unfolding versionGood
-known-version version e = omega (arith, eqb-true version 1 e)
+known-version version e =
+    decide (eqb version 1) (λ h. omega (arith, eqb-true version 1 h)) (λ h. omega (arith, eqb-true version 2 (rw h at e)))
 
 -- ---- of any lists
 module _ (version : ℕ) (rs ds : List ℕ) where

@@ -5,3 +5,4 @@ pub mod Demand3
 pub mod BringUp
 pub mod Sleep
 pub mod Inverse
+pub mod Versions

@@ -16,7 +16,7 @@ use Rattle.rules.specs.declared.Verdict.{Verdict}
 use Rattle.rules.specs.declared.Verdict.the-variants.{Done}
 use Rattle.rules.specs.Index.{every}
 use Rattle.rules.specs.Answers.{passes}
-use Rattle.rules.specs.Station.{absent, versionWidth, width, limit, countD, stationOf, station}
+use Rattle.rules.specs.Station.{absent, width, limit, countD, stationOf, station}
 use Rattle.rules.specs.Table.{parentGood, tableVerdict}
 use Rattle.rules.specs.Status.{entriesSize, entries, statusOf, status}
 use Rattle.rules.specs.Sleep.{isSleep, Choice, leastChoice, stays, moves, noneMoves}
@@ -127,10 +127,9 @@ module _ (t b : List ℕ) (q : Request) (chosen chosen′ : List ℕ) (n : ℕ) 
   pub sleep-room-bytes : (m : ℕ) → room ≡ leb (4 * n) m → 4 * (limit (width t) * listRoom (width t)) ≤ m
   sleep-room-bytes m r = rw i at (leb-true (4 * n) m (sym r ∙ passed .1))
 
--- 32 states are room for every device
-pub states-32 : (t states : List ℕ) → tableVerdict t ≡ Done 0 → length states ≡ 32 → countD t ≤ length states
-unfolding versionWidth width
-states-32 t states e l = omega (arith, accepted t (ap passes e ∙ done-passes 0) .devices)
+-- 64 states are room for every device
+pub states-64 : (t states : List ℕ) → tableVerdict t ≡ Done 0 → length states ≡ 64 → countD t ≤ length states
+states-64 t states e l = omega (arith, accepted t (ap passes e ∙ done-passes 0) .devices, width-wide t .high)
 
 module _ (t b : List ℕ) (q : Request) (plan : List ℕ) (kind : isSleep q ≡ true) (n : ℕ) (i : n ≡ limit (width t) * listRoom (width t))
     (v : Verdict) (p : Bool) (f : p ≡ passes v) where
@@ -194,9 +193,8 @@ module _ (t b chosen : List ℕ) (g : Given t b chosen) where
   pub given-long : entriesSize (width t) ≤ length b
   given-long = g .ready .long
 
-  pub given-32 : (sets : List ℕ) → length sets ≡ 32 → countD t ≤ length sets
-  unfolding versionWidth width
-  given-32 sets l = omega (arith, g .ready .sized .devices)
+  pub given-64 : (sets : List ℕ) → length sets ≡ 64 → countD t ≤ length sets
+  given-64 sets l = omega (arith, g .ready .sized .devices, width-wide t .high)
 
   pub given-up : BringUpState t b
   given-up =
@@ -231,7 +229,7 @@ module _ (t b chosen : List ℕ) (g : Given t b chosen) where
     unfolding choiceList choiceState
     choice-moves e size written n b′ plan plan′ w = rw (still-is ∙ e) w
 
-pub ruleset looking = (given-sized, given-long, given-32)
+pub ruleset looking = (given-sized, given-long, given-64)
 
 pub ruleset entering = (given-ready, given-up, one-list, one-list-bytes)
 

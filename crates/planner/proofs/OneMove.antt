@@ -2,7 +2,7 @@
 use mathlib.Core.Path.{_≡_, refl, sym, ap, _∙_}
 use mathlib.Core.Bool.{Bool, true, false}
 use mathlib.Core.List.{List}
-use Prim.Native.Nat.{ℕ, _+_, _*_, _≤_, _<_}
+use Prim.Native.Nat.{ℕ, _+_, _*_, _^_, _≤_, _<_}
 use native.Mathlib.Nat.{one-mul}
 use native.Mathlib.Omega.{arith}
 use mir.Syntax.{w32}
@@ -12,7 +12,7 @@ use lib.ListN.{length, take}
 use Rattle.sets.proofs.Laws.{decide}
 use Rattle.words.specs.Words.{put, wordBytes}
 use Rattle.words.proofs.Put.{put-none, take-put}
-use Rattle.rules.specs.Station.{width, limit, station}
+use Rattle.rules.specs.Station.{width, limit, countR, station}
 use Rattle.rules.specs.Status.{entryAt, entries, statusOf, status, imageSize, imageOf}
 use Rattle.rules.specs.Power.{needs}
 use Rattle.rules.specs.Request.{inState, newEntry}
@@ -23,17 +23,17 @@ use Rattle.rules.specs.declared.OptionalCall.{OptionalCall}
 use Rattle.rules.specs.declared.Switching.{Switching}
 use Rattle.rules.specs.declared.Entry.{Entry}
 use Rattle.table.specs.Layout.{WellSized}
-use Rattle.status.specs.Ready.{Ready, inStateWith}
+use Rattle.status.specs.Ready.{Ready, entryWith}
 use Rattle.status.proofs.Keeps.{entry-ready}
 use Rattle.request.specs.Permitted.{PermittedRequest}
-use Rattle.request.proofs.Changes.{on-small, change-is, change-good}
+use Rattle.request.proofs.Changes.{on-small, needed-lt, change-is, change-good}
 use Rattle.switching.specs.Switching.{GoodSwitching}
 use Rattle.switching.specs.Written.{WrittenPlan}
 use Rattle.switching.proofs.Answered.{front-bytes}
 use Rattle.sleep.specs.Chosen.{statesIn}
 use Rattle.planner.specs.Moves.{moveList, stateMoved, Turn, WrittenFrom}
 use Rattle.planner.proofs.Whole.{list-is}
-use Rattle.planner.proofs.Room.{words-33, request-room}
+use Rattle.planner.proofs.Room.{words-65, request-room}
 
 -- ---- what a turn has shown
 module _ (t b chosen : List ℕ) (d : ℕ) (g : Turn t b chosen d) where
@@ -86,6 +86,14 @@ module _ (t b chosen : List ℕ) (d : ℕ) (s : Bool) (test : s ≡ stays (entri
         let other = eqb-false (statesIn chosen d) (status t b .entries d .state) (stays-is ∙ e) in
         rw (ne-eqb a 0 (λ z. other (omega (arith, z, is, g .deeper)))) refl
 
+    -- both sets have resources of the table alone
+    pub move-sets : (on set : ℕ) → Turn t b chosen d → on ≡ status t b .on
+        → set ≡ endSet (station t) (entries t b) (moveTo d (statesIn chosen d))
+        → WellSized t × (on < 2 ^ countR t) × (set < 2 ^ countR t)
+    move-sets on set g h n-is =
+        let asked = move-asked g in
+        (asked .ready .sized, on-small t b (moveTo d a) on asked h, needed-lt t b (moveTo d a) asked set (rw is n-is))
+
     -- the switching of the move, from the values as the code has them
     module _ (g : Turn t b chosen d) (on set : ℕ) (u : Entry) (o : OptionalCall) (w : Switching) (h : on ≡ status t b .on)
         (read : u ≡ entryAt b (4 * d)) (own : o ≡ ownCall (station t) u (moveTo d a)) (w-is : w ≡ switchingOf o false on set)
@@ -100,7 +108,7 @@ module _ (t b chosen : List ℕ) (d : ℕ) (s : Bool) (test : s ≡ stays (entri
 
       -- the words and the state
       pub move-some : (n : ℕ) (b′ calls calls′ : List ℕ) → n ≡ length (switchingWords (station t) w)
-          → calls′ ≡ put calls 0 (switchingWords (station t) w) → b′ ≡ imageOf (width t) (inStateWith t b d (statesIn chosen d) set)
+          → calls′ ≡ put calls 0 (switchingWords (station t) w) → b′ ≡ imageOf (width t) (entryWith t b d (inState (entries t b d) (statesIn chosen d)) set)
           → WrittenPlan (moveList t b (statesIn chosen) d) (stateMoved t b (statesIn chosen) d) calls n b′ calls′
       unfolding moveList stateMoved stateAfter statusAfter newEntry statusOf
       move-some n b′ calls calls′ count written image =
@@ -141,8 +149,8 @@ module _ (list after : List ℕ) (n : ℕ) (b′ calls calls′ : List ℕ) (w :
 -- what is copied is in the buffer, and as much as the plan has room for
 module _ (t b chosen : List ℕ) (d n : ℕ) (after b′ calls calls′ : List ℕ) (g : Turn t b chosen d)
     (w : WrittenPlan (moveList t b (statesIn chosen) d) after calls n b′ calls′) where
-  pub copied-inside : length calls ≡ 33 → n ≤ length calls′
-  copied-inside l = words-33 t _ _ (move-short t b chosen d g) n b′ calls calls′ w l
+  pub copied-inside : length calls ≡ 65 → n ≤ length calls′
+  copied-inside l = words-65 t _ _ (move-short t b chosen d g) n b′ calls calls′ w l
 
   pub copied-room : (at m : ℕ) → at + length (moveList t b (statesIn chosen) d) ≤ m → at + n ≤ m
   copied-room at m h = omega (arith, w .count)

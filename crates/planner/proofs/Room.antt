@@ -1,4 +1,4 @@
--- 33 words are room for the list of a request: what is written into a buffer of that many stays inside it.
+-- 65 words are room for the list of a request in either version: what is written into a buffer of that many stays inside it.
 use mathlib.Core.Path.{_≡_, refl, ap, _∙_}
 use mathlib.Core.Bool.{true}
 use mathlib.Core.List.{List}
@@ -10,29 +10,29 @@ use mir.Val.{Fits}
 use lib.ListN.{length}
 use Rattle.words.proofs.Put.{length-put}
 use Rattle.rules.specs.declared.Request.{Request}
-use Rattle.rules.specs.Station.{versionWidth, width, limit}
+use Rattle.rules.specs.Station.{width, limit}
 use Rattle.rules.specs.Outcomes.{listRoom, planned}
+use Rattle.rules.proofs.Width.{width-wide}
 use Rattle.laws.proofs.Stages.{stages-of}
 use Rattle.switching.specs.Written.{WrittenPlan}
 use Rattle.switching.proofs.Short.{planned-short}
 use Rattle.request.specs.Permitted.{PermittedRequest}
 
-pub room-33 : (t : List ℕ) → listRoom (width t) ≡ 33
-unfolding versionWidth width
-room-33 t = refl
+pub room-65 : (t : List ℕ) → listRoom (width t) ≤ 65
+room-65 t = omega (arith, width-wide t .high)
 
-pub room-words : (t words : List ℕ) → length words ≡ 33 → listRoom (width t) ≤ length words
-room-words t words h = omega (arith, room-33 t)
+pub room-words : (t words : List ℕ) → length words ≡ 65 → listRoom (width t) ≤ length words
+room-words t words h = omega (arith, room-65 t)
 
 module _ (t list after : List ℕ) (short : length list ≤ listRoom (width t)) (n : ℕ) (b′ words words′ : List ℕ)
     (w : WrittenPlan list after words n b′ words′) where
-  pub words-33 : length words ≡ 33 → n ≤ length words′
-  words-33 l =
-      let same = ap length (w .words) ∙ length-put words 0 list (omega (arith, room-33 t)) in
-      omega (arith, same, w .count, room-33 t)
+  pub words-65 : length words ≡ 65 → n ≤ length words′
+  words-65 l =
+      let same = ap length (w .words) ∙ length-put words 0 list (omega (arith, room-65 t)) in
+      omega (arith, same, w .count, room-65 t)
 
-  pub bytes-132 : (m : ℕ) → 4 * listRoom (width t) ≤ m → 4 * (0 + n) ≤ m
-  bytes-132 m h = omega (arith, w .count)
+  pub bytes-room : (m : ℕ) → 4 * listRoom (width t) ≤ m → 4 * (0 + n) ≤ m
+  bytes-room m h = omega (arith, w .count)
 
 pub request-room : (t b : List ℕ) (q : Request) → PermittedRequest t b q → length (planned t b q) ≤ listRoom (width t)
 request-room t b q g = planned-short t b q (stages-of true t b q (g .passed))

@@ -1,5 +1,5 @@
 -- The planner whole: the words and the state of an accepted request, and the outcome.
-use mathlib.Core.Path.{_≡_, refl, sym, ap, _∙_}
+use mathlib.Core.Path.{_≡_, sym, ap, _∙_}
 use mathlib.Core.Bool.{Bool, true, false, not}
 use mathlib.Core.List.{List}
 use Prim.Native.Nat.{ℕ, _*_, _≤_, _<_}
@@ -10,18 +10,16 @@ use lib.ListN.{length, take}
 use Rattle.words.specs.Words.{put, wordBytes}
 use Rattle.rules.specs.declared.Change.{Change}
 use Rattle.rules.specs.declared.Request.{Request}
-use Rattle.rules.specs.declared.State.{State}
 use Rattle.rules.specs.declared.Verdict.{Verdict}
 use Rattle.rules.specs.declared.Verdict.the-variants.{Done}
 use Rattle.rules.specs.Answers.{numberOf, countOf, passes}
-use Rattle.rules.specs.Station.{versionWidth, width, station}
-use Rattle.rules.specs.Status.{Status, status}
+use Rattle.rules.specs.Station.{width, limit, station}
+use Rattle.rules.specs.Status.{Status, status, imageOf}
 use Rattle.rules.specs.Calls.{ownCall, ownLast, calls, switchingWords, changeOf}
 use Rattle.rules.specs.Sleep.{isSleep}
 use Rattle.rules.specs.Outcomes.{Outcome, listRoom, planned, stagesVerdict, stateAfter, planOutcome, planWords, planBytes}
 use Rattle.table.specs.Layout.{WellSized}
-use Rattle.status.specs.State.{loadState, storeState, withEntry}
-use Rattle.status.specs.Ready.{statusWith}
+use Rattle.status.specs.Ready.{statusWith, entryWith}
 use Rattle.status.proofs.Written.{after-image}
 use Rattle.request.specs.Permitted.{PermittedRequest}
 use Rattle.request.proofs.Changes.{status-with, on-small}
@@ -33,13 +31,7 @@ use Rattle.laws.proofs.Demand2.{demand2-words}
 use Rattle.laws.proofs.Sleep.{sleeps-words}
 use Rattle.switching.proofs.Made.{words-are}
 use Rattle.switching.proofs.Answered.{Answered, outcome-refused, outcome-written, front-bytes}
-use Rattle.planner.specs.Plan.{changedState, Written}
-
--- ---- the state by value after a change
-pub changed-is : (st entered : State) (d : ℕ) (c : Change) → entered ≡ withEntry st d (c .entry)
-    → record { devices = entered .devices; on = c .needed } ≡ changedState st d c
-unfolding changedState
-changed-is st entered d c e = rw e refl
+use Rattle.planner.specs.Plan.{Written}
 
 -- ---- the words and the state of a permitted request, from the values as the code has them
 module _ (t b : List ℕ) (q : Request) (on : ℕ) (c : Change) (h : on ≡ status t b .on)
@@ -52,35 +44,26 @@ module _ (t b : List ℕ) (q : Request) (on : ℕ) (c : Change) (h : on ≡ stat
   list-is = rw change-is (words-are (ownCall (station t) (status t b .entries (q .device)) q) (ownLast q) (status t b .on) _ (station t))
 
 -- what is known of each value comes before what it is made of, so that the search finds the values in turn
-pub plan-written : (t b : List ℕ) (q : Request) (n : ℕ) (b′ plan plan′ : List ℕ) (after : State) → b′ ≡ storeState after
-    → (before : State) (c : Change) → after ≡ changedState before (q .device) c → before ≡ loadState b
+pub plan-written : (t b : List ℕ) (q : Request) (n : ℕ) (b′ plan plan′ : List ℕ) (c : Change)
+    → b′ ≡ imageOf (width t) (entryWith t b (q .device) (c .entry) (c .needed))
     → (on : ℕ) → c ≡ changeOf (station t) (statusWith t b on) q → on ≡ status t b .on
     → n ≡ length (switchingWords (station t) (c .switching)) → plan′ ≡ put plan 0 (switchingWords (station t) (c .switching))
-    → PermittedRequest t b q
     → Written t b q plan n b′ plan′
-unfolding changedState
-plan-written t b q n b′ plan plan′ after s before c m l on i h k w g =
+plan-written t b q n b′ plan plan′ c s on i h k w =
     let same = change-is t b q on c h i in
-    let image : storeState after ≡ stateAfter t b q =
-    ap storeState (m ∙ rw l refl)
-    ∙ after-image t b q (c .entry) (c .needed) (g .long) (omega (arith, g .device, g .ready .sized .devices))
-    (ap (λ (x : Change). x .entry) same) (ap (λ (x : Change). x .needed) same) in
+    let image = after-image t b q (c .entry) (c .needed) (ap (λ (x : Change). x .entry) same) (ap (λ (x : Change). x .needed) same) in
     let are = list-is t b q on c h i in
     record { count = k ∙ ap length are; state = s ∙ image; words = w ∙ ap (put plan 0) are }
 
 -- ---- what the code asks of its parts
-pub image-132 : (t b : List ℕ) (q : Request) → PermittedRequest t b q → length b ≡ 132
-unfolding versionWidth width
-image-132 t b q g = g .long
+module _ (t b : List ℕ) (q : Request) (g : PermittedRequest t b q) where
+  pub sized-table : WellSized t
+  sized-table = g .ready .sized
 
-pub device-32 : (t b : List ℕ) (q : Request) → PermittedRequest t b q → q .device < 32
-unfolding versionWidth width
-device-32 t b q g = omega (arith, g .device, g .ready .sized .devices)
+  pub device-inside : q .device < limit (width t)
+  device-inside = omega (arith, g .device, g .ready .sized .devices)
 
-pub sized-table : (t b : List ℕ) (q : Request) → PermittedRequest t b q → WellSized t
-sized-table t b q g = g .ready .sized
-
-pub ruleset writing = (image-132, device-32, sized-table, on-small)
+pub ruleset writing = (sized-table, device-inside, on-small)
 
 -- ---- the outcome
 

@@ -12,19 +12,21 @@ ghost use Rattle.rules.specs.Request.{inState};
 ghost use Rattle.rules.specs.Calls.{endSet};
 ghost use Rattle.rules.specs.Sleep.{moveTo};
 ghost use Rattle.rules.specs.Outcomes.{listRoom, plannedEach, stateAfterEach};
+ghost use Rattle.table.specs.Layout.{WellSized};
 ghost use Rattle.switching.specs.Written.{WrittenPlan};
 ghost use Rattle.sleep.specs.Chosen.{statesIn};
 ghost use Rattle.planner.specs.Moves.{moveList, stateMoved, allMoves, choiceList, choiceState, Turn, Given, WrittenFrom};
 
 // The words that a plan of sleep entry must have room for: a list for each device that there can be.
 pub fn room(table: &[u8]) -> usize
+    requires { ⌜ WellSized (now table) ⌝ }
     ensures { λ r. ⌜ (r ≡ limit (width (now (table .entry))) * listRoom (width (now (table .entry)))) × (r ≤ 4160) ⌝ }
 {
     table::fields::limit(table) * switching::write::room(table)
 }
 
 // What device d needs in its state in `chosen`.
-pub fn chosen_needs(table: &[u8], devices: &[u8], chosen: &[u8], d: usize) -> u32
+pub fn chosen_needs(table: &[u8], devices: &[u8], chosen: &[u8], d: usize) -> u64
     requires { ⌜ Turn (now table) (now devices) (now chosen) d ⌝ }
     ensures { λ r. ⌜ r ≡ needs (station (now (table .entry))) d
         (inState (entries (now (table .entry)) (now (devices .entry)) d) (statesIn (now (chosen .entry)) d)) ⌝ }
@@ -36,17 +38,18 @@ pub fn chosen_needs(table: &[u8], devices: &[u8], chosen: &[u8], d: usize) -> u3
         sleep: e.sleep,
         wake: e.wake,
     };
-    power::needs(table, d, taken)
+    let at = table::fields::start(table, d);
+    power::needs(table, d, at, table::fields::width(table), taken)
 }
 
 // The calls and the state of device d's move to its state in `chosen`, from the set needed after it; none if it stays. The move is deeper,
-// so its own call comes first. The state is written in the image itself, since 32 moves would copy it 64 times.
+// so its own call comes first. The state is written in the image itself, since a move for each device would copy it twice as often.
 pub fn write_move(
     table: &[u8],
     state: &mut [u8],
     chosen: &[u8],
     d: usize,
-    needed: u32,
+    needed: u64,
     buffer: &mut [u32],
 ) -> usize
     requires { ⌜ Turn (now table) (now state) (now chosen) d × (listRoom (width (now table)) ≤ length (now buffer))
@@ -68,7 +71,7 @@ pub fn write_move(
     let e = status::image::entry(state, d);
     let own = calls::own::own_call(table, e, q);
     let on = status::image::on_set(table, state);
-    let c = switching::switching(own, false, on, needed);
+    let c = switching::switching(table, own, false, on, needed);
     let n = switching::write::write_own_first(table, c, buffer);
     status::image::set_state(table, state, d, y, needed);
     n
@@ -80,7 +83,7 @@ fn move_words(
     state: &mut [u8],
     chosen: &[u8],
     d: usize,
-    needed: u32,
+    needed: u64,
     plan: &mut [u32],
     at: usize,
 ) -> usize
@@ -91,7 +94,7 @@ fn move_words(
         (stateMoved (now (table .entry)) (now (state .entry)) (statesIn (now (chosen .entry))) d)
         (now (plan .entry)) at r (now (state .exit)) (now (plan .exit)) ⌝ }
 {
-    let mut calls = [0u32; 33];
+    let mut calls = [0u32; 65];
     let n = write_move(table, state, chosen, d, needed, &mut calls);
     words::copy_words(&calls, n, plan, at);
     n
@@ -109,9 +112,9 @@ fn write_moves(table: &[u8], state: &mut [u8], chosen: &[u8], plan: &mut [u32]) 
         (allMoves (now (table .entry)) (now (state .entry)) (statesIn (now (chosen .entry)))))
         (now (plan .entry)) 0 r (now (state .exit)) (now (plan .exit)) ⌝ }
 {
-    let mut below = [0u32; 32];
+    let mut below = [0u64; 64];
     status::needed::needed_below(table, state, &mut below);
-    let mut above: u32 = 0;
+    let mut above: u64 = 0;
     let mut n = 0;
     let mut i = table::fields::devices(table);
     while 0 < i {

@@ -1,11 +1,9 @@
 // Plans one request: answers 1 to 18, 20 and 21, the calls into a lent plan, and the state after them. A refusal writes neither.
-use rules::Change;
 use rules::Request;
-use rules::State;
 use rules::Verdict;
 ghost use mathlib.Core.Path.{_≡_};
 ghost use mathlib.Core.Bool.{true, false};
-ghost use Prim.Native.Nat.{_<_, _≤_};
+ghost use Prim.Native.Nat.{_≤_};
 ghost use lib.ListN.{length};
 ghost use Rattle.rules.specs.Answers.{numberOf, countOf};
 ghost use Rattle.rules.specs.Station.{width};
@@ -14,20 +12,7 @@ ghost use Rattle.rules.specs.Outcomes.{listRoom, planWords};
 ghost use Rattle.laws.specs.Demand2.{Demand2Words};
 ghost use Rattle.laws.specs.Sleep.{SleepEntryWords};
 ghost use Rattle.request.specs.Permitted.{PermittedRequest};
-ghost use Rattle.planner.specs.Plan.{changedState, Written};
-
-// The state after a change: the device's new entry, and exactly what is then needed on.
-fn changed_state(before: State, d: usize, c: Change) -> State
-    requires { ⌜ d < 32 ⌝ }
-    ensures { λ r. ⌜ r ≡ changedState before d c ⌝ }
-{
-    let entered = status::image::with_entry(before, d, c.entry);
-    let devices = entered.devices;
-    State {
-        devices,
-        on: c.needed,
-    }
-}
+ghost use Rattle.planner.specs.Plan.{Written};
 
 // The calls and the state of a request that has passed every check.
 pub fn write_plan(table: &[u8], state: &mut [u8], q: Request, plan: &mut [u32]) -> usize
@@ -36,10 +21,8 @@ pub fn write_plan(table: &[u8], state: &mut [u8], q: Request, plan: &mut [u32]) 
 {
     let on = status::image::on_set(table, state);
     let c = request::change::change(table, state, on, q);
-    let before = status::image::load(state);
-    let after = changed_state(before, q.device as usize, c);
     let count = switching::write::write_calls(table, c.switching, plan);
-    status::image::store(after, state);
+    status::image::set_entry(table, state, q.device as usize, c.entry, c.needed);
     count
 }
 
@@ -50,8 +33,12 @@ fn request_words(table: &[u8], state: &mut [u8], q: Request, plan: &mut [u32]) -
         × (now (state .exit) ≡ planWords (now (table .entry)) (now (state .entry)) q (now (plan .entry)) .state)
         × (now (plan .exit) ≡ planWords (now (table .entry)) (now (state .entry)) q (now (plan .entry)) .plan) ⌝ }
 {
+    let of_table = table::check_table(table);
+    if !rules::passes(of_table) {
+        return of_table;
+    }
     let fits = plan.len() >= switching::write::room(table);
-    let v = request::stages::verdict(table, state, fits, q);
+    let v = request::stages::past_table(table, state, fits, q);
     if !rules::passes(v) {
         return v;
     }
@@ -65,12 +52,12 @@ fn sleep_words(table: &[u8], state: &mut [u8], q: Request, plan: &mut [u32]) -> 
         × (now (state .exit) ≡ planWords (now (table .entry)) (now (state .entry)) q (now (plan .entry)) .state)
         × (now (plan .exit) ≡ planWords (now (table .entry)) (now (state .entry)) q (now (plan .entry)) .plan) ⌝ }
 {
-    let fits = plan.len() >= crate::moves::room(table);
     let of_table = table::check_table(table);
     if !rules::passes(of_table) {
         return of_table;
     }
-    let mut chosen = [0u8; 32];
+    let fits = plan.len() >= crate::moves::room(table);
+    let mut chosen = [0u8; 64];
     let v = sleep::stages::past_table(table, state, fits, q, &mut chosen);
     if !rules::passes(v) {
         return v;

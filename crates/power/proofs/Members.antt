@@ -40,20 +40,20 @@ trailing-none (suc w) s (suc j) h =
     let l = rw even at h in
     member-suc s j ∙ trailing-none w (s / 2) j (omega (arith, l)))
 
-module _ (s : ℕ) (n : 0 < s) (h : s < 2 ^ 32) where
-  pub trailing-in : member s (trailingZeros 32 s) ≡ true
-  trailing-in = trailing-member 32 s n h
+module _ (s : ℕ) (n : 0 < s) (h : s < 2 ^ 64) where
+  pub trailing-in : member s (trailingZeros 64 s) ≡ true
+  trailing-in = trailing-member 64 s n h
 
-  pub trailing-lt : trailingZeros 32 s < 32
-  trailing-lt = member-below 32 s (trailingZeros 32 s) h trailing-in
+  pub trailing-lt : trailingZeros 64 s < 64
+  trailing-lt = member-below 64 s (trailingZeros 64 s) h trailing-in
 
-  pub trailing-least : trailingZeros 32 s ≡ least (member s) 32
+  pub trailing-least : trailingZeros 64 s ≡ least (member s) 64
   trailing-least =
-      let k = trailingZeros 32 s in
-      let l = least (member s) 32 in
-      decide (ltb k l) (λ e. absurd (true≢false (sym trailing-in ∙ none-below (member s) 0 32 k (omega arith) (ltb-true k l e))))
-      (λ e. decide (ltb l k) (λ f. absurd (true≢false (sym (hit (member s) 0 32 (omega (arith, ltb-true l k f, trailing-lt)))
-      ∙ trailing-none 32 s l (ltb-true l k f))))
+      let k = trailingZeros 64 s in
+      let l = least (member s) 64 in
+      decide (ltb k l) (λ e. absurd (true≢false (sym trailing-in ∙ none-below (member s) 0 64 k (omega arith) (ltb-true k l e))))
+      (λ e. decide (ltb l k) (λ f. absurd (true≢false (sym (hit (member s) 0 64 (omega (arith, ltb-true l k f, trailing-lt)))
+      ∙ trailing-none 64 s l (ltb-true l k f))))
       (λ f. omega (arith, ltb-false k l e, ltb-false l k f)))
 
 -- ---- the loop

@@ -5,17 +5,17 @@ ghost use Prim.Native.Nat.{_+_, _%_, _<_};
 ghost use lib.Dec.{leb, ltb};
 ghost use Rattle.sets.specs.Sets.{member};
 ghost use Rattle.rules.specs.Index.{least};
-ghost use Rattle.rules.specs.Station.{countR, countD, station};
+ghost use Rattle.rules.specs.Station.{countR, station};
 ghost use Rattle.rules.specs.Power.{poweredIn, wakeFrom, wakePowered, wakeRange, wakeState, wakePair};
-ghost use Rattle.table.specs.Layout.{WellSized};
+ghost use Rattle.table.specs.Layout.{WellSized, RecordAt};
 
 // `_PRW` exists, and x is not above its deepest state.
-pub fn wake_from(table: &[u8], d: usize, x: u8) -> bool
-    requires { ⌜ WellSized (now table) × (d < countD (now table)) ⌝ }
+pub fn wake_from(table: &[u8], d: usize, at: usize, w: usize, x: u8) -> bool
+    requires { ⌜ RecordAt (now table) d at w ⌝ }
     ensures { λ r. ⌜ r ≡ wakeFrom (station (now (table .entry))) d x ⌝ }
 {
-    if crate::has_prw(table, d) {
-        return x <= table::fields::deepest(table, d);
+    if crate::has_prw(table, d, at, w) {
+        return x <= record::read::deepest(table, at, w);
     }
     false
 }
@@ -32,15 +32,15 @@ pub fn powered(table: &[u8], r: usize, x: u8) -> bool
 }
 
 // The lowest member of a set that has one, found by the machine and not by a loop.
-fn lowest(set: u32) -> u32
+fn lowest(set: u64) -> u32
     requires { ⌜ 0 < set ⌝ }
-    ensures { λ r. ⌜ (r ≡ least (member set) 32) × (member set r ≡ true) × (r < 32) ⌝ }
+    ensures { λ r. ⌜ (r ≡ least (member set) 64) × (member set r ≡ true) × (r < 64) ⌝ }
 {
-    u32::trailing_zeros(set)
+    u64::trailing_zeros(set)
 }
 
 // Every resource of a set has systemlevel x or more: from one member to the next, so that a small set takes few turns.
-pub fn powered_in(table: &[u8], set: u32, x: u8) -> bool
+pub fn powered_in(table: &[u8], set: u64, x: u8) -> bool
     requires { ⌜ WellSized (now table) ⌝ }
     ensures { λ r. ⌜ r ≡ poweredIn (station (now (table .entry))) x set ⌝ }
 {
@@ -56,11 +56,11 @@ pub fn powered_in(table: &[u8], set: u32, x: u8) -> bool
 }
 
 // Every `_PRW` resource has systemlevel x or more.
-pub fn wake_powered(table: &[u8], d: usize, x: u8) -> bool
-    requires { ⌜ WellSized (now table) × (d < countD (now table)) ⌝ }
+pub fn wake_powered(table: &[u8], d: usize, at: usize, w: usize, x: u8) -> bool
+    requires { ⌜ RecordAt (now table) d at w ⌝ }
     ensures { λ r. ⌜ r ≡ wakePowered (station (now (table .entry))) d x ⌝ }
 {
-    powered_in(table, table::fields::set(table, d, 4), x)
+    powered_in(table, record::read::set(table, at, w, 4), x)
 }
 
 // The wake range of each `_SxD` and `_SxW`: a row for each pair, and in it a digit for each state, from D3cold down to D0; 150 verdicts in
@@ -115,32 +115,32 @@ pub fn wake_range(sxd: u8, sxw: u8, x: u8) -> bool
     if from > 4 || to > 5 || x > 4 {
         return false;
     }
-    sets::has(VERDICTS[from as usize], to * 5 + x as u32)
+    sets::narrow::has(VERDICTS[from as usize], to * 5 + x as u32)
 }
 
 // State y is supported and in the wake range for x.
-pub fn wake_state(table: &[u8], d: usize, x: u8, y: u8) -> bool
-    requires { ⌜ WellSized (now table) × (d < countD (now table)) × (x < 5) ⌝ }
+pub fn wake_state(table: &[u8], d: usize, at: usize, w: usize, x: u8, y: u8) -> bool
+    requires { ⌜ RecordAt (now table) d at w × (x < 5) ⌝ }
     ensures { λ r. ⌜ r ≡ wakeState (station (now (table .entry))) d x y ⌝ }
 {
-    if crate::supported(table, d, y) {
-        let sxd = table::fields::sxd(table, d, x as usize);
-        let sxw = table::fields::sxw(table, d, x as usize);
+    if crate::supported(table, d, at, w, y) {
+        let sxd = record::read::sxd(table, at, w, x as usize);
+        let sxw = record::read::sxw(table, at, w, x as usize);
         return wake_range(sxd, sxw, y);
     }
     false
 }
 
 // The wake pair (x, y) is legal.
-pub fn wake_pair(table: &[u8], d: usize, x: u8, y: u8) -> bool
-    requires { ⌜ WellSized (now table) × (d < countD (now table)) × (x < 5) ⌝ }
+pub fn wake_pair(table: &[u8], d: usize, at: usize, w: usize, x: u8, y: u8) -> bool
+    requires { ⌜ RecordAt (now table) d at w × (x < 5) ⌝ }
     ensures { λ r. ⌜ r ≡ wakePair (station (now (table .entry))) d x y ⌝ }
 {
-    if !wake_from(table, d, x) {
+    if !wake_from(table, d, at, w, x) {
         return false;
     }
-    if !wake_powered(table, d, x) {
+    if !wake_powered(table, d, at, w, x) {
         return false;
     }
-    wake_state(table, d, x, y)
+    wake_state(table, d, at, w, x, y)
 }

@@ -4,14 +4,14 @@
 use mathlib.Core.Path.{_≡_, refl, sym, ap, _∙_}
 use mathlib.Core.Bool.{Bool, true, false, not, _&&_, _||_, and-assoc, and-true, or-true, true≢false}
 use mathlib.Core.List.{List}
-use Prim.Native.Nat.{ℕ, zero, suc, _+_, _*_, _%_, _^_, _≤_, _<_}
-use native.Mathlib.Nat.{mul-zero, mul-le-mul-right, pow-suc}
+use Prim.Native.Nat.{ℕ, zero, suc, _+_, _*_, _-_, _%_, _^_, _≤_, _<_}
+use native.Mathlib.Nat.{mul-zero, mul-le-mul-right, pow-suc, mod-eq-of-lt}
 use native.Mathlib.Omega.{arith}
 use borrow.Author.Tests.{eqb-true, eq-eqb, ltb-true, lt-ltb, not-true, not-false}
-use lib.Bits.{bitOr, and-le-l, and-le-r, or-lt, or-add-and}
+use lib.Bits.{bitAnd, bitOr, bitXor, and-le-l, and-le-r, and-mask, mask-lt, or-lt, or-add-and, xor-add-and, xor-self}
 use lib.Dec.{eqb, ltb}
 use lib.ListN.{getD}
-use Rattle.sets.specs.Sets.{member}
+use Rattle.sets.specs.Sets.{member, minus, firstN, subset}
 use Rattle.sets.proofs.Laws.{decide, or-none}
 use Rattle.words.specs.Words.{readLE}
 use Rattle.words.proofs.Twice.{read-split}
@@ -37,7 +37,7 @@ both-zero a b c f g h =
     (λ e. let z = eqb-true c 0 e in tests.and-true _ _ (eq-eqb a 0 (f z)) (eq-eqb b 0 (g z)))
     (λ e. let z = both-true (eqb a 0) (eqb b 0) e in eq-eqb c 0 (h (eqb-true a 0 (z .0)) (eqb-true b 0 (z .1))))
 
-sum-zero : (n a b : ℕ) → 0 < n → eqb (a + n * b) 0 ≡ eqb a 0 && eqb b 0
+pub sum-zero : (n a b : ℕ) → 0 < n → eqb (a + n * b) 0 ≡ eqb a 0 && eqb b 0
 sum-zero n a b h =
     let l = mul-le-mul-right b h in
     both-zero a b (a + n * b) (λ z. omega arith) (λ z. omega arith) (λ x y. rw (x, y, mul-zero n) refl)
@@ -51,6 +51,16 @@ union-fits a b n =
     (λ e. let h = ltb-true (bitOr a b) (2 ^ n) e in tests.and-true _ _ (lt-ltb a (2 ^ n) (omega arith)) (lt-ltb b (2 ^ n) (omega arith)))
     (λ e. let h = both-true (ltb a (2 ^ n)) (ltb b (2 ^ n)) e in
     lt-ltb (bitOr a b) (2 ^ n) (or-lt n a b (ltb-true a (2 ^ n) (h .0)) (ltb-true b (2 ^ n) (h .1))))
+
+-- within the first n resources is below 2 ^ n
+within-first : (s n : ℕ) → subset s (firstN n) ≡ ltb s (2 ^ n)
+unfolding subset minus firstN
+within-first s n =
+    let low = bitAnd s (2 ^ n - 1) in
+    let is : low ≡ s % 2 ^ n = and-mask s n in
+    same-test (eqb (bitXor s low) 0) (ltb s (2 ^ n))
+    (λ e. lt-ltb s (2 ^ n) (omega (arith, eqb-true (bitXor s low) 0 e, xor-add-and s low, and-le-r s low, mask-lt s n)))
+    (λ e. let same : low ≡ s = is ∙ mod-eq-of-lt (ltb-true s (2 ^ n) e) in eq-eqb (bitXor s low) 0 (rw same (xor-self s)))
 
 -- ---- one test of each number below n
 every-field : (p : ℕ → ℕ) (g : ℕ → Bool) (n : ℕ) → allGood (each (λ k. field (p k) (g k)) n) ≡ every g n
@@ -106,10 +116,10 @@ module _ (v : Device) where
 
   -- ---- no bit at or above R
   pub fit-test : (resources a b c d e : ℕ) (f : Bool) → a ≡ v .sets 0 → b ≡ v .sets 1 → c ≡ v .sets 2 → d ≡ v .sets 3 → e ≡ v .sets 4
-      → f ≡ ltb (bitOr (bitOr (bitOr (bitOr a b) c) d) e) (2 ^ resources) → f ≡ setsFit resources v
+      → (all : ℕ) → f ≡ subset (bitOr (bitOr (bitOr (bitOr a b) c) d) e) all → all ≡ firstN resources → f ≡ setsFit resources v
   unfolding setsFit
-  fit-test resources a b c d e f p q r s u g =
-      g ∙ rw (union-fits, union-fits, union-fits, union-fits, p, q, r, s, u) (five (λ k. ltb (v .sets k) (2 ^ resources)))
+  fit-test resources a b c d e f p q r s u all g is =
+      g ∙ rw (is, within-first, union-fits, union-fits, union-fits, union-fits, p, q, r, s, u) (five (λ k. ltb (v .sets k) (2 ^ resources)))
 
   -- ---- the sets of absent objects
   module _ (k : ℕ) (b : Bool) (e : b ≡ present v k) where
@@ -182,13 +192,13 @@ halves w resources v =
     ∙ every-both (λ k. ltb (v .sets k) (2 ^ resources)) (λ k. present v k || eqb (v .sets k) 0) 5
 
 module _ (w resources : ℕ) (v : Device) (a b c d e : ℕ) (p : a ≡ v .sets 0) (q : b ≡ v .sets 1) (r : c ≡ v .sets 2) (s : d ≡ v .sets 3)
-    (u : e ≡ v .sets 4) (f : Bool) (g : f ≡ ltb (bitOr (bitOr (bitOr (bitOr a b) c) d) e) (2 ^ resources)) where
+    (u : e ≡ v .sets 4) (f : Bool) (all : ℕ) (g : f ≡ subset (bitOr (bitOr (bitOr (bitOr a b) c) d) e) all) (is : all ≡ firstN resources) where
   pub sets-unfit : not f ≡ true → false ≡ allGood (setFields w resources v)
-  sets-unfit h = rw (halves w resources v, sym (fit-test v resources a b c d e f p q r s u g) ∙ not-true f h) refl
+  sets-unfit h = rw (halves w resources v, sym (fit-test v resources a b c d e f p q r s u all g is) ∙ not-true f h) refl
 
   module _ (h : not f ≡ false) where
     past-fit : setsAbsent v ≡ allGood (setFields w resources v)
-    past-fit = rw (halves w resources v, sym (fit-test v resources a b c d e f p q r s u g) ∙ not-false f h) refl
+    past-fit = rw (halves w resources v, sym (fit-test v resources a b c d e f p q r s u all g is) ∙ not-false f h) refl
 
     pub sets-there : (pr : ℕ) (o : Bool) → pr ≡ v .pr → o ≡ present v 4 → eqb pr 15 && o ≡ true → true ≡ allGood (setFields w resources v)
     sets-there pr o x y z = all-present v pr o x y z ∙ past-fit

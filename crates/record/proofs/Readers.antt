@@ -68,6 +68,13 @@ module _ (w : ℕ) (t : List ℕ) (at : ℕ) where
       let j : at + i ≡ at + 4 + w * k = omega arith in
       f ∙ rw j (sym (below-in 5 0 (λ j. readLE w t (at + 4 + w * j)) k h))
 
+  -- the same where the code branches on w
+  pub set-8 : (k v : ℕ) → w ≡ 8 → k < 5 → v ≡ readLE 8 t (at + 4 + 8 * k) → v ≡ deviceAt w t at .sets k
+  set-8 k v e h f = set-at k (4 + w * k) v h refl (rw e (f ∙ ap (readLE 8 t) (omega arith)))
+
+  pub set-4 : (k v : ℕ) → Wide w → (w ≡ 8 → ⊥) → k < 5 → v ≡ readLE 4 t (at + 4 + 4 * k) → v ≡ deviceAt w t at .sets k
+  set-4 k v g n h f = set-at k (4 + w * k) v h refl (rw (four w g n) (f ∙ ap (readLE 4 t) (omega arith)))
+
   pub sxd-at : (x : ℕ) → x < 5 → (x ≡ 0 → ⊥) → getD t (at + 3 + 5 * w + x) 0 ≡ deviceAt w t at .sxd x
   unfolding deviceAt
   sxd-at x h n = rw (below-in 5 absent (λ y. cond (eqb y 0) absent (getD t (at + 3 + 5 * w + y) 0)) x h, ne-eqb x 0 n) refl
@@ -87,4 +94,6 @@ module _ (w : ℕ) (t : List ℕ) (at : ℕ) where
 
 pub ruleset at-width = (read-8, read-4, write-8, write-4, fits-8, fits-4, start-8, start-4)
 
-pub ruleset fields-at = (parent-at, ps-at, pr-at, flags-at, set-at, sxd-at, sxd-none, sxw-at, deepest-at)
+pub ruleset set-reads = (set-8, set-4, fits-8, fits-4)
+
+pub ruleset fields-at = (parent-at, ps-at, pr-at, flags-at, sxd-at, sxd-none, sxw-at, deepest-at)

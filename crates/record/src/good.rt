@@ -20,7 +20,7 @@ pub fn parent_good(table: &[u8], at: usize, w: usize, d: usize) -> bool
 pub fn bit(mask: u8, x: u32) -> bool
     ensures { λ b. ⌜ b ≡ member mask x ⌝ }
 {
-    sets::has(words::wide(mask), x)
+    sets::narrow::has(words::wide(mask), x)
 }
 
 // Whether set k's object is there: `_PR0` to `_PR3`, or `_PRW`.
@@ -40,7 +40,7 @@ pub fn set_good(table: &[u8], at: usize, w: usize, k: usize, resources: usize) -
     ensures { λ b. ⌜ b ≡ setGood resources (deviceAt w (now (table .entry)) at) k ⌝ }
 {
     let s = crate::read::set(table, at, w, k);
-    crate::word::fits(s, resources as u32) & (present(table, at, w, k) | (s == 0))
+    sets::fits(s, resources as u32) & (present(table, at, w, k) | (s == 0))
 }
 
 // `_SxD`: 0 to 3 or absent, and not larger than `_SxW` where both are present. An absent `_SxW`, 255, is larger than any state.

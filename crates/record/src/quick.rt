@@ -40,7 +40,7 @@ fn sets_good(table: &[u8], at: usize, w: usize, resources: usize) -> bool
     let c = crate::read::set(table, at, w, 2);
     let d = crate::read::set(table, at, w, 3);
     let e = crate::read::set(table, at, w, 4);
-    if !crate::word::fits(a | b | c | d | e, resources as u32) {
+    if !sets::within(a | b | c | d | e, sets::first_n(resources as u32)) {
         return false;
     }
     if (crate::read::pr(table, at, w) == 15) & crate::good::present(table, at, w, 4) {

@@ -55,12 +55,15 @@ pub fn set_start(w: usize, k: usize) -> usize
     4 + 4 * k
 }
 
-// Set k: `_PR0` to `_PR3`, and `_PRW` for 4.
+// Set k: `_PR0` to `_PR3`, and `_PRW` for 4. One branch for its place and its size, which the compiler shares among several sets.
 pub fn set(table: &[u8], at: usize, w: usize, k: usize) -> u64
     requires { ⌜ Wide w × (at + fieldsSize w ≤ length (now table)) × (k < 5) ⌝ }
     ensures { λ v. ⌜ (v ≡ deviceAt w (now (table .entry)) at .sets k) × (v < 256 ^ w) ⌝ }
 {
-    crate::word::read(table, at + set_start(w, k), w)
+    if w == 8 {
+        return crate::word::read64(table, at + 4 + 8 * k);
+    }
+    words::read32(table, at + 4 + 4 * k) as u64
 }
 
 // `_SxD`, or 255; S0 has none.

@@ -1,13 +1,12 @@
-// Numbers of w bytes, and sets of up to 64 resources: what the crates `words` and `sets` have for 32 bits.
+// Numbers of w bytes, read and written: 4 in version 1, 8 in version 2.
 ghost use mathlib.Core.Path.{_≡_};
 ghost use Prim.Native.Nat.{_+_, _^_, _<_, _≤_};
-ghost use lib.Dec.{ltb};
 ghost use lib.ListN.{length};
 ghost use Rattle.words.specs.Words.{readLE, bytesLE, put};
 ghost use Rattle.rules.specs.Station.{Wide};
 
 // The number that the eight bytes from `at` on make.
-fn read64(s: &[u8], at: usize) -> u64
+pub fn read64(s: &[u8], at: usize) -> u64
     requires { ⌜ at + 8 ≤ length (now s) ⌝ }
     ensures { λ r. ⌜ r ≡ readLE 8 (now (s .entry)) at ⌝ }
 {
@@ -44,14 +43,4 @@ pub fn write(s: &mut [u8], at: usize, w: usize, x: u64)
         return;
     }
     words::write32(s, at, (x % 0x1_0000_0000) as u32);
-}
-
-// Whether s has no resource from n on.
-pub fn fits(s: u64, n: u32) -> bool
-    ensures { λ t. ⌜ t ≡ ltb s (2 ^ n) ⌝ }
-{
-    if n < 64 {
-        return (s >> n) == 0;
-    }
-    true
 }

@@ -60,6 +60,11 @@ module _ (t b : List ℕ) (q : Request) (g : PermittedRequest t b q) where
   unfolding endSet
   needed-is n e f read new need = need ∙ rw (new, own-entry e read) refl
 
+  -- it has resources of the table alone
+  pub needed-lt : (n : ℕ) → n ≡ endSet (station t) (entries t b) q → n < 2 ^ countR t
+  unfolding statusOf
+  needed-lt n need = rw need (unfold stationOf in able t b q stages .end)
+
   -- ---- the parts together
   module _ (on n : ℕ) (e f : Entry) (o : OptionalCall) (l : Bool) (w : Switching) (is : w ≡ switchingOf o l on n) where
     abbrev made : Change
@@ -70,15 +75,11 @@ module _ (t b : List ℕ) (q : Request) (g : PermittedRequest t b q) where
       pub change-is : l ≡ ownLast q → made ≡ changeOf (station t) (statusWith t b on) q
       change-is last = rw (is, own, last, need, new, own-entry e read) refl
 
-      needed-lt : n < 2 ^ countR t
-      unfolding statusOf
-      needed-lt = rw need (unfold stationOf in able t b q stages .end)
-
       pub change-good : on < 2 ^ countR t → GoodSwitching t w
       change-good h =
-          rw is (switching-good o l on n t h needed-lt (own-in-range t e q o own (g .ready .sized) (g .device) (g .first) (g .second)))
+          rw is (switching-good o l on n t h (needed-lt n need) (own-in-range t e q o own (g .ready .sized) (g .device) (g .first) (g .second)))
 
-pub ruleset changes = (needed-is, change-is, change-good)
+pub ruleset changes = (needed-is, needed-lt, change-is, change-good)
 
 -- the status of an image is that of its entries with its own on-set
 pub status-with : (t b : List ℕ) (on : ℕ) → on ≡ status t b .on → statusWith t b on ≡ status t b

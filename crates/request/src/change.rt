@@ -10,7 +10,7 @@ ghost use Rattle.status.specs.Ready.{statusWith};
 ghost use Rattle.switching.specs.Switching.{GoodSwitching};
 ghost use Rattle.request.specs.Permitted.{PermittedRequest};
 
-pub fn change(table: &[u8], devices: &[u8], on: u32, q: Request) -> Change
+pub fn change(table: &[u8], devices: &[u8], on: u64, q: Request) -> Change
     requires { ⌜ PermittedRequest (now table) (now devices) q × (on < 2 ^ countR (now table)) ⌝ }
     ensures { λ r. ⌜ (r ≡ changeOf (station (now (table .entry))) (statusWith (now (table .entry)) (now (devices .entry)) on) q)
         × GoodSwitching (now (table .entry)) (r .switching) ⌝ }
@@ -21,7 +21,7 @@ pub fn change(table: &[u8], devices: &[u8], on: u32, q: Request) -> Change
     let needed = status::needed::needed_with(table, devices, d, entry);
     let own = calls::own::own_call(table, e, q);
     let last = calls::own::own_last(q);
-    let switching = switching::switching(own, last, on, needed);
+    let switching = switching::switching(table, own, last, on, needed);
     Change {
         entry,
         needed,

@@ -90,13 +90,15 @@ fn move_verdict(table: &[u8], devices: &[u8], d: usize, x: u8) -> Verdict
     ensures { λ r. ⌜ r ≡ moveVerdict (station (now (table .entry))) (entries (now (table .entry)) (now (devices .entry))) d x ⌝ }
 {
     let e = status::image::entry(devices, d);
-    if !power::supported(table, d, x) {
+    let at = table::fields::start(table, d);
+    let w = table::fields::width(table);
+    if !power::supported(table, d, at, w, x) {
         return Verdict::Refused(Reason::Unsupported, 0);
     }
     if !not_shallower_or_d0(e, x) {
         return Verdict::Refused(Reason::Shallower, 0);
     }
-    if !status::consistency::parent_allows(table, devices, d, x) {
+    if !status::consistency::parent_allows(table, devices, d, at, w, x) {
         return Verdict::Refused(
             Reason::ParentDeeper,
             table::fields::parent(table, d) as usize,
@@ -137,13 +139,15 @@ fn arm_verdict(table: &[u8], devices: &[u8], d: usize, x: u8, y: u8) -> Verdict
     requires { ⌜ Ready (now table) (now devices) × (d < countD (now table)) × (x < 5) ⌝ }
     ensures { λ r. ⌜ r ≡ armVerdict (station (now (table .entry))) (entries (now (table .entry)) (now (devices .entry))) d x y ⌝ }
 {
-    if !power::wake::wake_from(table, d, x) {
+    let at = table::fields::start(table, d);
+    let w = table::fields::width(table);
+    if !power::wake::wake_from(table, d, at, w, x) {
         return Verdict::Refused(Reason::NoWake, 0);
     }
-    if !power::wake::wake_powered(table, d, x) {
+    if !power::wake::wake_powered(table, d, at, w, x) {
         return Verdict::Refused(Reason::WakeUnpowered, 0);
     }
-    if !power::wake::wake_state(table, d, x, y) {
+    if !power::wake::wake_state(table, d, at, w, x, y) {
         return Verdict::Refused(Reason::BadWakeState, 0);
     }
     let e = status::image::entry(devices, d);

@@ -2,7 +2,7 @@
 use mathlib.Core.Path.{_≡_, refl}
 use mathlib.Core.Bool.{true, false}
 use mathlib.Core.List.{[], _∷_, _++_, map}
-use lib.ListN.{replicate}
+use lib.ListN.{take, replicate}
 use Rattle.sets.specs.Sets.{member, union, minus, single, firstN, subset}
 use Rattle.words.specs.Words.{readLE, bytesLE, put, wordBytes, byteWords}
 use Rattle.rules.specs.Index.{leastFrom, every, below, eachFrom, each, joinFrom}
@@ -44,8 +44,9 @@ use Rattle.rules.specs.Outcomes.{sleepStage, sleepStages, plannedEach, s
 use Rattle.rules.specs.SleepRows.{sleepDoneRows, sleepRefusedRows, stepsTable, portTable, scannerTable}
 use Rattle.rules.specs.Execution.{carryOut, execution}
 use Rattle.rules.specs.Rows.{bytes, rows, benchTable, benchDevices}
-use Rattle.rules.specs.OwnStation.{ownTable, ownState, wideTable}
+use Rattle.rules.specs.OwnStation.{ownTable, ownState, fullTable}
 use Rattle.rules.specs.OwnRows.{ownRows, callWords, otherWords}
+use Rattle.rules.specs.WideStation.{rig, flash, rigTable, wideBenchTable}
 use Rattle.rules.specs.Holds.{same, answers, freshAnswers, startOf, stateOf, endState, leaves, wordRead, wordsRead, agree}
 use Rattle.rules.specs.Holds.{changes, carried, checks, checksAll, holdsFrom, holdsIn, holds, wrong, holdsBringUpIn, holdsBringUp}
 use Rattle.rules.specs.Holds.{plans, holdsSleepIn, holdsSleep}
@@ -65,7 +66,7 @@ unfolding member union minus single firstN subset readLE bytesLE put wordBytes b
     freshVerdict fresh readyVerdict requestStage stagesVerdict planVerdict planOutcome planned stateAfter planRoom planStages
     planList planState planBytes listVerdict ofBytes checkBytes carryOut execution wakeOf
     callOfBytes callOf planWords checkWords recordPart same answers freshAnswers startOf stateOf endState leaves wordRead wordsRead
-    agree switchingWords changes carried checks checksAll plans holdsFrom holdsIn wrong ownTable ownState wideTable
+    agree switchingWords changes carried checks checksAll plans holdsFrom holdsIn wrong ownTable ownState fullTable
 all-hold = (refl, refl)
 
 -- and so do the rows of bring-up
@@ -82,7 +83,7 @@ unfolding member union minus single readLE bytesLE put wordBytes byteWords least
     butPowerVerdict stateButPowerVerdict bringUpStages bringUpCalls statusNeeded bringUpList stateBroughtUp bringUpWords bringUpBytes
     checkBringUpWords
     checkBringUpBytes same answers endState leaves wordRead wordsRead agree carried checks checksAll plans holdsBringUpIn wrong ownTable
-    wideTable
+    fullTable
 bring-up-holds = (refl, refl)
 
 -- and those of sleep entry
@@ -117,15 +118,20 @@ unfolding member carryOut execution
 in-order = (refl, refl)
 
 -- the bench station is described byte for byte, and the descriptions of it, of the station of our own and of one with large sets make their
--- tables
+-- tables; as version 2 it is described by the same bytes, and they make the table of either version
 pub described-holds :
     (devicesOf benchTable ≡ benchDevices)
     × (tableBytes 1 (resourcesOf benchTable) benchDevices ≡ benchTable)
     × (tableBytes 1 (resourcesOf ownTable) (devicesOf ownTable) ≡ ownTable)
-    × (tableBytes 1 (resourcesOf wideTable) (devicesOf wideTable) ≡ wideTable)
+    × (tableBytes 1 (resourcesOf fullTable) (devicesOf fullTable) ≡ fullTable)
+    × (devicesOf wideBenchTable ≡ benchDevices)
+    × (tableBytes 1 (resourcesOf wideBenchTable) benchDevices ≡ benchTable)
+    × (tableBytes 2 (resourcesOf benchTable) benchDevices ≡ wideBenchTable)
+    × (devicesOf rigTable ≡ take 54 rig ++ take 54 flash)
+    × (tableBytes 2 (resourcesOf rigTable) (devicesOf rigTable) ≡ rigTable)
 unfolding readLE bytesLE below eachFrom joinFrom versionWidth width deviceStart deviceAt fieldBytes resourcesOf devicesOf headerBytes
-    recordBytes tableBytes ownTable wideTable
-described-holds = (refl, refl, refl, refl)
+    recordBytes tableBytes ownTable fullTable rigTable wideBenchTable
+described-holds = (refl, refl, refl, refl, refl, refl, refl, refl, refl)
 
 -- the writer answers as its rows say; describing answers 9 if either buffer is a byte short, after what is wrong with the table
 pub written-holds :
@@ -133,6 +139,8 @@ pub written-holds :
     × (describing benchTable 12 162 ≡ 0 ∷ 0 ∷ 174 ∷ [])
     × (describing benchTable 11 162 ≡ 9 ∷ 0 ∷ 0 ∷ [])
     × (describing benchTable 12 161 ≡ 9 ∷ 0 ∷ 0 ∷ [])
+    × (describing rigTable 256 108 ≡ 0 ∷ 0 ∷ 364 ∷ [])
+    × (describing rigTable 256 107 ≡ 9 ∷ 0 ∷ 0 ∷ [])
     × (describing (put benchTable 12 (5 ∷ [])) 0 0 ≡ 4 ∷ 1 ∷ 0 ∷ [])
     × (describing (bytes 8 0x5057540001000000) 0 0 ≡ 0 ∷ 0 ∷ 0 ∷ [])
 unfolding member readLE put leastFrom below eachFrom joinFrom passes firstOf unless lowest versionGood versionWidth width deviceStart
@@ -140,16 +148,19 @@ unfolding member readLE put leastFrom below eachFrom joinFrom passes firstOf unl
     headerGood countsGood lengthGood firstBad allGood resourceGood parentGood present setGood sxdGood sxwGood deepestGood headFields
     setFields sxdFields sxwFields deepestFields valueFields zeroFields deviceFields badField fieldsGood objectsGood fieldsOrObjects
     deviceGood tableVerdict describedResourceGood describedFieldsGood describedDeviceGood recordsVerdict describedCountsGood writeVerdict
-    describeVerdict
-written-holds = (refl, refl, refl, refl, refl, refl)
+    describeVerdict rigTable
+written-holds = (refl, refl, refl, refl, refl, refl, refl, refl)
 
 -- what is written and described stands at the front of the lent buffers, and what is refused leaves them
 pub lent-holds :
     (write 1 benchResources benchDevices (replicate 142 7) .table ≡ benchTable ++ 7 ∷ 7 ∷ [])
+    × (write 2 benchResources benchDevices (replicate 214 7) .table ≡ wideBenchTable ++ 7 ∷ 7 ∷ [])
     × (write 1 benchResources benchDevices (replicate 139 7) .table ≡ replicate 139 7)
+    × (write 2 benchResources benchDevices (replicate 211 7) .table ≡ replicate 211 7)
     × (write 1 benchResources (put benchDevices 161 (1 ∷ [])) (replicate 142 7) .table ≡ replicate 142 7)
     × (describe benchTable (replicate 13 7) (replicate 163 7) .resources ≡ benchResources ++ 7 ∷ [])
     × (describe benchTable (replicate 13 7) (replicate 163 7) .devices ≡ benchDevices ++ 7 ∷ [])
+    × (describe wideBenchTable (replicate 13 7) (replicate 163 7) .devices ≡ benchDevices ++ 7 ∷ [])
     × (describe benchTable (replicate 13 7) (replicate 161 7) .resources ≡ replicate 13 7)
     × (describe benchTable (replicate 11 7) (replicate 163 7) .devices ≡ replicate 163 7)
     × (describe (put benchTable 9 (1 ∷ [])) (replicate 13 7) (replicate 163 7) .devices ≡ replicate 163 7)
@@ -158,4 +169,5 @@ unfolding member readLE bytesLE put leastFrom below eachFrom joinFrom passes fir
     sxwGood deepestGood headFields setFields sxdFields sxwFields deepestFields valueFields zeroFields deviceFields badField fieldsGood
     objectsGood fieldsOrObjects deviceGood tableVerdict resourcesOf devicesOf headerBytes recordBytes tableBytes describedResourceGood
     describedFieldsGood describedDeviceGood recordsVerdict describedCountsGood writeVerdict describeVerdict write describe
-lent-holds = (refl, refl, refl, refl, refl, refl, refl, refl)
+    wideBenchTable
+lent-holds = (refl, refl, refl, refl, refl, refl, refl, refl, refl, refl, refl)

@@ -1,4 +1,5 @@
 pub mod Hold
+pub mod HoldWide
 pub mod Index
 pub mod Answers
 pub mod Width

@@ -5,7 +5,7 @@ use lib.ListN.{take, replicate}
 use Rattle.words.specs.Words.{put}
 use Rattle.rules.specs.Index.{join}
 use Rattle.rules.specs.Rows.{bytes, image, benchTable, Answer, Listed, withAnswer, conforms, differs, done, refused, noRoom}
-use Rattle.rules.specs.OwnStation.{ownTable, wideTable, state}
+use Rattle.rules.specs.OwnStation.{ownTable, fullTable, state}
 
 -- what is lent, what must come, and other lists for the checker
 pub record BringUpRow : Type 0 where
@@ -93,10 +93,10 @@ doneRows =
     (differs 4 0x01000080 ∷ differs 4 0x01000100 ∷ differs 4 0x01200000 ∷ differs 3 0x010000 ∷ [])
     ∷
     -- 32 resources of equal order: sets of four bytes, and a plan of 34 words and a byte; and the longest list
-    lentBringUp wideTable (replicate 132 0) 137
+    lentBringUp fullTable (replicate 132 0) 137
     (done (bytes 20 0x01000000_01080000_01100000_01180000_011f0000) (bytes 4 0x00000000) 0x81010101) []
     ∷
-    lentBringUp wideTable (image 1 0x04000000 0xffff_ffff) 132
+    lentBringUp fullTable (image 1 0x04000000 0xffff_ffff) 132
     (done (join (λ k. 2 ∷ (31 - k) ∷ 0 ∷ 0 ∷ []) 32) (bytes 4 0x04000000) 0) []
     ∷
     -- our station, all but the led in D3hot: r4 by the hub's `_PR0`, r1 by the radio's `_PR1`; orders 255, 65535, then 256, 5, 0

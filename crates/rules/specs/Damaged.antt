@@ -32,13 +32,13 @@ badStates number place edits = map (λ e. badState number place (put ownState (e
 abbrev pub damagedRows : List Row
 damagedRows =
     -- 1: mark, version, byte 7; before 2; under 8 bytes
-    badTables 1 0 (edit 0 1 0x51 ∷ edit 1 1 0x77 ∷ edit 2 1 0x74 ∷ edit 4 1 0x00 ∷ edit 4 1 0x02 ∷ edit 5 1 0x01 ∷ edit 7 1 0x01 ∷ [])
+    badTables 1 0 (edit 0 1 0x51 ∷ edit 1 1 0x77 ∷ edit 2 1 0x74 ∷ edit 4 1 0x00 ∷ edit 4 1 0x03 ∷ edit 5 1 0x01 ∷ edit 7 1 0x01 ∷ [])
     ++ badTables 1 0 (edit 0 4 0x51575421 ∷ [])
     ++ badTable 1 0 (bytes 7 0x50575400010000) ∷
     badTable 1 0 [] ∷
-    -- 2: R, D; 3: too long, too short; before 4
+    -- 2: R, D; 3: too long, too short, the records of version 1 in a table of version 2; before 4
     badTables 2 0 (edit 3 1 0x21 ∷ edit 6 1 0x21 ∷ [])
-    ++ badTables 3 0 (edit 3 1 0x20 ∷ edit 6 1 0x20 ∷ edit 232 1 0x00 ∷ edit 3 6 0x05010005_0005 ∷ [])
+    ++ badTables 3 0 (edit 3 1 0x20 ∷ edit 6 1 0x20 ∷ edit 232 1 0x00 ∷ edit 4 1 0x02 ∷ edit 3 6 0x05010005_0005 ∷ [])
     ++ badTable 3 0 (take 139 benchTable) ∷
     badTable 3 0 (benchTable ++ 0 ∷ []) ∷
     -- 4: systemlevel, reserved byte; the lowest; before 5

@@ -50,14 +50,15 @@ unfoldable pub startOf : List ℕ → Start → List ℕ
 startOf t (given b) = b
 startOf t (freshIn n) = fresh t (blank n) .state
 
--- the state after requests that are all accepted; an empty list if one is not
+-- the state after requests that are all accepted, each with a plan that is long enough in either version; an empty list if one is not
 unfoldable pub stateOf : List ℕ → List ℕ → List Request → List ℕ
 stateOf t b [] = b
-stateOf t b (q ∷ qs) = let o = planBytes t b q (blank 132) in stateOf t (cond (eqb (numberOf (o .verdict)) 0) (o .state) []) qs
+stateOf t b (q ∷ qs) = let o = planBytes t b q (blank 260) in stateOf t (cond (eqb (numberOf (o .verdict)) 0) (o .state) []) qs
 
--- the state afterwards: zeros between the entries and the on-set; as it was lent if the request is refused
+-- the state afterwards: zeros between the entries and the on-set, whose width is that of the lent state's 132 or 264 bytes; as it was lent
+-- if the request is refused
 unfoldable pub endState : List ℕ → Answer → List ℕ
-endState b a = cond (eqb (a .number) 0) (imageFrom (a .entries) (a .on)) b
+endState b a = cond (eqb (a .number) 0) (imageFrom (length b / 33) (a .entries) (a .on)) b
 
 -- an outcome is what the row says: number, place, count, every byte of the state and, of the lent plan, the calls at its front and the rest
 -- as it was

@@ -22,3 +22,5 @@ pub mod Holds
 pub mod Damaged
 pub mod OwnRows
 pub mod WriteRows
+pub mod WideStation
+pub mod WideRows

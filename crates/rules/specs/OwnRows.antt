@@ -5,7 +5,7 @@ use lib.ListN.{replicate}
 use Rattle.rules.specs.Rows.{bytes, benchTable, lamp, request, move, arm, disarm, freshIn, given, lend, done, refused, noRoom}
 use Rattle.rules.specs.Rows.{Listed, conforms, differs, Row, row}
 use Rattle.rules.specs.Holds.{wordsIn}
-use Rattle.rules.specs.OwnStation.{hub, disk, radio, fan, led, ownTable, ownState, wideDevice, wideTable, bareDevice, bare, new}
+use Rattle.rules.specs.OwnStation.{hub, disk, radio, fan, led, ownTable, ownState, fullDevice, fullTable, bareDevice, bare, new}
 use Rattle.rules.specs.OwnStation.{lentState, from, to, asleep}
 use Rattle.rules.specs.Damaged.{damagedRows}
 
@@ -86,11 +86,11 @@ ownRows =
     -- without any object: D0 and D3hot only
     row bare (move 0 3) bareDevice (done [] (bytes 4 0x03000000) 0) ∷ row bare (move 0 1) bareDevice (refused 11 0) ∷
     -- sets of four bytes; D3cold needs nothing
-    row (lend wideTable (given (replicate 128 0 ++ bytes 4 0x01010181)) [] 132) (move 0 3) wideDevice
+    row (lend fullTable (given (replicate 128 0 ++ bytes 4 0x01010181)) [] 132) (move 0 3) fullDevice
     (done (bytes 20 0x03000300_02180000_02100000_02080000_02000000) (bytes 4 0x03000000) 0x80000000) ∷
-    row (lend wideTable (given (bytes 4 0x03000000 ++ replicate 124 0 ++ bytes 4 0x00000080)) [] 132) (move 0 0) wideDevice
+    row (lend fullTable (given (bytes 4 0x03000000 ++ replicate 124 0 ++ bytes 4 0x00000080)) [] 132) (move 0 0) fullDevice
     (done (bytes 20 0x01000000_01080000_01100000_01180000_03000000) (bytes 4 0x0) 0x81010101) ∷
-    row (lend wideTable (given (bytes 4 0x03000000 ++ replicate 124 0 ++ bytes 4 0x00000080)) [] 132) (move 0 4) wideDevice
+    row (lend fullTable (given (bytes 4 0x03000000 ++ replicate 124 0 ++ bytes 4 0x00000080)) [] 132) (move 0 4) fullDevice
     (done (bytes 4 0x021f0000) (bytes 4 0x04000000) 0) ∷
     -- 9, before 10
     row (lend benchTable (freshIn 132) [] 131) (move 2 4) lamp (noRoom 0) ∷

@@ -33,11 +33,11 @@ unfoldable pub ownTable : List ℕ
 ownTable = ownHeader ++ hub ++ disk ++ radio ++ fan ++ led
 
 -- 32 resources of equal order, and one device: `_PR0` {0, 8, 16, 24, 31}, `_PR3` {31}
-abbrev pub wideDevice : List ℕ
-wideDevice = bytes 40 0xff090900_01010181_00000000_00000000_00000080_00000000_ffffffff_ffffffffff_00_000000000000
+abbrev pub fullDevice : List ℕ
+fullDevice = bytes 40 0xff090900_01010181_00000000_00000000_00000080_00000000_ffffffff_ffffffffff_00_000000000000
 
-unfoldable pub wideTable : List ℕ
-wideTable = bytes 8 0x5057542001000100 ++ replicate 128 0 ++ wideDevice
+unfoldable pub fullTable : List ℕ
+fullTable = bytes 8 0x5057542001000100 ++ replicate 128 0 ++ fullDevice
 
 -- no resource, and a device without any object
 abbrev pub bareDevice : List ℕ

@@ -34,12 +34,12 @@ benchDevices =
     ++ bytes 54 0x000d0d03_0700000000000000_0000000000000000_0500000000000000_0100000000000000_0400000000000000_ffff02ff_ffffff03ff_03
     ++ bytes 54 0x00000900_0200000000000000_0000000000000000_0000000000000000_0000000000000000_0000000000000000_ffffffff_ffffffffff_00
 
--- a state image: the bytes of entries, zeros, and an on-set; the same of the entries of n devices
-abbrev pub imageFrom : List ℕ → ℕ → List ℕ
-imageFrom entries on = entries ++ replicate (128 - length entries) 0 ++ reverse (bytes 4 on)
+-- a state image with an on-set of w bytes: the bytes of entries, zeros, and the on-set; the same of the entries of n devices, in version 1
+abbrev pub imageFrom : ℕ → List ℕ → ℕ → List ℕ
+imageFrom w entries on = entries ++ replicate (32 * w - length entries) 0 ++ reverse (bytes w on)
 
 abbrev pub image : ℕ → ℕ → ℕ → List ℕ
-image n entries on = imageFrom (bytes (4 * n) entries) on
+image n entries on = imageFrom 4 (bytes (4 * n) entries) on
 
 -- a request by its four numbers; a device to state x, armed for S and D, disarmed
 abbrev pub request : ℕ → ℕ → ℕ → ℕ → Request

@@ -3,7 +3,7 @@
 -- speak of stations, entries and words, of no layout and no width.
 use Prim.Native.Nat.{ℕ, _+_, _*_, _%_, _≤_}
 use mathlib.Core.Path.{_≡_}
-use mathlib.Core.Bool.{Bool, cond}
+use mathlib.Core.Bool.{Bool, cond, _||_}
 use mathlib.Core.List.{List, [], _∷_, _++_}
 use lib.ListN.{getD}
 use lib.Dec.{eqb}
@@ -45,34 +45,35 @@ absent = 255
 
 -- which versions of table there are
 unfoldable pub versionGood : ℕ → Bool
-versionGood version = eqb version 1
+versionGood version = eqb version 1 || eqb version 2
 
--- the bytes of a set in a table of a version: 4, for at most 32 resources
+-- the bytes of a set in a table of a version: 8 in version 2, for at most 64 resources; 4 in version 1, for at most 32
 unfoldable pub versionWidth : ℕ → ℕ
-versionWidth version = 4
+versionWidth version = cond (eqb version 2) 8 4
 
 -- the version that a table's header states
 abbrev pub versionOf : List ℕ → ℕ
 versionOf t = readLE 2 t 4
 
+-- the bytes of a set in a table
 unfoldable pub width : List ℕ → ℕ
 width t = versionWidth (versionOf t)
 
--- a width of 4, or of 8 for larger sets, as facts on numbers
+-- a width of 4 or 8, as facts on numbers
 pub record Wide (w : ℕ) : Type 0 where
   pub low : 4 ≤ w
   pub high : w ≤ 8
   pub fours : w % 4 ≡ 0
 
--- at most 8w resources and devices, 32 for w = 4
+-- at most 8w resources and devices, 32 or 64
 abbrev pub limit : ℕ → ℕ
 limit w = 8 * w
 
--- header, 8 bytes; then R records of 4 bytes; then D records of 16 + 6w bytes, 40 for w = 4
+-- header, 8 bytes; then R records of 4 bytes; then D records of 16 + 6w bytes, 40 or 64
 abbrev pub recordSize : ℕ → ℕ
 recordSize w = 16 + 6 * w
 
--- a record's fields end here, and so many zeros follow to its end
+-- a record's fields end here, at 34 or 54, and so many zeros follow to its end, 6 or 10
 abbrev pub fieldsSize : ℕ → ℕ
 fieldsSize w = 14 + 5 * w
 

@@ -31,7 +31,7 @@ entryAt b at = record { state = getD b at 0; armed = getD b (at + 1) 0; sleep = 
 unfoldable pub entryBytes : Entry → List ℕ
 entryBytes e = e .state ∷ e .armed ∷ e .sleep ∷ e .wake ∷ []
 
--- RULES.md 2.7: four bytes a device for 8w devices, 128 for w = 4, then the on-set; 132 bytes in all
+-- RULES.md 2.7: four bytes a device for 8w devices, 128 or 256 bytes, then the on-set of w bytes; 132 or 264 bytes in all
 abbrev pub entriesSize : ℕ → ℕ
 entriesSize w = 32 * w
 

@@ -27,14 +27,14 @@ headerGood t =
     && versionGood (versionOf t)
     && eqb (getD t 7 0) 0
 
--- 2: at most as many resources and devices as the width allows, 32
+-- 2: at most as many resources and devices as the width allows, 32 or 64
 abbrev pub countsFit : ℕ → ℕ → ℕ → Bool
 countsFit w resources devices = leb resources (limit w) && leb devices (limit w)
 
 unfoldable pub countsGood : List ℕ → Bool
 countsGood t = countsFit (width t) (countR t) (countD t)
 
--- 3: the bytes end where a record D would start: 8 + 4R + 40D for a width of 4
+-- 3: the bytes end where a record D would start: 8 + 4R + 40D in version 1, 8 + 4R + 64D in version 2
 unfoldable pub lengthGood : List ℕ → Bool
 lengthGood t = eqb (length t) (deviceStart (width t) t (countD t))
 

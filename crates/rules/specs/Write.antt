@@ -42,11 +42,11 @@ recordsVerdict rs ds =
 abbrev pub writtenSize : ℕ → List ℕ → List ℕ → ℕ
 writtenSize version rs ds = tableSize (versionWidth version) (describedR rs) (describedD ds)
 
--- 2: at most as many resources and devices as the version allows, 32
+-- 2: at most as many resources and devices as the version allows, 32 or 64
 unfoldable pub describedCountsGood : ℕ → List ℕ → List ℕ → Bool
 describedCountsGood version rs ds = countsFit (versionWidth version) (describedR rs) (describedD ds)
 
--- 1 for a version other than 1; 2; 9 for a buffer with too little room; then the records; else done with the bytes written
+-- 1 for a version other than 1 and 2; 2; 9 for a buffer with too little room; then the records; else done with the bytes written
 unfoldable pub writeVerdict : ℕ → List ℕ → List ℕ → ℕ → Verdict
 writeVerdict version rs ds room =
     firstOf

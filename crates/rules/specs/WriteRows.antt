@@ -4,7 +4,6 @@ use mathlib.Core.List.{List, [], _∷_, _++_}
 use lib.ListN.{take, replicate}
 use Rattle.words.specs.Words.{put}
 use Rattle.rules.specs.Answers.{numberOf, placeOf, countOf}
-use Rattle.rules.specs.Index.{join}
 use Rattle.rules.specs.Rows.{bytes, benchDevices}
 use Rattle.rules.specs.Write.{writeVerdict, describeVerdict}
 
@@ -32,9 +31,39 @@ fromLists rs ds answer = record { version = 1; resources = rs; devices = ds; roo
 abbrev pub withByte : ℕ → ℕ → List ℕ → WriteRow
 withByte at x answer = fromLists benchResources (put benchDevices at (x ∷ [])) answer
 
+-- any lists, written as version 2
+abbrev pub wideFrom : List ℕ → List ℕ → ℕ → List ℕ → WriteRow
+wideFrom rs ds room answer = record { version = 2; resources = rs; devices = ds; room = room; answer = answer }
+
 -- a device without any object
 abbrev pub bareDevice : List ℕ
 bareDevice = 255 ∷ replicate 43 0 ++ replicate 9 255 ++ 0 ∷ []
+
+-- a device that needs r40 in D0
+abbrev pub fewDevice : List ℕ
+fewDevice = put bareDevice 2 (bytes 10 0x0100_0000000000010000)
+
+-- what the writer answers for version 2
+abbrev pub wideWriteRows : List WriteRow
+wideWriteRows =
+    -- done with exact room; 9; 258 and 65,538 are no versions
+    asVersion 2 212 (0 ∷ 0 ∷ 212 ∷ []) ∷
+    asVersion 2 211 (9 ∷ 0 ∷ 0 ∷ []) ∷
+    asVersion 258 212 (1 ∷ 0 ∷ 0 ∷ []) ∷
+    asVersion 65538 212 (1 ∷ 0 ∷ 0 ∷ []) ∷
+    -- 33 and 64 of each are allowed, 64 devices being 9 and no 2; a part of a 65th is 2, which comes before 9
+    wideFrom (replicate 132 0) [] 140 (0 ∷ 0 ∷ 140 ∷ []) ∷
+    wideFrom (replicate 256 0) [] 264 (0 ∷ 0 ∷ 264 ∷ []) ∷
+    wideFrom [] (replicate 3456 255) 4103 (9 ∷ 0 ∷ 0 ∷ []) ∷
+    wideFrom (replicate 260 0) [] 268 (2 ∷ 0 ∷ 0 ∷ []) ∷
+    wideFrom (replicate 257 0) [] 0 (2 ∷ 0 ∷ 0 ∷ []) ∷
+    wideFrom [] (replicate 3457 255) 0 (2 ∷ 0 ∷ 0 ∷ []) ∷
+    -- r40 among 41 resources and among 40; 4 and 6 as in version 1, 4 at r63
+    wideFrom (replicate 164 0) fewDevice 236 (0 ∷ 0 ∷ 236 ∷ []) ∷
+    wideFrom (replicate 160 0) fewDevice 232 (5 ∷ 0 ∷ 0 ∷ []) ∷
+    wideFrom (replicate 252 0 ++ 5 ∷ 0 ∷ 0 ∷ 0 ∷ []) [] 264 (4 ∷ 63 ∷ 0 ∷ []) ∷
+    wideFrom [] (put bareDevice 3 (2 ∷ [])) 72 (6 ∷ 0 ∷ 0 ∷ []) ∷
+    []
 
 abbrev pub writeRows : List WriteRow
 writeRows =
@@ -43,18 +72,18 @@ writeRows =
     asVersion 1 2000 (0 ∷ 0 ∷ 140 ∷ []) ∷
     asVersion 1 139 (9 ∷ 0 ∷ 0 ∷ []) ∷
     asVersion 0 139 (1 ∷ 0 ∷ 0 ∷ []) ∷
-    asVersion 2 140 (1 ∷ 0 ∷ 0 ∷ []) ∷
+    asVersion 3 140 (1 ∷ 0 ∷ 0 ∷ []) ∷
     asVersion 65537 140 (1 ∷ 0 ∷ 0 ∷ []) ∷
     -- no record at all
     record { version = 1; resources = []; devices = []; room = 8; answer = 0 ∷ 0 ∷ 8 ∷ [] } ∷
     record { version = 1; resources = []; devices = []; room = 7; answer = 9 ∷ 0 ∷ 0 ∷ [] } ∷
-    -- 32 of each are allowed; 33 and a part of a 33rd are 2, which comes after 1 and before 9
+    -- 32 of each are allowed, 32 devices being 9 and no 2; 33 and a part of a 33rd are 2, which comes after 1 and before 9
     record { version = 1; resources = replicate 128 0; devices = []; room = 136; answer = 0 ∷ 0 ∷ 136 ∷ [] } ∷
-    record { version = 1; resources = []; devices = join (λ d. bareDevice) 32; room = 1288; answer = 0 ∷ 0 ∷ 1288 ∷ [] } ∷
+    record { version = 1; resources = []; devices = replicate 1728 255; room = 1287; answer = 9 ∷ 0 ∷ 0 ∷ [] } ∷
     record { version = 1; resources = replicate 132 0; devices = []; room = 140; answer = 2 ∷ 0 ∷ 0 ∷ [] } ∷
     record { version = 1; resources = replicate 129 0; devices = []; room = 0; answer = 2 ∷ 0 ∷ 0 ∷ [] } ∷
     record { version = 1; resources = []; devices = replicate 1729 255; room = 0; answer = 2 ∷ 0 ∷ 0 ∷ [] } ∷
-    record { version = 2; resources = replicate 132 0; devices = []; room = 0; answer = 1 ∷ 0 ∷ 0 ∷ [] } ∷
+    record { version = 3; resources = replicate 132 0; devices = []; room = 0; answer = 1 ∷ 0 ∷ 0 ∷ [] } ∷
     -- 9 before the records, of whole ones and of one cut short
     record { version = 1; resources = 5 ∷ 0 ∷ 0 ∷ 0 ∷ []; devices = []; room = 11; answer = 9 ∷ 0 ∷ 0 ∷ [] } ∷
     record { version = 1; resources = 3 ∷ 0 ∷ 0 ∷ []; devices = []; room = 11; answer = 9 ∷ 0 ∷ 0 ∷ [] } ∷
@@ -93,7 +122,7 @@ writeRows =
     withByte 55 4 (6 ∷ 1 ∷ 0 ∷ []) ∷
     fromLists benchResources (put benchDevices 54 (1 ∷ 4 ∷ [])) (5 ∷ 1 ∷ 0 ∷ []) ∷
     fromLists benchResources (put (take 109 benchDevices) 55 (4 ∷ [])) (6 ∷ 1 ∷ 0 ∷ []) ∷
-    []
+    wideWriteRows
 
 abbrev pub answered : WriteRow → List ℕ
 answered r = let v = writeVerdict (r .version) (r .resources) (r .devices) (r .room) in numberOf v ∷ placeOf v ∷ countOf v ∷ []

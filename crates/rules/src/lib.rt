@@ -46,8 +46,8 @@ pub struct Entry {
 // The calls from an on-set to a target set: what is added to the on-set and what is removed from it, a device's own call or none, and
 // whether that comes last.
 pub struct Switching {
-    pub added: u32,
-    pub removed: u32,
+    pub added: u64,
+    pub removed: u64,
     pub own: OptionalCall,
     pub last: bool,
 }
@@ -55,14 +55,20 @@ pub struct Switching {
 // What a permitted request does: the device's new entry, the set needed afterwards, and the calls.
 pub struct Change {
     pub entry: Entry,
-    pub needed: u32,
+    pub needed: u64,
     pub switching: Switching,
 }
 
-// The state image: four bytes a device, and the set of the resources that are on.
+// The state image of a version 1 table: four bytes a device, and the set of the resources that are on.
 pub struct State {
     pub devices: [u8; 128],
     pub on: u32,
+}
+
+// The same of a version 2 table.
+pub struct WideState {
+    pub devices: [u8; 256],
+    pub on: u64,
 }
 
 // Why a table, a state, a request, a list, a description or a buffer is refused, in the order of the answers' numbers, 1 to 21.

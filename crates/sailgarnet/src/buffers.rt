@@ -31,7 +31,7 @@ fn request_bytes(table: &[u8], state: &mut [u8], q: Request, plan: &mut [u8]) ->
     if !rules::passes(v) {
         return v;
     }
-    let mut calls = [0u32; 33];
+    let mut calls = [0u32; 65];
     let n = planner::plan::write_plan(table, state, q, &mut calls);
     words::write_words(&calls, n, plan, 0);
     Verdict::Done(n)
@@ -45,7 +45,7 @@ fn sleep_bytes(table: &[u8], state: &mut [u8], q: Request, plan: &mut [u8]) -> V
         × (now (plan .exit) ≡ planBytes (now (table .entry)) (now (state .entry)) q (now (plan .entry)) .plan) ⌝ }
 {
     let room = plan.len() >= 4 * planner::moves::room(table);
-    let mut chosen = [0u8; 32];
+    let mut chosen = [0u8; 64];
     let v = sleep::stages::past_table(table, state, room, q, &mut chosen);
     if !rules::passes(v) {
         return v;
@@ -85,7 +85,7 @@ fn words_in(bytes: usize) -> ListWords
     if bytes % 4 != 0 {
         return ListWords::NotAList;
     }
-    if bytes / 4 > 33 {
+    if bytes / 4 > 65 {
         return ListWords::NotAList;
     }
     ListWords::Words(bytes / 4)
@@ -100,6 +100,11 @@ fn conforming(table: &[u8], state: &[u8], q: Request, list: &[u8]) -> bool
     let ListWords::Words(n) = words_in(list.len()) else {
         return false;
     };
+    if n > 33 {
+        let mut calls = [0u32; 65];
+        words::read_words(list, n, &mut calls);
+        return checker::check::conforming(table, state, q, &calls[..n]);
+    }
     let mut calls = [0u32; 33];
     words::read_words(list, n, &mut calls);
     checker::check::conforming(table, state, q, &calls[..n])
@@ -133,7 +138,6 @@ pub fn bring_up_bytes(table: &[u8], state: &mut [u8], plan: &mut [u8]) -> Verdic
         × (now (state .exit) ≡ bringUpBytes (now (table .entry)) (now (state .entry)) (now (plan .entry)) .state)
         × (now (plan .exit) ≡ bringUpBytes (now (table .entry)) (now (state .entry)) (now (plan .entry)) .plan) ⌝ }
 {
-    let room = plan.len() >= 4 * switching::write::room(table);
     if !table::header::header_good(table) {
         return Verdict::Refused(Reason::NotATable, 0);
     }
@@ -141,11 +145,12 @@ pub fn bring_up_bytes(table: &[u8], state: &mut [u8], plan: &mut [u8]) -> Verdic
     if !rules::passes(of_table) {
         return of_table;
     }
+    let room = plan.len() >= 4 * switching::write::room(table);
     let v = bringup::stages::past_table(table, state, room);
     if !rules::passes(v) {
         return v;
     }
-    let mut calls = [0u32; 33];
+    let mut calls = [0u32; 65];
     let n = bringup::bring_up::write_bring_up(table, state, &mut calls);
     words::write_words(&calls, n, plan, 0);
     Verdict::Done(n)
@@ -160,6 +165,11 @@ fn conforming_to_bring_up(table: &[u8], state: &[u8], list: &[u8]) -> bool
     let ListWords::Words(n) = words_in(list.len()) else {
         return false;
     };
+    if n > 33 {
+        let mut calls = [0u32; 65];
+        words::read_words(list, n, &mut calls);
+        return bringup::check::conforming(table, state, &calls[..n]);
+    }
     let mut calls = [0u32; 33];
     words::read_words(list, n, &mut calls);
     bringup::check::conforming(table, state, &calls[..n])

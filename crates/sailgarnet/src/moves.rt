@@ -21,7 +21,7 @@ fn move_bytes(
     state: &mut [u8],
     chosen: &[u8],
     d: usize,
-    needed: u32,
+    needed: u64,
     plan: &mut [u8],
     at: usize,
 ) -> usize
@@ -32,7 +32,7 @@ fn move_bytes(
         (stateMoved (now (table .entry)) (now (state .entry)) (statesIn (now (chosen .entry))) d)
         (now (plan .entry)) at r (now (state .exit)) (now (plan .exit)) ⌝ }
 {
-    let mut calls = [0u32; 33];
+    let mut calls = [0u32; 65];
     let n = planner::moves::write_move(table, state, chosen, d, needed, &mut calls);
     words::write_words(&calls, n, plan, at);
     n
@@ -49,9 +49,9 @@ fn write_moves(table: &[u8], state: &mut [u8], chosen: &[u8], plan: &mut [u8]) -
         (allMoves (now (table .entry)) (now (state .entry)) (statesIn (now (chosen .entry)))))
         (now (plan .entry)) 0 r (now (state .exit)) (now (plan .exit)) ⌝ }
 {
-    let mut below = [0u32; 32];
+    let mut below = [0u64; 64];
     status::needed::needed_below(table, state, &mut below);
-    let mut above: u32 = 0;
+    let mut above: u64 = 0;
     let mut n = 0;
     let mut i = table::fields::devices(table);
     while 0 < i {
@@ -69,7 +69,7 @@ fn write_offs(table: &[u8], state: &mut [u8], plan: &mut [u8]) -> usize
     ensures { λ r. ⌜ WrittenFrom 4 wordBytes (bringUpList (now (table .entry)) (now (state .entry)))
         (stateBroughtUp (now (table .entry)) (now (state .entry))) (now (plan .entry)) 0 r (now (state .exit)) (now (plan .exit)) ⌝ }
 {
-    let mut calls = [0u32; 33];
+    let mut calls = [0u32; 65];
     let n = bringup::bring_up::write_bring_up(table, state, &mut calls);
     words::write_words(&calls, n, plan, 0);
     n

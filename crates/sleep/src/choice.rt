@@ -50,7 +50,9 @@ fn may_take(table: &[u8], x: u8, d: usize, e: Entry, y: u8) -> bool
     if !sxd_allows(table, x, d, y) {
         return false;
     }
-    if !power::supported(table, d, y) {
+    let at = table::fields::start(table, d);
+    let w = table::fields::width(table);
+    if !power::supported(table, d, at, w, y) {
         return false;
     }
     let taken = Entry {
@@ -59,7 +61,7 @@ fn may_take(table: &[u8], x: u8, d: usize, e: Entry, y: u8) -> bool
         sleep: e.sleep,
         wake: e.wake,
     };
-    power::wake::powered_in(table, power::needs(table, d, taken), x)
+    power::wake::powered_in(table, power::needs(table, d, at, w, taken), x)
 }
 
 // Device d's parent, if there is one, has in `chosen` a state that is not deeper than y.

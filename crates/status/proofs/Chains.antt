@@ -1,5 +1,5 @@
 -- Answers 7 and 8, and what making a fresh state leaves: one law for each way out.
-use mathlib.Core.Path.{_≡_, refl, sym, ap, _∙_}
+use mathlib.Core.Path.{_≡_, refl, sym, _∙_}
 use mathlib.Core.Bool.{Bool, true, false, not, cond}
 use mathlib.Core.List.{List, [], _∷_}
 use Prim.Native.Nat.{ℕ, _≤_}
@@ -8,26 +8,23 @@ use borrow.Author.Tests.{eq-eqb, ne-eqb, not-true, not-false}
 use lib.Dec.{eqb, ltb}
 use lib.ListN.{length}
 use Rattle.sets.proofs.Laws.{decide}
-use Rattle.rules.specs.declared.State.{State}
 use Rattle.rules.specs.declared.Verdict.{Verdict}
 use Rattle.rules.specs.declared.Verdict.the-variants.{Done, Refused}
 use Rattle.rules.specs.declared.Reason.the-variants.{BadState, Inconsistent}
 use Rattle.rules.specs.Index.{least}
 use Rattle.rules.specs.Answers.{passes, firstOf, unless, lowest}
-use Rattle.rules.specs.Station.{versionWidth, width, limit, countR, stationOf, station}
+use Rattle.rules.specs.Station.{width, limit, station}
 use Rattle.rules.specs.Table.{tableVerdict}
-use Rattle.sets.specs.Sets.{firstN}
 use Rattle.rules.specs.Status.{entries, statusOf, status, imageSize, entriesGood, onGood, valuesGood, imageGood, valuesVerdict}
-use Rattle.rules.specs.Status.{consistencyVerdict, stateVerdict}
+use Rattle.rules.specs.Status.{consistencyVerdict, stateVerdict, imageOf, freshStatus}
 use Rattle.rules.specs.BringUp.{butPowerVerdict, stateButPowerVerdict}
 use Rattle.rules.specs.Outcomes.{outcome, freshVerdict, fresh, tableAndStateVerdict}
 use Rattle.rules.proofs.Answers.{done-passes, refused-stops, first-pass, first-stop, first-alone, unless-of}
 use Rattle.laws.proofs.Accepted.{accepted}
-use Rattle.laws.proofs.States.{GoodValues, values-of, all-on-apart}
+use Rattle.laws.proofs.States.{GoodValues, values-of}
 use Rattle.table.proofs.Verdicts.{sized-done, sized-told, accepted-is, table-passed}
-use Rattle.status.specs.State.{storeState, freshState}
-use Rattle.status.specs.Ready.{Ready, statusWith}
-use Rattle.status.proofs.Held.{fresh-image}
+use Rattle.status.proofs.Keeps.{with-power, without-power}
+use Rattle.status.specs.Ready.{Ready, statusWith, consistencyWith}
 
 -- ---- the image; n is the size that it has, good and fits are what the tests of the entries and of the on-set returned
 module _ (t b : List ℕ) (n : ℕ) (z : n ≡ imageSize (width t)) where
@@ -86,32 +83,24 @@ module _ (t b : List ℕ) (g : Bool) (i : g ≡ imageGood t b) where
           good = values .entries;
         }
 
-    pub state-is : (on : ℕ) (v : Verdict) → on ≡ status t b .on → v ≡ consistencyVerdict (station t) (statusWith t b on)
+    pub state-is : (on : ℕ) (v : Verdict) → on ≡ status t b .on → v ≡ consistencyWith true (station t) (statusWith t b on)
         → v ≡ stateVerdict t b
     unfolding stateVerdict valuesVerdict statusOf consistencyVerdict
     state-is on v r c =
         rw (← i, not-false g n, ← r, unless-of true BadState 0 refl, first-pass (Done 0) _ (Done 0) (done-passes 0))
-        (c ∙ sym (lowest-last _ (station t .devices) (Refused Inconsistent) (refused-stops Inconsistent)))
+        (c ∙ with-power (station t) (statusWith t b on) ∙ sym (lowest-last _ (station t .devices) (Refused Inconsistent) (refused-stops Inconsistent)))
 
-    -- with all resources on
-    pub but-power-is : tableVerdict t ≡ Done 0 → (r all : ℕ) (v : Verdict) → r ≡ countR t → all ≡ firstN r
-        → v ≡ consistencyVerdict (station t) (statusWith t b all) → v ≡ stateButPowerVerdict t b
+    -- whatever is on
+    pub but-power-is : (on : ℕ) (v : Verdict) → v ≡ consistencyWith false (station t) (statusWith t b on) → v ≡ stateButPowerVerdict t b
     unfolding stateButPowerVerdict valuesVerdict statusOf butPowerVerdict
-    but-power-is e r all v k l c =
-        let same : all ≡ firstN (station t .resources) = l ∙ ap firstN (unfold stationOf in k) in
+    but-power-is on v c =
         rw (← i, not-false g n, unless-of true BadState 0 refl, first-pass (Done 0) _ (Done 0) (done-passes 0))
-        (c ∙ ap (λ (on : ℕ). consistencyVerdict (station t) (statusWith t b on)) same
-        ∙ all-on-apart t (rw e (done-passes 0)) (entries t b)
+        (c ∙ without-power (station t) (statusWith t b on)
         ∙ sym (lowest-last _ (station t .devices) (Refused Inconsistent) (refused-stops Inconsistent)))
-
--- the R resources of an accepted table are at most 32
-pub few-resources : (t : List ℕ) (r : ℕ) → tableVerdict t ≡ Done 0 → r ≡ countR t → r ≤ 32
-unfolding versionWidth width
-few-resources t r e k = omega (arith, sized-done t 0 e .resources)
 
 pub ruleset state-laws = (sized-done, image-long, ready-by, state-values, state-is)
 
-pub ruleset but-power-laws = (sized-done, few-resources, ready-by, but-power-values, but-power-is)
+pub ruleset but-power-laws = (sized-done, ready-by, but-power-values, but-power-is)
 
 -- ---- 1 to 8; v is what the check of the table answered, p whether that passes
 state-alone : (t b : List ℕ) → firstOf (stateVerdict t b ∷ []) (Done 0) ≡ stateVerdict t b
@@ -162,18 +151,12 @@ module _ (t b : List ℕ) (v : Verdict) (p : Bool) (e : v ≡ tableVerdict t) (f
     unfolding fresh outcome
     fresh-done l = sym (fresh-second n true (eq-eqb (length b) (imageSize (width t)) (l ∙ z)))
 
-    pub fresh-done-state : (r : ℕ) (st : State) (m : List ℕ) → length b ≡ k → r ≡ countR t → st ≡ freshState r → m ≡ storeState st
-        → m ≡ fresh t b .state
+    pub fresh-done-state : (m : List ℕ) → length b ≡ k → m ≡ imageOf (width t) (freshStatus (station t)) → m ≡ fresh t b .state
     unfolding fresh outcome passes
-    fresh-done-state r st m l c g h =
-        let all : r ≡ station t .resources = unfold stationOf in c in
-        rw (fresh-second n true (eq-eqb (length b) (imageSize (width t)) (l ∙ z)))
-        (h ∙ ap storeState (g ∙ ap freshState all) ∙ fresh-image t)
+    fresh-done-state m l h = rw (fresh-second n true (eq-eqb (length b) (imageSize (width t)) (l ∙ z))) h
 
--- the size of an image, which code may write as a number
-pub size-132 : (t : List ℕ) (n k : ℕ) → k ≡ imageSize (width t) → n ≡ k → n ≡ 132
-unfolding versionWidth width
-size-132 t n k e f = f ∙ e
+    pub fresh-long : length b ≡ k → length b ≡ imageSize (width t)
+    fresh-long l = l ∙ z
 
 pub ruleset fresh-laws = (
   sized-told,
@@ -184,5 +167,5 @@ pub ruleset fresh-laws = (
   fresh-length-state,
   fresh-done,
   fresh-done-state,
-  size-132,
+  fresh-long,
 )

@@ -1,29 +1,28 @@
 -- A state, its image and its status say the same: what is loaded and stored, and what a fresh state says.
 use mathlib.Core.Path.{_≡_, refl, sym, ap, _∙_, fun-ext}
 use mathlib.Core.List.{List, [], _∷_, _++_, append-nil}
-use Prim.Native.Nat.{ℕ, zero, suc, _+_, _*_, _≤_, _<_}
+use Prim.Native.Nat.{ℕ, zero, suc, _+_, _*_, _^_, _≤_, _<_}
 use native.Mathlib.Nat.{add-zero}
 use native.Mathlib.Numerals.{towards-suc}
 use native.Mathlib.Omega.{arith}
 use borrow.Author.Tests.{ltb-true, ltb-false}
 use lib.Dec.{ltb}
 use lib.ListN.{length, getD, take, drop, replicate, length-append, length-replicate, getD-replicate, drop-of-length-le}
-use lib.Seq.{length-take-le, take-all, getD-take, drop-cons}
+use lib.Seq.{length-take-le, getD-take, drop-cons}
 use Rattle.sets.specs.Sets.{firstN}
 use Rattle.sets.proofs.Laws.{decide}
 use Rattle.words.specs.Words.{readLE, bytesLE, put}
 use Rattle.words.proofs.Laws.{bytes-length}
-use Rattle.words.proofs.Put.{Emitted, emitted-run, put-all}
-use Rattle.rules.specs.declared.State.{State}
+use Rattle.words.proofs.Put.{put-all, put-then}
 use Rattle.rules.specs.declared.Entry.{Entry}
-use Rattle.rules.specs.Station.{Station, versionWidth, width, limit, countD, station}
+use Rattle.rules.specs.Station.{Station, width, limit, countD}
 use Rattle.rules.specs.Index.{joinFrom}
 use Rattle.rules.specs.Status.{noEntry, entryAt, entryBytes, entriesSize, entriesOf, entries, statusOf, status, entriesBytes, imageOf}
 use Rattle.rules.specs.Status.{imageSize, freshStatus}
 use Rattle.rules.proofs.Index.{below-in, below-out}
 use Rattle.table.specs.Layout.{WellSized}
 use Rattle.status.specs.Ready.{statusWith}
-use Rattle.status.specs.State.{loadState, storeState, statusIn, freshState}
+use Rattle.status.specs.State.{Held, loaded, stored, statusIn, freshHeld}
 
 -- ---- one entry
 
@@ -66,13 +65,12 @@ entry-read b d = refl
 pub entry-is : (t b : List ℕ) (d : ℕ) (e : Entry) → WellSized t → d < countD t → e ≡ entryAt b (4 * d) → e ≡ entries t b d
 entry-is t b d e z h q = q ∙ sym (entry-in (width t) b d (omega (arith, z .devices)))
 
--- the size of an image and its on-set, at the table's width
-pub on-read : (t b : List ℕ) (w v : ℕ) → w ≡ width t → v ≡ readLE 4 b (32 * w) → v ≡ status t b .on
-unfolding versionWidth width statusOf
-on-read t b w v e q = q ∙ ap (λ (n : ℕ). readLE 4 b (32 * n)) e
+-- the on-set stands after the entries, at the table's width
+pub on-read : (t b : List ℕ) (w v : ℕ) → w ≡ width t → (v ≡ readLE w b (32 * w)) × (v < 256 ^ w) → v ≡ status t b .on
+unfolding statusOf
+on-read t b w v e q = q .0 ∙ ap (λ (n : ℕ). readLE n b (32 * n)) e
 
-pub on-inside : (t b : List ℕ) (w : ℕ) → w ≡ width t → length b ≡ imageSize (width t) → 32 * w + 4 ≤ length b
-unfolding versionWidth width
+pub on-inside : (t b : List ℕ) (w : ℕ) → w ≡ width t → length b ≡ imageSize (width t) → 32 * w + w ≤ length b
 on-inside t b w e h = omega arith
 
 -- ---- what is loaded
@@ -84,34 +82,43 @@ entries-front w b =
     (λ k h. entry-same (take (entriesSize w) b) b (4 * k) (λ i l. getD-take (entriesSize w) b (4 * k + i) 0 (omega arith))
     ∙ sym (entry-in w b k h)) (entry-out w b)
 
-pub entries-of : (b : List ℕ) → entriesOf 4 (loadState b .devices) ≡ statusOf 4 b .entries
-unfolding loadState statusOf
-entries-of b = entries-front 4 b
+-- the device part has its length in the image, fits an array and is an image's front
+module _ (w : ℕ) where
+  pub front-long : (b : List ℕ) → length b ≡ imageSize w → entriesSize w ≡ length (take (entriesSize w) b)
+  front-long b l = sym (length-take-le (entriesSize w) b (omega arith))
 
--- a loop that copied 128 bytes, and the number after them
-pub loaded : (b ds₀ ds : List ℕ) (i on : ℕ) → Emitted ds₀ 0 (take i b) ds i → length ds₀ ≡ 128 → length b ≡ 132 → 128 ≤ i → i ≤ 128
-    → on ≡ readLE 4 b 128
-    → record { devices = ds; on = on } ≡ loadState b
-unfolding loadState
-loaded b ds₀ ds i on e l m g h r =
-    let n : i ≡ 128 = omega arith in
-    let long : length (take 128 b) ≡ 128 = length-take-le 128 b (omega arith) in
-    let same : ds ≡ take 128 b = (rw n at (e .list)) ∙ put-all ds₀ (take 128 b) (omega arith) in
-    rw (same, r) refl
+  pub front-fits : (b : List ℕ) → length b ≡ imageSize w → 0 + length (take (entriesSize w) b) ≤ entriesSize w
+  front-fits b l = omega (arith, front-long b l)
+
+  pub part-fits : (ds b : List ℕ) → length ds ≡ entriesSize w → length b ≡ imageSize w → 0 + length ds ≤ length b
+  part-fits ds b l m = omega arith
+
+  pub entry-fits : (ds : List ℕ) (d : ℕ) → length ds ≡ entriesSize w → d < limit w → 4 * d + 4 ≤ length ds
+  entry-fits ds d l h = omega arith
+
+-- the first bytes, copied over as many others, and the number after them
+pub loaded-is : (w : ℕ) (b ds₀ ds : List ℕ) (on : ℕ) → ds ≡ put ds₀ 0 (take (entriesSize w) b) → length ds₀ ≡ entriesSize w
+    → length b ≡ imageSize w → on ≡ readLE w b (entriesSize w)
+    → record { devices = ds; on = on } ≡ loaded w b
+unfolding loaded
+loaded-is w b ds₀ ds on e l m r =
+    let long : length (take (entriesSize w) b) ≡ entriesSize w = length-take-le (entriesSize w) b (omega arith) in
+    rw (e ∙ put-all ds₀ (take (entriesSize w) b) (omega arith), r) refl
+
+pub loaded-status : (w : ℕ) (b : List ℕ) → statusIn w (loaded w b) ≡ statusOf w b
+unfolding loaded statusIn statusOf
+loaded-status w b = rw (entries-front w b) refl
 
 -- ---- what is stored
 
--- a loop that copied the 128 bytes, and the number written after them
-pub stored : (st : State) (b l m : List ℕ) (i : ℕ) → Emitted b 0 (take i (st .devices)) l i → m ≡ put l 128 (bytesLE 4 (st .on))
-    → length (st .devices) ≡ 128
-    → length b ≡ 132 → 128 ≤ i → i ≤ 128 → m ≡ storeState st
-unfolding storeState
-stored st b l m i e w d n g h =
-    let at : i ≡ 128 = omega arith in
-    let on = bytesLE 4 (st .on) in
-    let four : length on ≡ 4 = bytes-length 4 (st .on) in
-    let x = rw (at, take-all 128 (st .devices) (omega arith)) at e in
-    emitted-run on x (refl, w) (omega arith) .list ∙ put-all b (st .devices ++ on) (length-append (st .devices) on ∙ omega arith)
+-- the device part over the first bytes, and the number after it
+pub stored-is : (w : ℕ) (ds : List ℕ) (on : ℕ) (b l m : List ℕ) → l ≡ put b 0 ds → m ≡ put l (entriesSize w) (bytesLE w on)
+    → length ds ≡ entriesSize w → length b ≡ imageSize w → m ≡ stored w (record { devices = ds; on = on })
+unfolding stored
+stored-is w ds on b l m e f d n =
+    let long = bytes-length w on in
+    let one = put-then b m 0 (entriesSize w) ds (bytesLE w on) (omega (arith, long)) (omega arith) (rw e at f) in
+    one ∙ put-all b (ds ++ bytesLE w on) (length-append ds (bytesLE w on) ∙ omega (arith, long))
 
 -- the four bytes of an entry, and those after it
 entry-cut : (ds : List ℕ) (n : ℕ) → n + 4 ≤ length ds → drop n ds ≡ entryBytes (entryAt ds n) ++ drop (n + 4) ds
@@ -132,10 +139,12 @@ entries-drop f ds i (suc k) h l =
     rw (h i (omega arith), entries-drop f ds (suc i) k (λ j g. h j (omega arith)) (omega arith), n)
     (sym (entry-cut ds (4 * i) (omega arith)))
 
-pub image-of : (st : State) → length (st .devices) ≡ 128 → imageOf 4 (statusIn st) ≡ storeState st
-unfolding imageOf statusIn storeState
-image-of st l = ap (λ (b : List ℕ). b ++ bytesLE 4 (st .on)) (entries-drop (entriesOf 4 (st .devices)) (st .devices) 0 32
-    (entry-in 4 (st .devices)) l)
+pub image-of : (w : ℕ) (h : Held) → length (h .devices) ≡ entriesSize w → imageOf w (statusIn w h) ≡ stored w h
+unfolding imageOf statusIn stored
+image-of w h l =
+    let all : entriesBytes (entriesOf w (h .devices)) 0 (limit w) ≡ drop (4 * 0) (h .devices) =
+    entries-drop (entriesOf w (h .devices)) (h .devices) 0 (limit w) (λ j g. entry-in w (h .devices) j (omega arith)) (omega arith) in
+    ap (λ (b : List ℕ). b ++ bytesLE w (h .on)) all
 
 -- another on-set after the entries of an image
 put-end : (b ws : List ℕ) (n : ℕ) → length b ≡ n + length ws → put b n ws ≡ take n b ++ ws
@@ -143,39 +152,37 @@ unfolding put
 put-end b ws n l =
     ap (λ (r : List ℕ). take n b ++ ws ++ r) (drop-of-length-le b {i = n + length ws} (omega arith)) ∙ append-nil (take n b ++ ws)
 
-with-on : (b : List ℕ) (on : ℕ) → length b ≡ 132
-    → take 128 b ++ bytesLE 4 on ≡ imageOf 4 (record { entries = statusOf 4 b .entries; on = on })
-with-on b on l =
-    let st : State = record { devices = loadState b .devices; on = on } in
-    let long : length (st .devices) ≡ 128 = unfold loadState in length-take-le 128 b (omega arith) in
-    let said : statusIn st ≡ record { entries = statusOf 4 b .entries; on = on } = unfold statusIn in rw (entries-of b) refl in
-    let stored : storeState st ≡ take 128 b ++ bytesLE 4 on = unfold storeState loadState in refl in
-    sym stored ∙ sym (image-of st long) ∙ ap (imageOf 4) said
+pub on-stored : (w : ℕ) (b b′ : List ℕ) (on : ℕ) → length b ≡ imageSize w → b′ ≡ put b (32 * w) (bytesLE w on)
+    → b′ ≡ imageOf w (record { entries = entriesOf w b; on = on })
+on-stored w b b′ on l e =
+    let h : Held = record { devices = take (entriesSize w) b; on = on } in
+    let said : statusIn w h ≡ record { entries = entriesOf w b; on = on } = unfold statusIn in rw (entries-front w b) refl in
+    let same : stored w h ≡ take (entriesSize w) b ++ bytesLE w on = unfold stored in refl in
+    e ∙ put-end b (bytesLE w on) (entriesSize w) (omega (arith, bytes-length w on)) ∙ sym same
+    ∙ sym (image-of w h (length-take-le (entriesSize w) b (omega arith))) ∙ ap (imageOf w) said
 
 pub on-written : (t b : List ℕ) (at on : ℕ) (b′ : List ℕ) → length b ≡ imageSize (width t) → at ≡ width t
-    → b′ ≡ put b (32 * at) (bytesLE 4 on)
+    → b′ ≡ put b (32 * at) (bytesLE at on)
     → b′ ≡ imageOf (width t) (statusWith t b on)
-unfolding versionWidth width
-on-written t b at on b′ l a w =
-    w ∙ ap (λ (n : ℕ). put b (32 * n) (bytesLE 4 on)) a ∙ put-end b (bytesLE 4 on) 128 (omega (arith, bytes-length 4 on))
-    ∙ with-on b on l ∙ (unfold statusOf in refl)
+on-written t b at on b′ l a w = on-stored (width t) b b′ on l (w ∙ ap (λ (n : ℕ). put b (32 * n) (bytesLE n on)) a)
 
 -- ---- what a fresh state says
 
-pub fresh-is : (n on : ℕ) → on ≡ firstN n → record { devices = replicate 128 0; on = on } ≡ freshState n
-unfolding freshState
-fresh-is n on e = rw e refl
+pub fresh-is : (w n on : ℕ) → on ≡ firstN n → record { devices = replicate (entriesSize w) 0; on = on } ≡ freshHeld w n
+unfolding freshHeld
+fresh-is w n on e = rw e refl
 
-pub fresh-status : (s : Station) → statusIn (freshState (s .resources)) ≡ freshStatus s
-unfolding statusIn freshState freshStatus entryAt
-fresh-status s =
-    let none : (k : ℕ) → k < 32 → entryAt (replicate 128 0) (4 * k) ≡ noEntry = λ k h. entry-same (replicate 128 0) [] (4 * k)
-    (λ i l. getD-replicate {A = ℕ} 128 (4 * k + i) 0 0 (omega arith)) in
-    rw (entries-ext 4 (replicate 128 0) (λ k. noEntry) none (λ k h. refl)) refl
+fresh-status : (w : ℕ) (s : Station) → statusIn w (freshHeld w (s .resources)) ≡ freshStatus s
+unfolding statusIn freshHeld freshStatus entryAt
+fresh-status w s =
+    let none : (k : ℕ) → k < limit w → entryAt (replicate (entriesSize w) 0) (4 * k) ≡ noEntry =
+    λ k h. entry-same (replicate (entriesSize w) 0) [] (4 * k)
+    (λ i l. getD-replicate {A = ℕ} (entriesSize w) (4 * k + i) 0 0 (omega arith)) in
+    rw (entries-ext w (replicate (entriesSize w) 0) (λ k. noEntry) none (λ k h. refl)) refl
 
-pub fresh-image : (t : List ℕ) → storeState (freshState (station t .resources)) ≡ imageOf (width t) (freshStatus (station t))
-unfolding versionWidth width freshState
-fresh-image t = sym (image-of (freshState (station t .resources)) (length-replicate {A = ℕ} 128 0))
-    ∙ ap (imageOf 4) (fresh-status (station t))
+pub fresh-image : (w : ℕ) (s : Station) → stored w (freshHeld w (s .resources)) ≡ imageOf w (freshStatus s)
+fresh-image w s =
+    sym (image-of w (freshHeld w (s .resources)) (unfold freshHeld in length-replicate {A = ℕ} (entriesSize w) 0))
+    ∙ ap (imageOf w) (fresh-status w s)
 
-pub ruleset held = (entry-read, entry-is, on-read, on-inside, loaded, stored, fresh-is)
+pub ruleset in-place = (entry-read, entry-is, on-read, on-inside, on-written)

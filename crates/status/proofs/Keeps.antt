@@ -1,6 +1,6 @@
 -- A device's consistency by its parts: one law for each way out of the code that tests them.
-use mathlib.Core.Path.{_≡_, refl, ap, _∙_}
-use mathlib.Core.Bool.{Bool, true, false, not, _&&_, _||_}
+use mathlib.Core.Path.{_≡_, refl, ap, _∙_, fun-ext}
+use mathlib.Core.Bool.{Bool, true, false, not, _&&_, _||_, and-true}
 use mathlib.Core.Logic.{⊎-elim}
 use mathlib.Core.List.{List}
 use Prim.Native.Nat.{ℕ, _+_, _*_, _≤_, _<_}
@@ -20,7 +20,8 @@ use Rattle.rules.specs.Status.{Status, entryAt, entries, entryGood, entriesGood
 use Rattle.rules.specs.Status.{powered, consistent, consistencyVerdict}
 use Rattle.rules.proofs.Index.{every-at}
 use Rattle.laws.proofs.Tests.{both-true, or-cases}
-use Rattle.status.specs.Ready.{Ready, statusWith}
+use Rattle.rules.specs.BringUp.{butPowerVerdict}
+use Rattle.status.specs.Ready.{Ready, statusWith, consistentWith, consistencyWith}
 use Rattle.status.proofs.Held.{entry-in, entry-is}
 use Rattle.status.proofs.Loops.{Looking, lowest-found, lowest-all}
 
@@ -100,15 +101,19 @@ pub power-is : (t b : List ℕ) (on d : ℕ) (e : Entry) (n : ℕ) (v : Bool) �
 unfolding powered
 power-is t b on d e n v r h p q f = rw (← entry-ready t b d e r h p, ← q) f
 
--- ---- all rules
-module _ (s : Station) (st : Status) (d : ℕ) (apart : Bool) (a : apart ≡ consistentButPower s (st .entries) d) where
-  pub breaks : not apart ≡ true → false ≡ consistent s st d
-  unfolding consistent
+-- ---- all rules, or those apart from power
+module _ (power : Bool) (s : Station) (st : Status) (d : ℕ) (apart : Bool) (a : apart ≡ consistentButPower s (st .entries) d) where
+  pub breaks : not apart ≡ true → false ≡ consistentWith power s st d
+  unfolding consistentWith
   breaks n = rw (← a, not-true apart n) refl
 
-  pub keeps : (power : Bool) → not apart ≡ false → power ≡ powered s st d → power ≡ consistent s st d
-  unfolding consistent
-  keeps power n p = rw (← a, not-false apart n) p
+  pub keeps-apart : not apart ≡ false → not power ≡ true → true ≡ consistentWith power s st d
+  unfolding consistentWith
+  keeps-apart n p = rw (← a, not-false apart n, p) refl
+
+  pub keeps : (on : Bool) → not apart ≡ false → not power ≡ false → on ≡ powered s st d → on ≡ consistentWith power s st d
+  unfolding consistentWith
+  keeps on n p q = rw (← a, not-false apart n, p) q
 
 -- ---- what the stages before have shown
 sleep-in : (e : Entry) → entryGood e ≡ true → e .sleep < 5
@@ -139,20 +144,31 @@ pub ruleset keep-laws = (
   apart-wake,
   power-is,
   breaks,
+  keeps-apart,
   keeps,
   ready-sleep,
 )
 
 -- ---- all devices
-module _ (s : Station) (st : Status) (n i : ℕ) (look : Looking (consistent s st) n i) (all : n ≡ s .devices) where
-  pub inconsistent : (b : Bool) → i < n → b ≡ consistent s st i → not b ≡ true → Refused Inconsistent i ≡ consistencyVerdict s st
-  unfolding consistencyVerdict
-  inconsistent b h e t = lowest-found (consistent s st) n i b (Refused Inconsistent) look h e t
-      ∙ ap (λ (k : ℕ). lowest (λ j. not (consistent s st j)) k (Refused Inconsistent)) all
+module _ (power : Bool) (s : Station) (st : Status) (n i : ℕ) (look : Looking (consistentWith power s st) n i) (all : n ≡ s .devices) where
+  pub inconsistent : (b : Bool) → i < n → b ≡ consistentWith power s st i → not b ≡ true → Refused Inconsistent i ≡ consistencyWith power s st
+  unfolding consistencyWith
+  inconsistent b h e t = lowest-found (consistentWith power s st) n i b (Refused Inconsistent) look h e t
+      ∙ ap (λ (k : ℕ). lowest (λ j. not (consistentWith power s st j)) k (Refused Inconsistent)) all
 
-  pub consistent-all : n ≤ i → Done 0 ≡ consistencyVerdict s st
-  unfolding consistencyVerdict
-  consistent-all h = lowest-all (consistent s st) n i (Refused Inconsistent) look h
-      ∙ ap (λ (k : ℕ). lowest (λ j. not (consistent s st j)) k (Refused Inconsistent)) all
+  pub consistent-all : n ≤ i → Done 0 ≡ consistencyWith power s st
+  unfolding consistencyWith
+  consistent-all h = lowest-all (consistentWith power s st) n i (Refused Inconsistent) look h
+      ∙ ap (λ (k : ℕ). lowest (λ j. not (consistentWith power s st j)) k (Refused Inconsistent)) all
+
+-- with a look at power it is answer 8, and without one answer 8 of bring-up
+pub with-power : (s : Station) (st : Status) → consistencyWith true s st ≡ consistencyVerdict s st
+unfolding consistencyWith consistencyVerdict consistentWith consistent
+with-power s st = refl
+
+pub without-power : (s : Station) (st : Status) → consistencyWith false s st ≡ butPowerVerdict s (st .entries)
+unfolding consistencyWith butPowerVerdict consistentWith
+without-power s st =
+    ap (λ (f : ℕ → Bool). lowest f (s .devices) (Refused Inconsistent)) (fun-ext λ d. ap not (and-true (consistentButPower s (st .entries) d)))
 
 pub ruleset turn-laws = (devices-are, inconsistent, consistent-all)

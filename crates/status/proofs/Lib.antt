@@ -2,6 +2,7 @@ pub mod Held
 pub mod Written
 pub mod Ranges
 pub mod Loops
+pub mod Walk
 pub mod Keeps
 pub mod Chains
 pub mod Filled

@@ -1,6 +1,6 @@
 -- The values of a state image, as the code that tests them has them.
 use mathlib.Core.Path.{_≡_, refl, sym, ap, _∙_}
-use mathlib.Core.Bool.{Bool, true, false, not, _&&_, _||_}
+use mathlib.Core.Bool.{Bool, true, false, not, _&&_, _||_, and-assoc}
 use mathlib.Core.List.{List}
 use Prim.Native.Nat.{ℕ, _+_, _*_, _^_, _≤_, _<_}
 use native.Mathlib.Nat.{add-assoc}
@@ -10,11 +10,13 @@ use lib.Dec.{eqb, ltb}
 use Rattle.sets.specs.Sets.{union}
 use Rattle.sets.proofs.Laws.{decide, union-none}
 use Rattle.words.specs.Words.{readLE}
+use Rattle.words.proofs.Twice.{read-split}
 use Rattle.rules.specs.declared.Entry.{Entry}
 use Rattle.rules.specs.Index.{every}
 use Rattle.rules.specs.Station.{width, limit, countR, countD, stationOf, station}
 use Rattle.rules.specs.Status.{entryAt, entries, entryGood, entryZero, entriesGood, onGood}
 use Rattle.rules.proofs.Index.{every-at, every-of}
+use Rattle.record.proofs.AllGood.{sum-zero}
 use Rattle.laws.proofs.Tests.{both-true, and-true, or-left}
 use Rattle.laws.proofs.Every.{every-suc, same-test}
 use Rattle.table.specs.Layout.{WellSized}
@@ -78,15 +80,39 @@ module _ (b : List ℕ) (n : ℕ) where
   abbrev pub zeroFrom : ℕ → Bool
   zeroFrom k = ltb k n || entryZero (entryAt b (4 * k))
 
-  pub zero-starts : true ≡ every zeroFrom n
+  zero-starts : true ≡ every zeroFrom n
   zero-starts = sym (every-of zeroFrom n (λ j l. or-left (ltb j n) _ (lt-ltb j n l)))
 
   -- all is the union of those before i, and w the number at i
-  pub zero-next : (i all w r : ℕ) → eqb all 0 ≡ every zeroFrom i → n ≤ i → w ≡ readLE 4 b (4 * i) → r ≡ union all w
+  zero-next : (i all w r : ℕ) → eqb all 0 ≡ every zeroFrom i → n ≤ i → w ≡ readLE 4 b (4 * i) → r ≡ union all w
       → eqb r 0 ≡ every zeroFrom (i + 1)
   zero-next i all w r inv l q e =
       let here : eqb w 0 ≡ zeroFrom i = rw (le-ltb i n l) (word-zero b i w q) in
       rw (e, union-none all w, inv, here) (sym (every-suc zeroFrom i))
+
+  -- before the loop: an even number of entries is left, so either none is looked at yet, or the number w at n
+  pub zero-even : (all i : ℕ) → all ≡ 0 → i ≡ n → eqb all 0 ≡ every zeroFrom i
+  zero-even all i e f = rw (e, f) zero-starts
+
+  pub zero-odd : (all i w : ℕ) → w ≡ readLE 4 b (4 * n) → all ≡ w → i ≡ n + 1 → eqb all 0 ≡ every zeroFrom i
+  zero-odd all i w q e f =
+      let here : eqb w 0 ≡ zeroFrom n = rw (le-ltb n n (omega arith)) (word-zero b n w q) in
+      rw (e, f, here, every-suc zeroFrom n, ← zero-starts) refl
+
+  -- w is the number that the entries i and i + 1 make together
+  pub zero-pair : (i all w r : ℕ) → eqb all 0 ≡ every zeroFrom i → n ≤ i → w ≡ readLE 8 b (4 * i) → r ≡ union all w
+      → eqb r 0 ≡ every zeroFrom (i + 2)
+  zero-pair i all w r inv l q e =
+      let low = readLE 4 b (4 * i) in
+      let high = readLE 4 b (4 * (i + 1)) in
+      let next : 4 * i + 4 ≡ 4 * (i + 1) = omega arith in
+      let split : w ≡ low + 256 ^ 4 * high = q ∙ read-split 4 4 b (4 * i) ∙ ap (λ (x : ℕ). low + 256 ^ 4 * readLE 4 b x) next in
+      let one = zero-next i all low (union all low) inv l refl refl in
+      let two = zero-next (i + 1) (union all low) high (union (union all low) high) one (omega arith) refl refl in
+      let same : eqb r 0 ≡ eqb (union (union all low) high) 0 =
+      rw (e, union-none all w, union-none (union all low) high, union-none all low, split, sum-zero (256 ^ 4) low high (omega arith))
+      (sym (and-assoc (eqb all 0) (eqb low 0) (eqb high 0))) in
+      same ∙ two ∙ ap (every zeroFrom) (omega arith)
 
   pub zero-done : (i end : ℕ) (r : Bool) → r ≡ every zeroFrom i → i ≤ end → end ≤ i → r ≡ every zeroFrom end
   zero-done i end r inv h l = inv ∙ ap (every zeroFrom) (omega arith)
@@ -134,7 +160,7 @@ module _ (t b : List ℕ) (n : ℕ) (c : n ≡ countD t) (z : WellSized t) where
         → rest ≡ entriesGood (limit (width t)) (station t) (entries t b)
     entries-rest m rest p x r = (rw p at r) ∙ (rw (← q, not-false first x) at all-good)
 
-pub ruleset range-laws = (word-good, entry-told, zero-starts, zero-next, zero-done, entries-first, entries-rest)
+pub ruleset range-laws = (word-good, entry-told, zero-even, zero-odd, zero-pair, zero-done, entries-first, entries-rest)
 
 -- ---- the on-set
 pub on-is : (t : List ℕ) (n on : ℕ) (b : Bool) → n ≡ countR t → b ≡ ltb on (2 ^ n) → b ≡ onGood (station t) on

@@ -1,4 +1,5 @@
--- The state as code holds it, 128 bytes beside the on-set, against the image's bytes and the status that they say.
+-- The state as code holds it, the device part beside the on-set, against the image's bytes and the status that they say. Version 1 has 128
+-- bytes and 32 bits, version 2 has 256 bytes and 64 bits; here both are one thing, and the width w tells them apart.
 use Prim.Native.Nat.{ℕ, _*_}
 use mathlib.Core.List.{List, _++_}
 use lib.ListN.{take, replicate}
@@ -6,25 +7,38 @@ use lib.Seq.{sets}
 use Rattle.sets.specs.Sets.{firstN}
 use Rattle.words.specs.Words.{readLE, bytesLE}
 use Rattle.rules.specs.declared.State.{State}
+use Rattle.rules.specs.declared.WideState.{WideState}
 use Rattle.rules.specs.declared.Entry.{Entry}
-use Rattle.rules.specs.Status.{Status, entryBytes, entriesOf}
+use Rattle.rules.specs.Status.{Status, entryBytes, entriesSize, entriesOf}
 
--- the state that the 132 bytes of an image hold
-unfoldable pub loadState : List ℕ → State
-loadState b = record { devices = take 128 b; on = readLE 4 b 128 }
+-- a state by value, of either version
+pub record Held : Type 0 where
+  pub devices : List ℕ
+  pub on : ℕ
+
+-- that of version 1, and that of version 2
+abbrev pub held : State → Held
+held st = record { devices = st .devices; on = st .on }
+
+abbrev pub heldWide : WideState → Held
+heldWide st = record { devices = st .devices; on = st .on }
+
+-- the state that the bytes of an image hold
+unfoldable pub loaded : ℕ → List ℕ → Held
+loaded w b = record { devices = take (entriesSize w) b; on = readLE w b (entriesSize w) }
 
 -- the image that a state is written as
-unfoldable pub storeState : State → List ℕ
-storeState st = st .devices ++ bytesLE 4 (st .on)
+unfoldable pub stored : ℕ → Held → List ℕ
+stored w h = h .devices ++ bytesLE w (h .on)
 
 -- what a state says of the devices and resources
-unfoldable pub statusIn : State → Status
-statusIn st = record { entries = entriesOf 4 (st .devices); on = st .on }
+unfoldable pub statusIn : ℕ → Held → Status
+statusIn w h = record { entries = entriesOf w (h .devices); on = h .on }
 
 -- every device in D0, none armed, the first n resources on
-unfoldable pub freshState : ℕ → State
-freshState n = record { devices = replicate 128 0; on = firstN n }
+unfoldable pub freshHeld : ℕ → ℕ → Held
+freshHeld w n = record { devices = replicate (entriesSize w) 0; on = firstN n }
 
--- the state with another entry for device d
-unfoldable pub withEntry : State → ℕ → Entry → State
-withEntry st d e = record { devices = sets (st .devices) (4 * d) (entryBytes e); on = st .on }
+-- the state with another entry for device d and another on-set
+unfoldable pub changed : Held → ℕ → Entry → ℕ → Held
+changed h d e on = record { devices = sets (h .devices) (4 * d) (entryBytes e); on = on }

@@ -2,6 +2,7 @@
 pub mod consistency;
 pub mod image;
 pub mod needed;
+pub mod state;
 pub mod values;
 
 use rules::Reason;
@@ -36,10 +37,10 @@ pub fn check_state(table: &[u8], image: &[u8]) -> Verdict
         return Verdict::Refused(Reason::BadState, 0);
     }
     let on = crate::image::on_set(table, image);
-    crate::consistency::consistency(table, image, on)
+    crate::consistency::consistency(table, image, on, true)
 }
 
-// The same without rule 4 of RULES.md 4.3: with all resources on, nothing that a device needs is missing.
+// The same without rule 4 of RULES.md 4.3, and so whatever is on.
 pub fn check_but_power(table: &[u8], image: &[u8]) -> Verdict
     requires { ⌜ tableVerdict (now table) ≡ Done 0 ⌝ }
     ensures { λ r. ⌜ r ≡ stateButPowerVerdict (now (table .entry)) (now (image .entry)) ⌝ }
@@ -47,8 +48,7 @@ pub fn check_but_power(table: &[u8], image: &[u8]) -> Verdict
     if !image_good(table, image) {
         return Verdict::Refused(Reason::BadState, 0);
     }
-    let all = sets::first_n(table::fields::resources(table) as u32);
-    crate::consistency::consistency(table, image, all)
+    crate::consistency::consistency(table, image, 0, false)
 }
 
 // Answers 1 to 8 of any bytes: whether they are a power table and a consistent state of it.
@@ -74,8 +74,6 @@ pub fn fresh(table: &[u8], state: &mut [u8]) -> Verdict
     if state.len() != crate::image::size(table) {
         return Verdict::Refused(Reason::BadState, 0);
     }
-    let resources = table::fields::resources(table);
-    let made = crate::image::fresh_state(resources as u32);
-    crate::image::store(made, state);
+    crate::image::write_fresh(table, state);
     Verdict::Done(0)
 }

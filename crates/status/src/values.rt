@@ -44,16 +44,20 @@ fn first_good(devices: &[u8], n: usize) -> bool
     true
 }
 
-// Each entry from n to the end is zero: the union of all, each read as one number, so that no turn waits for a test.
+// Each entry from n to the end is zero: the union of all, two read as one number, so that no turn waits for a test. An odd one comes first.
 fn zero_from(devices: &[u8], n: usize, end: usize) -> bool
     requires { ⌜ (n ≤ end) × (4 * end ≤ length (now devices)) ⌝ }
     ensures { λ r. ⌜ r ≡ every (λ k. ltb k n || entryZero (entryAt (now (devices .entry)) (4 * k))) end ⌝ }
 {
-    let mut all: u32 = 0;
+    let mut all: u64 = 0;
     let mut i = n;
-    while i < end {
-        all = sets::union(all, words::read32(devices, 4 * i));
+    if (end - n) % 2 == 1 {
+        all = words::read32(devices, 4 * i) as u64;
         i += 1;
+    }
+    while i < end {
+        all = sets::union(all, record::word::read64(devices, 4 * i));
+        i += 2;
     }
     all == 0
 }
@@ -72,7 +76,7 @@ pub fn entries_good(table: &[u8], devices: &[u8]) -> bool
 }
 
 // No resource from R on.
-pub fn on_good(table: &[u8], on: u32) -> bool
+pub fn on_good(table: &[u8], on: u64) -> bool
     requires { ⌜ WellSized (now table) ⌝ }
     ensures { λ r. ⌜ r ≡ onGood (station (now (table .entry))) on ⌝ }
 {

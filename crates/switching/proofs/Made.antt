@@ -2,17 +2,28 @@
 use mathlib.Core.Path.{_≡_, refl, sym}
 use mathlib.Core.Bool.{Bool, false, not, _&&_}
 use mathlib.Core.List.{List, [], map, map-append, map-map}
-use Prim.Native.Nat.{ℕ, _^_, _<_}
+use Prim.Native.Nat.{ℕ, _^_, _≤_, _<_}
+use native.Mathlib.Nat.{lt-of-lt-of-le}
+use native.Mathlib.Omega.{arith}
+use lib.Pow.{pow-mono}
 use Rattle.sets.specs.Sets.{member, minus}
 use Rattle.sets.proofs.Bits.{both}
 use Rattle.sets.proofs.Laws.{member-minus, minus-lt}
 use Rattle.rules.specs.declared.OptionalCall.{OptionalCall}
-use Rattle.rules.specs.Station.{Station, countR}
+use Rattle.rules.specs.Station.{Station, width, Wide, countR}
 use Rattle.rules.specs.Calls.{wordOf, listOf, toTurnOn, toTurnOff, turnOn, turnOff, arrange, switchCalls, switchingOf, switchingWords}
+use Rattle.table.specs.Layout.{WellSized}
 use Rattle.calls.specs.Ranges.{OptionalInRange}
 use Rattle.calls.specs.Switch.{switchWord}
 use Rattle.calls.specs.Phases.{inOrder, switchWords, phaseWords}
 use Rattle.switching.specs.Switching.{Disjoint, GoodSwitching}
+
+-- a set of the resources of a version 1 table, whose width is w, fits 32 bits
+pub narrow-fits : (t : List ℕ) (w a : ℕ) → WellSized t → w ≡ width t → Wide w → (w ≡ 8 → ⊥) → a < 2 ^ countR t → a < 2 ^ 32
+narrow-fits t w a z e h n l =
+    let four : w ≡ 4 = omega arith in
+    let few : countR t ≤ 32 = omega (arith, z .resources) in
+    lt-of-lt-of-le l (pow-mono few)
 
 -- from its parts
 pub switching-is : (own : OptionalCall) (last : Bool) (on target u v : ℕ) → u ≡ minus target on → v ≡ minus on target

@@ -59,7 +59,7 @@ module _ (s : Station) (off : Bool) (todo : ℕ) (first : Bool) (last : ℕ) whe
     unfolding comesNext
     next-below n u = member-below n todo r u (both-true (member todo r) (first || follows s off last r) (sym m ∙ not-false b h) .0)
 
-    pub next-bit : (t : List ℕ) → WellSized t → todo < 2 ^ countR t → r < 32
+    pub next-bit : (t : List ℕ) → WellSized t → todo < 2 ^ countR t → r < 64
     next-bit t z u = omega (arith, resources-few t z, next-below (countR t) u)
 
   -- the loop is at place i of the list, and what is to come gives v

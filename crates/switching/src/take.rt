@@ -24,7 +24,7 @@ fn in_order(table: &[u8], off: bool, last: usize, r: usize) -> bool
 }
 
 // Whether r may be switched next while `left` is still to be switched.
-fn comes_next(table: &[u8], off: bool, left: u32, first: bool, last: usize, r: u32) -> bool
+fn comes_next(table: &[u8], off: bool, left: u64, first: bool, last: usize, r: u32) -> bool
     requires { ⌜ WellSized (now table) × (left < 2 ^ countR (now table)) × (first ≡ false → last < countR (now table)) ⌝ }
     ensures { λ b. ⌜ b ≡ comesNext (station (now (table .entry))) off left first last r ⌝ }
 {
@@ -38,7 +38,7 @@ fn comes_next(table: &[u8], off: bool, left: u32, first: bool, last: usize, r: u
 }
 
 // The place after the words that switch each resource of the set, from `at` on.
-pub fn take_phase(table: &[u8], off: bool, set: u32, list: &[u32], at: usize) -> Taken
+pub fn take_phase(table: &[u8], off: bool, set: u64, list: &[u32], at: usize) -> Taken
     requires { ⌜ WellSized (now table) × (set < 2 ^ countR (now table)) × (at ≤ length (now list)) ⌝ }
     ensures { λ r. ⌜ Leaves (now (list .entry)) r (takePhase (station (now (table .entry))) off set true 0
         (drop at (now (list .entry)))) ⌝ }

@@ -45,7 +45,7 @@ fn take_own(own: OptionalCall, here: bool, list: &[u32], at: usize) -> Taken
 }
 
 // The place after the words that turn one set on, then those that turn another off.
-fn take_phases(table: &[u8], added: u32, removed: u32, list: &[u32], at: usize) -> Taken
+fn take_phases(table: &[u8], added: u64, removed: u64, list: &[u32], at: usize) -> Taken
     requires { ⌜ WellSized (now table) × (added < 2 ^ countR (now table)) × (removed < 2 ^ countR (now table))
         × (at ≤ length (now list)) ⌝ }
     ensures { λ r. ⌜ Leaves (now (list .entry)) r (takePhases (station (now (table .entry))) added removed
@@ -58,7 +58,7 @@ fn take_phases(table: &[u8], added: u32, removed: u32, list: &[u32], at: usize) 
 }
 
 // Whether the list turns one set on, then another off, and nothing else.
-pub fn walk_phases(table: &[u8], added: u32, removed: u32, list: &[u32]) -> bool
+pub fn walk_phases(table: &[u8], added: u64, removed: u64, list: &[u32]) -> bool
     requires { ⌜ WellSized (now table) × (added < 2 ^ countR (now table)) × (removed < 2 ^ countR (now table)) ⌝ }
     ensures { λ r. ⌜ r ≡ isEnd (takePhases (station (now (table .entry))) added removed (now (list .entry))) ⌝ }
 {

@@ -19,6 +19,7 @@ ghost use Rattle.switching.specs.Switching.{GoodSwitching};
 
 // The words that a list has room for in a plan.
 pub fn room(table: &[u8]) -> usize
+    requires { ⌜ WellSized (now table) ⌝ }
     ensures { λ r. ⌜ (r ≡ listRoom (width (now (table .entry)))) × (r ≤ 65) ⌝ }
 {
     table::fields::limit(table) + 1
@@ -40,7 +41,7 @@ fn write_own(own: OptionalCall, plan: &mut [u32], at: usize) -> usize
 }
 
 // The words that turn one set on, then those that turn another off. The answer is the place after the last.
-pub fn write_switches(table: &[u8], added: u32, removed: u32, plan: &mut [u32], at: usize) -> usize
+pub fn write_switches(table: &[u8], added: u64, removed: u64, plan: &mut [u32], at: usize) -> usize
     requires { ⌜ WellSized (now table) × (at + length (phaseWords (station (now table)) added removed) ≤ length (now plan)) ⌝ }
     ensures { λ r. ⌜ (r ≡ at + length (phaseWords (station (now (table .entry))) added removed))
         × (now (plan .exit) ≡ put (now (plan .entry)) at (phaseWords (station (now (table .entry))) added removed)) ⌝ }

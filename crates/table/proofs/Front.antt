@@ -1,5 +1,6 @@
 -- What a version says, and the header as runs of bytes one after the other.
 use mathlib.Core.Path.{_≡_, refl, sym}
+use mathlib.Core.Bool.{_||_}
 use mathlib.Core.List.{List, [], _∷_, _++_}
 use Prim.Native.Nat.{ℕ, _+_, _%_, _^_, _≤_}
 use native.Mathlib.Omega.{arith}
@@ -8,20 +9,20 @@ use lib.ListN.{length}
 use Rattle.words.specs.Words.{bytesLE, put}
 use Rattle.words.proofs.Put.{put-then}
 use Rattle.words.proofs.Twice.{bytes-low}
-use Rattle.rules.specs.Station.{versionGood, versionWidth, Wide}
+use Rattle.rules.specs.Station.{versionGood, versionWidth}
 use Rattle.rules.specs.Table.{mark}
 use Rattle.rules.specs.Describe.{headerBytes}
-use Rattle.rules.proofs.Width.{version-is, version-wide}
+use Rattle.rules.proofs.Width.{version-8, version-4, wide-4, wide-8}
 
-pub version-test : (version : ℕ) → eqb version 1 ≡ versionGood version
+pub version-test : (version : ℕ) → eqb version 1 || eqb version 2 ≡ versionGood version
 unfolding versionGood
 version-test version = refl
 
-pub width-four : (version : ℕ) → 4 ≡ versionWidth version
-width-four version = sym (version-is version)
+pub width-eight : (version : ℕ) → version ≡ 2 → 8 ≡ versionWidth version
+width-eight version e = sym (version-8 version e)
 
-pub four-wide : Wide 4
-four-wide = rw (version-is 0) at (version-wide 0)
+pub width-four : (version : ℕ) → (version ≡ 2 → ⊥) → 4 ≡ versionWidth version
+width-four version n = sym (version-4 version n)
 
 module _ (version resources devices : ℕ) (d : List ℕ) (room : 8 ≤ length d) where
   pub header-put : (a b c e l : List ℕ) → a ≡ put d 0 mark → b ≡ put a 3 (resources ∷ []) → c ≡ put b 4 (bytesLE 2 (version % 256 ^ 2))
@@ -36,4 +37,4 @@ module _ (version resources devices : ℕ) (d : List ℕ) (room : 8 ≤ length d
       put-then d e 0 6 (mark ++ (resources ∷ []) ++ v) (devices ∷ []) (omega arith) refl (rw p2 at r) in
       put-then d l 0 7 (mark ++ (resources ∷ []) ++ v ++ devices ∷ []) (0 ∷ []) (omega arith) refl (rw p3 at s)
 
-pub ruleset header-laws = (version-test, width-four, four-wide, header-put)
+pub ruleset header-laws = (version-test, width-eight, width-four, wide-4, wide-8, header-put)

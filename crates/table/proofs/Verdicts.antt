@@ -23,6 +23,7 @@ use Rattle.rules.proofs.Answers.{done-passes, refused-stops, first-pass, first-
 use Rattle.rules.proofs.Answers.{lowest-stop}
 use Rattle.rules.proofs.Width.{width-wide}
 use Rattle.laws.proofs.Accepted.{accepted, refuses}
+use Rattle.laws.proofs.Describe.{header-says}
 use Rattle.laws.proofs.Every.{least-ext}
 use Rattle.laws.proofs.Tests.{both-true}
 use Rattle.table.specs.Layout.{WellSized}
@@ -35,10 +36,17 @@ module _ (t : List ℕ) where
   unfolding headerGood
   too-short h = rw (lt-leb 8 (length t) h)
 
-  pub header-test : (v : ℕ) (b : Bool) → 8 ≤ length t → v ≡ versionOf t → b ≡ versionGood v
-      → eqb (getD t 0 0) 0x50 && eqb (getD t 1 0) 0x57 && eqb (getD t 2 0) 0x54 && b && eqb (getD t 7 0) 0 ≡ headerGood t
+  abbrev marked : Bool
+  marked = eqb (getD t 0 0) 0x50 && eqb (getD t 1 0) 0x57 && eqb (getD t 2 0) 0x54
+
+  pub no-mark : 8 ≤ length t → not marked ≡ true → false ≡ headerGood t
   unfolding headerGood
-  header-test v b h e f = rw (le-leb 8 (length t) h, f, e)
+  no-mark h n = rw (le-leb 8 (length t) h, not-true marked n)
+
+  pub header-test : (v : ℕ) (b : Bool) → 8 ≤ length t → not marked ≡ false → v ≡ versionOf t → b ≡ versionGood v
+      → b && eqb (getD t 7 0) 0 ≡ headerGood t
+  unfolding headerGood
+  header-test v b h n e f = rw (le-leb 8 (length t) h, not-false marked n, f, e)
 
   pub counts-test : (r d most : ℕ) → r ≡ countR t → d ≡ countD t → most ≡ limit (width t) → leb r most && leb d most ≡ countsGood t
   unfolding countsGood
@@ -63,6 +71,7 @@ module _ (t : List ℕ) where
 
 pub ruleset table-tests = (
   too-short,
+  no-mark,
   header-test,
   counts-test,
   length-test,
@@ -93,20 +102,20 @@ module _ (t : List ℕ) (first w n resources : ℕ) (e : first ≡ deviceStart (
   pub run-inside : WellSized t → first + recordSize w * n ≤ length t
   run-inside z = rw (start-of n, g, z .long) (omega arith)
 
-pub few-devices : (t : List ℕ) (n : ℕ) → (n ≡ countD t) × (n ≤ 32) → n < 256
+pub few-devices : (t : List ℕ) (n : ℕ) → (n ≡ countD t) × (n ≤ 64) → n < 256
 few-devices t n h = omega (arith, h .1)
 
-pub few-resources : (t : List ℕ) (n w : ℕ) → (n ≡ countR t) × (n ≤ 32) → WellSized t → w ≡ width t → n ≤ limit w
+pub few-resources : (t : List ℕ) (n w : ℕ) → (n ≡ countR t) × (n ≤ 64) → WellSized t → w ≡ width t → n ≤ limit w
 few-resources t n w h z e = rw (h .0, e) (z .resources)
 
 pub ruleset lowest-bad = (lowest-4, lowest-5, run-inside, few-devices, few-resources)
 
 -- ---- what the first three checks show
 pub long-of : (t : List ℕ) → headerGood t ≡ true → 8 ≤ length t
-unfolding headerGood
-long-of t h =
-    let mark = both-true _ _ (both-true _ _ (both-true _ _ h .0) .0) .0 in
-    leb-true 8 (length t) (both-true _ _ (both-true _ _ mark .0) .0)
+long-of t h = header-says t h .0
+
+pub version-of : (t : List ℕ) → headerGood t ≡ true → versionGood (versionOf t) ≡ true
+version-of t h = header-says t h .4
 
 pub header-passed : (t : List ℕ) (b : Bool) → b ≡ headerGood t → not b ≡ false → headerGood t ≡ true
 header-passed t b e p = sym e ∙ not-false b p
@@ -123,6 +132,7 @@ sized-by t c l header b y d z =
     let long = eqb-true _ _ (sym d ∙ not-false l z) in (
       record {
         head = long-of t header;
+        version = version-of t header;
         resources = leb-true _ _ (counts .0);
         devices = leb-true _ _ (counts .1);
         long = long;
@@ -215,7 +225,7 @@ module _ (t : List ℕ) where
       pub all-pass : n ≤ q → Done 0 ≡ tableVerdict t
       all-pass u = sym (lowest-passed _ _ _ (countD t) n q (deviceRefusal t) g k u ∙ first-none (Done 0)) ∙ past-resources
 
-pub ruleset table-answers = (long-of, header-passed, no-table, too-many, wrong-length, bad-resource, bad-device, all-pass)
+pub ruleset table-answers = (long-of, version-of, header-passed, no-table, too-many, wrong-length, bad-resource, bad-device, all-pass)
 
 -- ---- what an accepted table is known to have: from the rules, and from what a caller knows of the answer v of the check, and b whether it
 -- passes
@@ -224,6 +234,7 @@ sized-of t e =
     let a = accepted t e in
     record {
       head = unfold deviceStart in omega (arith, a .long);
+      version = version-of t (a .header);
       resources = a .resources;
       devices = a .devices;
       long = a .long;
@@ -240,6 +251,13 @@ accepted-is t v b e f = f ∙ ap passes e
 pub sized-told : (t : List ℕ) (b : Bool) → b ≡ passes (tableVerdict t) → not b ≡ false → WellSized t
 sized-told t b e p = sized-of t (sym e ∙ not-false b p)
 
+-- and so its header is there
+pub long-told : (t : List ℕ) (b : Bool) → b ≡ passes (tableVerdict t) → not b ≡ false → 8 ≤ length t
+long-told t b e p = sized-told t b e p .head
+
+pub version-told : (t : List ℕ) (b : Bool) → b ≡ passes (tableVerdict t) → not b ≡ false → versionGood (versionOf t) ≡ true
+version-told t b e p = sized-told t b e p .version
+
 -- a table that passes is done
 table-done : (t : List ℕ) → passes (tableVerdict t) ≡ true → tableVerdict t ≡ Done 0
 unfolding tableVerdict
@@ -247,6 +265,9 @@ table-done t e = first-through _ (Done 0) e
 
 pub table-passed : (t : List ℕ) (v : Verdict) (b : Bool) → v ≡ tableVerdict t → b ≡ passes v → not b ≡ false → tableVerdict t ≡ Done 0
 table-passed t v b e f p = table-done t (sym (accepted-is t v b e f) ∙ not-false b p)
+
+pub sized-passed : (t : List ℕ) (v : Verdict) (b : Bool) → v ≡ tableVerdict t → b ≡ passes v → not b ≡ false → WellSized t
+sized-passed t v b e f p = sized-done t 0 (table-passed t v b e f p)
 
 -- ---- a device's record
 module _ (t : List ℕ) (d : ℕ) (b : Bool) (e : b ≡ passes (tableVerdict t)) where

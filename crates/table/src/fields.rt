@@ -1,19 +1,23 @@
 // The fields of a table whose counts and length are known to be good, as its station has them.
 ghost use mathlib.Core.Path.{_≡_};
+ghost use mathlib.Core.Bool.{true};
 ghost use Prim.Native.Nat.{_+_, _*_, _<_, _≤_};
 ghost use lib.ListN.{length};
-ghost use Rattle.rules.specs.Station.{width, Wide, limit, recordSize, tableSize, countR, countD, deviceStart, station};
+ghost use Rattle.rules.specs.Station.{versionGood, versionOf, width, Wide, limit, recordSize, tableSize, countR, countD, deviceStart, station};
 ghost use Rattle.table.specs.Layout.{WellSized};
 
-// The bytes of a set, for any bytes: those of the table's version. No other function says what the width of a table is.
+// The bytes of a set: those of the version that the header states, four times its number. No other function says what the width of a table
+// is.
 pub fn width(table: &[u8]) -> usize
+    requires { ⌜ (8 ≤ length (now table)) × (versionGood (versionOf (now table)) ≡ true) ⌝ }
     ensures { λ r. ⌜ (r ≡ width (now (table .entry))) × Wide r ⌝ }
 {
-    4
+    4 * (words::wide(table[4]) as usize)
 }
 
 // The most resources and devices that the width allows.
 pub fn limit(table: &[u8]) -> usize
+    requires { ⌜ (8 ≤ length (now table)) × (versionGood (versionOf (now table)) ≡ true) ⌝ }
     ensures { λ r. ⌜ (r ≡ limit (width (now (table .entry)))) × (r ≤ 64) ⌝ }
 {
     8 * width(table)
@@ -22,7 +26,7 @@ pub fn limit(table: &[u8]) -> usize
 // R, the number of resources.
 pub fn resources(table: &[u8]) -> usize
     requires { ⌜ WellSized (now table) ⌝ }
-    ensures { λ r. ⌜ (r ≡ countR (now (table .entry))) × (r ≤ 32) ⌝ }
+    ensures { λ r. ⌜ (r ≡ countR (now (table .entry))) × (r ≤ 64) ⌝ }
 {
     table[3] as usize
 }
@@ -30,26 +34,22 @@ pub fn resources(table: &[u8]) -> usize
 // D, the number of devices.
 pub fn devices(table: &[u8]) -> usize
     requires { ⌜ WellSized (now table) ⌝ }
-    ensures { λ r. ⌜ (r ≡ countD (now (table .entry))) × (r ≤ 32) ⌝ }
+    ensures { λ r. ⌜ (r ≡ countD (now (table .entry))) × (r ≤ 64) ⌝ }
 {
     table[6] as usize
 }
 
-// The bytes of a table of R resources and D devices. By a branch, so that each product is by a literal.
+// The bytes of a table of R resources and D devices.
 pub fn size(w: usize, resources: usize, devices: usize) -> usize
     requires { ⌜ Wide w × (resources < 256) × (devices < 256) ⌝ }
     ensures { λ r. ⌜ r ≡ tableSize w resources devices ⌝ }
 {
-    let records = 8 + 4 * resources;
-    if w == 8 {
-        return records + 64 * devices;
-    }
-    records + 40 * devices
+    8 + 4 * resources + (16 + 6 * w) * devices
 }
 
 // The byte at which device d's record starts, or the table ends for D.
 pub fn start_at(table: &[u8], d: usize) -> usize
-    requires { ⌜ (8 ≤ length (now table)) × (d < 256) ⌝ }
+    requires { ⌜ (8 ≤ length (now table)) × (versionGood (versionOf (now table)) ≡ true) × (d < 256) ⌝ }
     ensures { λ r. ⌜ r ≡ deviceStart (width (now (table .entry))) (now (table .entry)) d ⌝ }
 {
     size(width(table), words::wide(table[3]) as usize, d)
@@ -112,12 +112,12 @@ pub fn flags(table: &[u8], d: usize) -> u8
     record::read::flags(table, start(table, d), width(table))
 }
 
-// Set k: `_PR0` to `_PR3`, and `_PRW` for 4. A table's sets have 32 bits, so that the cast loses none.
-pub fn set(table: &[u8], d: usize, k: usize) -> u32
+// Set k: `_PR0` to `_PR3`, and `_PRW` for 4, in 64 bits for both versions.
+pub fn set(table: &[u8], d: usize, k: usize) -> u64
     requires { ⌜ WellSized (now table) × (d < countD (now table)) × (k < 5) ⌝ }
     ensures { λ v. ⌜ v ≡ station (now (table .entry)) .device d .sets k ⌝ }
 {
-    record::read::set(table, start(table, d), width(table), k) as u32
+    record::read::set(table, start(table, d), width(table), k)
 }
 
 // `_SxD`, or 255; S0 has none.

@@ -14,13 +14,16 @@ const MARK: [u8; 3] = *b"PWT";
 pub fn version_good(version: u32) -> bool
     ensures { λ b. ⌜ b ≡ versionGood version ⌝ }
 {
-    version == 1
+    (version == 1) | (version == 2)
 }
 
 // The bytes of a set in a table of a version.
 pub fn version_width(version: u32) -> usize
     ensures { λ r. ⌜ (r ≡ versionWidth version) × Wide r ⌝ }
 {
+    if version == 2 {
+        return 8;
+    }
     4
 }
 
@@ -31,12 +34,11 @@ pub fn header_good(table: &[u8]) -> bool
     if table.len() < 8 {
         return false;
     }
-    let version = words::read16(table, 4) as u32;
-    (table[0] == MARK[0])
-        & (table[1] == MARK[1])
-        & (table[2] == MARK[2])
-        & version_good(version)
-        & (table[7] == 0)
+    let marked = (table[0] == MARK[0]) & (table[1] == MARK[1]) & (table[2] == MARK[2]);
+    if !marked {
+        return false;
+    }
+    version_good(words::read16(table, 4) as u32) & (table[7] == 0)
 }
 
 // The header of a table of R resources and D devices, over the first 8 bytes.

@@ -10,14 +10,14 @@ ghost use Prim.Native.Nat.{_<_, _≤_};
 ghost use lib.ListN.{length};
 ghost use Rattle.rules.specs.Index.{least};
 ghost use Rattle.rules.specs.Answers.{passes};
-ghost use Rattle.rules.specs.Station.{countR, countD, resourceStart};
+ghost use Rattle.rules.specs.Station.{versionGood, versionOf, countR, countD, resourceStart};
 ghost use Rattle.rules.specs.Table.{headerGood, countsGood, lengthGood, resourceGood, fieldsGood, deviceGood, deviceRefusal, tableVerdict};
 ghost use Rattle.rules.specs.Outcomes.{recordPart};
 ghost use Rattle.table.specs.Layout.{WellSized};
 
 // 2: at most as many resources and devices as the width allows.
 fn counts_good(table: &[u8]) -> bool
-    requires { ⌜ 8 ≤ length (now table) ⌝ }
+    requires { ⌜ (8 ≤ length (now table)) × (versionGood (versionOf (now table)) ≡ true) ⌝ }
     ensures { λ b. ⌜ b ≡ countsGood (now (table .entry)) ⌝ }
 {
     let most = crate::fields::limit(table);
@@ -26,7 +26,7 @@ fn counts_good(table: &[u8]) -> bool
 
 // 3: the header, the resources and the devices take all bytes.
 fn length_good(table: &[u8]) -> bool
-    requires { ⌜ 8 ≤ length (now table) ⌝ }
+    requires { ⌜ (8 ≤ length (now table)) × (versionGood (versionOf (now table)) ≡ true) ⌝ }
     ensures { λ b. ⌜ b ≡ lengthGood (now (table .entry)) ⌝ }
 {
     let devices = words::wide(table[6]) as usize;

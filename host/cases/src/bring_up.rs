@@ -3,6 +3,7 @@
 
 use reference::{Answer, Call, Execution, Request, State, Table};
 
+use crate::image::on_set;
 use crate::{equal, Case};
 
 /// Functions of one planner, which give their answers as one number.
@@ -35,12 +36,13 @@ impl BringUp {
         let needed = self.state_holds(case, &table, &state)?;
         self.list_holds(case, &table, list, needed)?;
         self.second_holds(case, &state)?;
-        self.ends_with_needed(case, &case.bring_up_list, needed)
+        self.ends_with_needed(case, &table, &case.bring_up_list, needed)
     }
 
     /// The needed set, if the state afterwards is as it must be.
-    fn state_holds(&self, case: &Case, table: &Table, state: &[u8]) -> Result<u32, String> {
-        equal("the entries", &state[..128], &case.reported[..128])?;
+    fn state_holds(&self, case: &Case, table: &Table, state: &[u8]) -> Result<u64, String> {
+        let entries = ..table.version().entry_bytes();
+        equal("the entries", &state[entries], &case.reported[entries])?;
         let read = State::read(table, state).map_err(refused)?;
         let needed = read.needed(table);
         equal("what is on", &read.on(), &needed)?;
@@ -67,14 +69,14 @@ impl BringUp {
         case: &Case,
         table: &Table,
         list: &[u8],
-        needed: u32,
+        needed: u64,
     ) -> Result<(), String> {
         equal(
             "whether the own list passes",
             &self.passes(case, list),
             &true,
         )?;
-        self.ends_with_needed(case, list, needed)?;
+        self.ends_with_needed(case, table, list, needed)?;
         let was_consistent = self.request_finds(case, table, &case.reported)?;
         for &bytes in list.as_chunks().0 {
             match Call::from_word(u32::from_le_bytes(bytes)) {
@@ -91,12 +93,17 @@ impl BringUp {
     }
 
     /// A list that passes ends with exactly the needed set.
-    fn ends_with_needed(&self, case: &Case, list: &[u8], needed: u32) -> Result<(), String> {
+    fn ends_with_needed(
+        &self,
+        case: &Case,
+        table: &Table,
+        list: &[u8],
+        needed: u64,
+    ) -> Result<(), String> {
         if !self.passes(case, list) {
             return Ok(());
         }
-        let on = case.reported[128..].as_chunks().0[0];
-        let mut execution = Execution::new(u32::from_le_bytes(on));
+        let mut execution = Execution::new(on_set(table.version(), &case.reported));
         for &bytes in list.as_chunks().0 {
             execution.carry_out(u32::from_le_bytes(bytes));
         }

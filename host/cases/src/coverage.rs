@@ -1,8 +1,9 @@
 //! How often each answer was given, and some of them at each place.
 
 use std::fmt;
+use std::ops::Range;
 
-use reference::{Answer, Request};
+use reference::{Answer, Request, Version, MAX_DEVICES};
 
 use crate::sleep::SLEEP;
 
@@ -10,8 +11,14 @@ use crate::sleep::SLEEP;
 const ANSWERS: u8 = 22;
 
 /// How often a function gave each answer number at each place.
-#[derive(Clone, Default)]
-pub struct Counts([[u64; 32]; ANSWERS as usize]);
+#[derive(Clone)]
+pub struct Counts(Vec<[u64; MAX_DEVICES]>);
+
+impl Default for Counts {
+    fn default() -> Self {
+        Self(vec![[0; MAX_DEVICES]; ANSWERS.into()])
+    }
+}
 
 impl Counts {
     /// Counts one answer.
@@ -36,10 +43,11 @@ impl Counts {
         }
     }
 
-    /// Fails unless each of these answers was given at every place.
-    pub fn must_reach_places(&self, name: &str, answers: &[u8]) {
+    /// Fails unless each of these answers was given at each of these places.
+    pub fn must_reach(&self, name: &str, answers: &[u8], places: Range<usize>) {
         for &number in answers {
-            for (place, &count) in self.0[usize::from(number)].iter().enumerate() {
+            for place in places.clone() {
+                let count = self.0[usize::from(number)][place];
                 assert!(count > 0, "{name} never gave {number} at place {place}");
             }
         }
@@ -58,8 +66,9 @@ pub const CHECKER: &[u8] = &[
 ];
 /// The answers for a fresh state.
 pub const FRESH: &[u8] = &[0, 1, 2, 3, 4, 5, 6, 7];
-/// The answers of the writer: 3 is for the length of a table that is read.
-pub const WRITER: &[u8] = &[0, 1, 2, 4, 5, 6, 9];
+/// The answers of the writer for a version that there is: 1 is for the others, and
+/// 3 for the length of a table that is read.
+pub const WRITER: &[u8] = &[0, 2, 4, 5, 6, 9];
 /// The answers of the describer.
 pub const DESCRIBER: &[u8] = &[0, 1, 2, 3, 4, 5, 6, 9];
 /// The answers of bring-up.
@@ -67,16 +76,16 @@ pub const BRING_UP: &[u8] = &[0, 1, 2, 3, 4, 5, 6, 7, 8, 9];
 /// The answers of the checker of bring-up.
 pub const BRING_UP_CHECKER: &[u8] = &[0, 1, 2, 3, 4, 5, 6, 7, 8, 19];
 
-/// The answers of the writer that must be given at every place.
-pub const WRITER_PLACES: &[u8] = &[4, 5, 6];
+/// The answers of all functions that name a record of the table.
+pub const RECORDS: &[u8] = &[4, 5, 6];
+/// Those of functions that read a state too.
+pub const RECORDS_AND_ENTRIES: &[u8] = &[4, 5, 6, 8];
 /// Those of sleep entry.
 pub const SLEEP_PLACES: &[u8] = &[4, 5, 6, 8, 20];
-/// Those of bring-up and of its checker.
-pub const BRING_UP_PLACES: &[u8] = &[4, 5, 6, 8];
 
 /// The answers of all functions.
 #[derive(Clone, Default)]
-pub struct Coverage {
+pub struct Functions {
     /// The planner's, but to sleep entry.
     pub planner: Counts,
     /// The planner's to sleep entry.
@@ -99,7 +108,7 @@ pub struct Coverage {
 /// must be given at every place.
 type Function<'a> = (&'static str, &'a Counts, &'static [u8], &'static [u8]);
 
-impl Coverage {
+impl Functions {
     /// Counts an answer of the planner.
     pub fn add_planned(&mut self, request: Request, answer: Answer) {
         match request.kind {
@@ -108,44 +117,34 @@ impl Coverage {
         }
     }
 
-    fn functions(&self) -> [Function<'_>; 8] {
+    fn all(&self) -> [Function<'_>; 8] {
         [
-            ("planner", &self.planner, PLANNER, &[]),
+            ("planner", &self.planner, PLANNER, RECORDS_AND_ENTRIES),
             ("sleep entry", &self.sleep_entry, SLEEP_ENTRY, SLEEP_PLACES),
-            ("checker", &self.checker, CHECKER, &[]),
-            ("fresh", &self.fresh, FRESH, &[]),
-            ("writer", &self.writer, WRITER, WRITER_PLACES),
-            ("describer", &self.describer, DESCRIBER, &[]),
-            ("bring-up", &self.bring_up, BRING_UP, BRING_UP_PLACES),
+            ("checker", &self.checker, CHECKER, RECORDS_AND_ENTRIES),
+            ("fresh", &self.fresh, FRESH, RECORDS),
+            ("writer", &self.writer, WRITER, RECORDS),
+            ("describer", &self.describer, DESCRIBER, RECORDS),
+            ("bring-up", &self.bring_up, BRING_UP, RECORDS_AND_ENTRIES),
             (
                 "bring-up checker",
                 &self.bring_up_checker,
                 BRING_UP_CHECKER,
-                BRING_UP_PLACES,
+                RECORDS_AND_ENTRIES,
             ),
         ]
-    }
-
-    /// Fails unless every answer that can be given was given at least `least`
-    /// times, and no other, and those of sleep entry, of the writer and of bring-up
-    /// that name a record or a device were given at every place.
-    pub fn must_be_whole(&self, least: u64) {
-        for (name, counts, answers, placed) in self.functions() {
-            counts.must_be(name, answers, least);
-            counts.must_reach_places(name, placed);
-        }
     }
 
     /// A row for each answer; "-" is an answer that cannot occur.
     fn fmt_answers(&self, f: &mut fmt::Formatter) -> fmt::Result {
         let width = |name: &str| name.len().max(10) + 2;
         write!(f, "answer")?;
-        for (name, ..) in self.functions() {
+        for (name, ..) in self.all() {
             write!(f, "{name:>0$}", width(name))?;
         }
         for number in 0..ANSWERS {
             write!(f, "\n{number:6}")?;
-            for (name, counts, answers, _) in self.functions() {
+            for (name, counts, answers, _) in self.all() {
                 let width = width(name);
                 match counts.of(number) {
                     0 if !answers.contains(&number) => write!(f, "{:>width$}", "-")?,
@@ -153,42 +152,105 @@ impl Coverage {
                 }
             }
         }
-        Ok(())
+        writeln!(f)
     }
 
-    /// A row for each place, with the answers that must be given at every place.
-    fn fmt_places(&self, f: &mut fmt::Formatter) -> fmt::Result {
+    /// A row for each place of a version, with the answers that must be given at
+    /// every place.
+    fn fmt_places(&self, f: &mut fmt::Formatter, version: Version) -> fmt::Result {
         write!(f, " place")?;
-        for (name, _, _, placed) in self.functions() {
-            write!(
-                f,
-                "{:>1$}",
-                if placed.is_empty() { "" } else { name },
-                8 * placed.len()
-            )?;
+        for (name, _, _, placed) in self.all() {
+            write!(f, "{name:>0$}", 7 * placed.len())?;
         }
         write!(f, "\n      ")?;
-        for (.., placed) in self.functions() {
+        for (.., placed) in self.all() {
             placed
                 .iter()
-                .try_for_each(|number| write!(f, "{number:8}"))?;
+                .try_for_each(|number| write!(f, "{number:7}"))?;
         }
-        for place in 0..32 {
+        for place in 0..version.limit() {
             write!(f, "\n{place:6}")?;
-            for (_, counts, _, placed) in self.functions() {
+            for (_, counts, _, placed) in self.all() {
                 for &number in placed {
-                    write!(f, "{:8}", counts.0[usize::from(number)][place])?;
+                    write!(f, "{:7}", counts.0[usize::from(number)][place])?;
                 }
             }
         }
-        Ok(())
+        writeln!(f)
+    }
+}
+
+/// The answers of all functions for each version: the table's, and of the writer
+/// the one asked for.
+#[derive(Clone, Default)]
+pub struct Coverage {
+    one: Functions,
+    two: Functions,
+    /// For all numbers of versions that there are not, and for tables without one.
+    neither: Functions,
+}
+
+impl Coverage {
+    /// The answers for a version.
+    pub fn of(&self, version: Version) -> &Functions {
+        match version {
+            Version::One => &self.one,
+            Version::Two => &self.two,
+        }
+    }
+
+    /// The answers for all numbers that are no version.
+    pub fn of_no_version(&self) -> &Functions {
+        &self.neither
+    }
+
+    /// The answers for the version of these bytes of a table.
+    pub fn of_table(&mut self, table: &[u8]) -> &mut Functions {
+        self.of_mut(Version::of_table(table))
+    }
+
+    /// The answers for the version that is asked of the writer.
+    pub fn of_number(&mut self, number: u32) -> &mut Functions {
+        self.of_mut(Version::from_number(number))
+    }
+
+    fn of_mut(&mut self, version: Option<Version>) -> &mut Functions {
+        match version {
+            Some(Version::One) => &mut self.one,
+            Some(Version::Two) => &mut self.two,
+            None => &mut self.neither,
+        }
+    }
+
+    /// Fails unless in each version every answer that can be given was given at
+    /// least `least` times, and no other, and those that name a record or a device
+    /// were given at every place; and unless there was answer 1 alone without one.
+    pub fn must_be_whole(&self, least: u64) {
+        for version in Version::ALL {
+            for (function, counts, answers, placed) in self.of(version).all() {
+                let name = format!("version {}, {function}", version.number());
+                counts.must_be(&name, answers, least);
+                counts.must_reach(&name, placed, 0..version.limit());
+            }
+        }
+        for (function, counts, ..) in self.neither.all() {
+            counts.must_be(&format!("no version, {function}"), &[1], least);
+        }
     }
 }
 
 impl fmt::Display for Coverage {
     fn fmt(&self, f: &mut fmt::Formatter) -> fmt::Result {
-        self.fmt_answers(f)?;
-        writeln!(f)?;
-        self.fmt_places(f)
+        for version in Version::ALL {
+            writeln!(f, "version {}", version.number())?;
+            let functions = self.of(version);
+            functions.fmt_answers(f)?;
+            functions.fmt_places(f, version)?;
+        }
+        write!(f, "no version, answer 1 alone:")?;
+        for (function, counts, ..) in self.neither.all() {
+            write!(f, " {function} {}", counts.of(1))?;
+        }
+        Ok(())
     }
 }

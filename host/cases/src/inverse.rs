@@ -1,7 +1,7 @@
 //! What must hold of a writer and a describer on every case, checked without
 //! the code of either.
 
-use reference::{check_table, Answer};
+use reference::{check_table, Answer, Version};
 
 use crate::{equal, Case, Description};
 
@@ -43,11 +43,13 @@ fn written_describes_back(case: &Case, write: Write, describe: Describe) -> Resu
 /// Answer and bytes are those of the table that the records would make, where
 /// there is one, its version is asked for and it has room.
 fn judged_as_a_table(case: &Case, answer: Answer, table: &[u8]) -> Result<(), String> {
-    let room = case.written.len() >= case.description.table_length();
-    if case.version != 1 || !room {
+    let Some(version) = Version::from_number(case.version) else {
+        return Ok(());
+    };
+    if case.written.len() < case.description.table_length(version) {
         return Ok(());
     }
-    let Some(assembled) = case.description.assembled() else {
+    let Some(assembled) = case.description.assembled(version) else {
         return Ok(());
     };
     let verdict = check_table(&assembled);
@@ -77,8 +79,9 @@ fn described_writes_back(case: &Case, write: Write, describe: Describe) -> Resul
     let lent = &case.described.devices[devices_length..];
     equal("what is past the devices", &rest[..], lent)?;
 
+    let version = Version::of_table(&case.table).expect("a good table");
     let mut table = vec![0x5a; case.table.len()];
-    let answer = Answer::unpack(write(1, &described, &mut table));
+    let answer = Answer::unpack(write(version.number().into(), &described, &mut table));
     let expected = Answer::done(table.len() as u16);
     equal("the answer to what was described", &answer, &expected)?;
     equal("what was described", &table, &case.table)

@@ -1,18 +1,18 @@
 //! Seeded random inputs for comparing two planners.
 //!
-//! [`Cases`] gives one case after the other without end. A station is drawn, a
-//! walk of requests leads it from its fresh state or a drawn one through others,
-//! and each step of the walk is a case. Many are sleep entries, for which the armed
-//! devices are in most cases armed for the sleep state asked for. Bring-up has the
-//! entries of the step and any resources on. Some cases are damaged on purpose: the
-//! table, a state, the request, the room for the plan, a list, or the description of
-//! the station and the version and room for its table. The same seed gives the same
-//! cases. [`Coverage`] counts the answers they get.
+//! [`Cases`] gives one case after the other without end. A station of either
+//! version is drawn, a walk of requests leads it from its fresh state or a drawn one
+//! through others, and each step of the walk is a case. Many are sleep entries, for
+//! which the armed devices are in most cases armed for the sleep state asked for.
+//! Bring-up has the entries of the step and any resources on. Some cases are damaged
+//! on purpose: the table, a state, the request, the room for the plan, a list, or the
+//! description of the station and the version and room for its table. The same seed
+//! gives the same cases. [`Coverage`] counts the answers they get.
 //!
 //! [`workloads`] are the inputs to measure, [`sweep`] has small sets of inputs that
 //! are gone through completely, and [`Guarded`] lends a buffer between two runs of
 //! bytes that must stay as they are. [`choices`] finds the choices of a sleep entry
-//! by trying all.
+//! by trying all. [`Versions`] compares one station in both versions.
 
 #![forbid(unsafe_code)]
 
@@ -23,6 +23,7 @@ mod damage;
 mod description;
 mod faults;
 mod guard;
+mod image;
 mod inverse;
 mod lists;
 mod requests;
@@ -31,30 +32,33 @@ mod sleep;
 mod states;
 mod station;
 pub mod sweep;
+mod versions;
 mod workload;
 
 use std::fmt;
 
 use reference::{
-    bring_up, fresh, plan, Answer, Request, DESCRIBED_DEVICE_BYTES, DESCRIBED_RESOURCE_BYTES,
-    PLAN_BYTES, SLEEP_PLAN_BYTES, STATE_BYTES,
+    bring_up, fresh, plan, Answer, Request, Table, Version, DESCRIBED_DEVICE_BYTES,
+    DESCRIBED_RESOURCE_BYTES,
 };
 use states::switch_more_on;
 
 pub use bring_up::BringUp;
 pub use choices::{choices, least, may_take, FEW_DEVICES};
-pub use coverage::{Counts, Coverage, WRITER_PLACES};
+pub use coverage::{Counts, Coverage, Functions, RECORDS};
 pub use damage::{damage_description, damage_state, damage_table};
 pub use description::{Description, VERSIONS};
 pub use faults::{entries_with_fault, faults, good_entries, put_fault, FAULTS};
 pub use guard::Guarded;
+pub use image::{converted, image, on_set, set_on};
 pub use inverse::{inverse_holds, Describe, Write};
 pub use lists::{permute_equal_orders, turn_on_all_needed, vary_bring_up_list, vary_list};
 pub use requests::{any_request, any_sleep, likely_request};
 pub use rng::Rng;
 pub use sleep::{Sleep, SLEEP};
 pub use states::{arm_for, arm_one_for_another, draw_state, report_any_on};
-pub use station::{Record, Resource, Station, SHAPES};
+pub use station::{first_resources, Record, Resource, Station, SHAPES};
+pub use versions::{Compared, Versions};
 pub use workload::{filled_station, workloads, Workload};
 
 /// One input for every function.
@@ -91,12 +95,12 @@ pub struct Case {
 impl Case {
     /// A station to be written and described, with exactly the room that both
     /// need. There is no state and no request.
-    pub fn of_station(station: &Station) -> Self {
+    pub fn of_station(version: Version, station: &Station) -> Self {
         let description = station.description();
         Self {
-            table: station.table(),
-            version: 1,
-            written: vec![0x5a; description.table_length()],
+            table: station.table(version),
+            version: version.number().into(),
+            written: vec![0x5a; description.table_length(version)],
             described: Description {
                 resources: vec![0x5a; description.resources.len()],
                 devices: vec![0x5a; description.devices.len()],
@@ -116,7 +120,7 @@ impl Case {
         Self {
             table: table.to_vec(),
             reported: reported.to_vec(),
-            plan: vec![0x5a; PLAN_BYTES],
+            plan: vec![0x5a; version_of(table).plan_bytes()],
             bring_up_list,
             ..Self::default()
         }
@@ -128,7 +132,7 @@ impl Case {
             table: table.to_vec(),
             state: state.to_vec(),
             request: Request::sleep(x),
-            plan: vec![0x5a; SLEEP_PLAN_BYTES],
+            plan: vec![0x5a; version_of(table).sleep_plan_bytes()],
             ..Self::default()
         }
     }
@@ -212,12 +216,11 @@ impl Cases {
 
     fn draw_station(&mut self) {
         self.steps = 1 + self.rng.below(48);
-        let station = Station::random(&mut self.rng);
-        station.write(&mut self.table);
+        let version = self.rng.pick(&Version::ALL);
+        let station = Station::random(&mut self.rng, version);
+        self.table = station.table(version);
         self.description = station.description();
-        self.state.resize(STATE_BYTES, 0);
-        let answer = fresh(&self.table, &mut self.state);
-        assert!(answer.is_done(), "a drawn station must be good");
+        self.state = fresh_state(&self.table).expect("a drawn station is good");
         if self.rng.one_in(8) {
             self.damage_station();
         }
@@ -230,7 +233,7 @@ impl Cases {
     fn draw_start(&mut self) {
         let start = (0..4).find_map(|_| draw_state(&mut self.rng, &self.table));
         if let Some(state) = start {
-            self.state.copy_from_slice(&state);
+            self.state = state;
         }
     }
 
@@ -238,11 +241,10 @@ impl Cases {
     fn damage_station(&mut self) {
         let mut table = self.table.clone();
         damage_table(&mut self.rng, &mut table);
-        let mut state = [0; STATE_BYTES];
-        if fresh(&table, &mut state).is_done() {
+        if let Some(state) = fresh_state(&table) {
             self.description = Description::of_table(&table);
             self.table = table;
-            self.state.copy_from_slice(&state);
+            self.state = state;
         }
     }
 
@@ -259,10 +261,11 @@ impl Cases {
             arm_for_sleep(rng, &self.table, &mut case.state, case.request.a);
         }
         if rng.one_in(4) {
-            switch_more_on(rng, &self.table, &mut case.state);
+            let table = Table::read(&self.table).expect("a good table");
+            switch_more_on(rng, &table, &mut case.state);
         }
         if rng.one_in(rarity) {
-            damage_state(rng, self.table[6].into(), &mut case.state);
+            damage_state(rng, &self.table, &mut case.state);
         }
     }
 
@@ -296,16 +299,18 @@ impl Cases {
 
     fn lend_buffers(&mut self) {
         let (rng, case) = (&mut self.rng, &mut self.case);
-        let length = room(rng, plan_room(case.request));
+        let version = version_of(&self.table);
+        let needed = plan_room(version_lent(rng, version), case.request);
+        let length = room(rng, needed);
         rng.fill(&mut case.plan, length);
-        let room = match rng.below(16) {
-            0 => rng.below(2 * STATE_BYTES),
-            _ => STATE_BYTES,
+        let length = match rng.below(16) {
+            0 => rng.below(2 * version.state_bytes()),
+            _ => version_lent(rng, version).state_bytes(),
         };
-        rng.fill(&mut case.fresh, room);
+        rng.fill(&mut case.fresh, length);
         case.device = match rng.below(8) {
             0 => rng.next() as usize,
-            _ => rng.below(34),
+            _ => rng.below(version.limit() + 2),
         };
     }
 
@@ -319,7 +324,7 @@ impl Cases {
             put_fault(rng, &self.table, &mut case.reported);
         }
         if rng.one_in(8) {
-            damage_state(rng, self.table[6].into(), &mut case.reported);
+            damage_state(rng, &self.table, &mut case.reported);
         }
         let mut state = case.reported.clone();
         set_planned(&mut case.bring_up_list, |buffer| {
@@ -332,17 +337,18 @@ impl Cases {
     /// What writer and describer are lent, which the walk does not depend on.
     fn lend_description(&mut self) {
         let (rng, case) = (&mut self.rng, &mut self.case);
+        let version = rng.pick(&[Version::One, Version::Two, version_of(&self.table)]);
         case.version = match rng.below(32) {
             0 => rng.pick(&VERSIONS),
             1 => rng.next() as u32,
-            _ => 1,
+            _ => version.number().into(),
         };
         case.description.clone_from(&self.description);
         // Two kinds of damage show which is answered.
         for _ in 0..rng.pick(&[0, 0, 1, 2]) {
             damage_description(rng, &mut case.description);
         }
-        let length = room(rng, case.description.table_length());
+        let length = room(rng, case.description.table_length(version));
         rng.fill(&mut case.written, length);
         let count = |index| case.table.get(index).map_or(0, |&count| usize::from(count));
         let length = room(rng, DESCRIBED_RESOURCE_BYTES * count(3));
@@ -352,11 +358,30 @@ impl Cases {
     }
 }
 
+/// The fresh state of a table, if it is good.
+fn fresh_state(table: &[u8]) -> Option<Vec<u8>> {
+    let mut state = vec![0; Version::of_table(table)?.state_bytes()];
+    fresh(table, &mut state).is_done().then_some(state)
+}
+
+/// The version of a table; where it has none, that with the larger sizes.
+fn version_of(table: &[u8]) -> Version {
+    Version::of_table(table).unwrap_or(Version::Two)
+}
+
+/// The version whose sizes a buffer has: in most cases the table's.
+fn version_lent(rng: &mut Rng, version: Version) -> Version {
+    match rng.below(16) {
+        0 => rng.pick(&Version::ALL),
+        _ => version,
+    }
+}
+
 /// The room for the plan of a request, in bytes.
-fn plan_room(request: Request) -> usize {
+fn plan_room(version: Version, request: Request) -> usize {
     match request.kind {
-        SLEEP => SLEEP_PLAN_BYTES,
-        _ => PLAN_BYTES,
+        SLEEP => version.sleep_plan_bytes(),
+        _ => version.plan_bytes(),
     }
 }
 
@@ -373,7 +398,7 @@ fn arm_for_sleep(rng: &mut Rng, table: &[u8], state: &mut [u8], x: u32) {
 
 /// Makes `list` what a planner writes, and says whether it does.
 fn set_planned(list: &mut Vec<u8>, plan: impl FnOnce(&mut [u8]) -> Answer) -> bool {
-    let mut buffer = [0; SLEEP_PLAN_BYTES];
+    let mut buffer = [0; Version::Two.sleep_plan_bytes()];
     let answer = plan(&mut buffer);
     list.clear();
     list.extend_from_slice(&buffer[..4 * usize::from(answer.count)]);

@@ -189,7 +189,7 @@ fn any_calls(rng: &mut Rng, list: &mut Vec<u8>) {
 }
 
 fn any_call(rng: &mut Rng) -> [u8; 4] {
-    let number = rng.byte_below(32);
+    let number = any_number(rng);
     match rng.below(3) {
         0 => [1, number, 0, 0],
         1 => [2, number, 0, 0],
@@ -198,9 +198,15 @@ fn any_call(rng: &mut Rng) -> [u8; 4] {
 }
 
 fn any_method(rng: &mut Rng) -> [u8; 4] {
-    let number = rng.byte_below(32);
+    let number = any_number(rng);
     match rng.below(2) {
         0 => [3, number, rng.byte_below(4), 0],
         _ => [4, number, rng.byte_below(5), 128 + rng.byte_below(5)],
     }
+}
+
+/// The number of a resource or device, of version 1 or 2.
+fn any_number(rng: &mut Rng) -> u8 {
+    let limit = rng.pick(&[32, 64]);
+    rng.byte_below(limit)
 }

@@ -43,7 +43,7 @@ pub fn any_sleep(rng: &mut Rng) -> Request {
 /// `table` must be good, and `state` consistent for it.
 pub fn likely_request(rng: &mut Rng, table: &[u8], state: &[u8]) -> Request {
     let Ok(view) = Table::read(table) else {
-        return any_request(rng, 32);
+        return any_request(rng, 64);
     };
     if view.device_count() == 0 {
         return any_request(rng, 0);

@@ -1,7 +1,7 @@
 //! What must hold of sleep entry on every case, checked with the reference's
 //! readers of tables and states, and without its sleep entry.
 
-use reference::{demand3, numbers, Answer, Request, State, Table, PLAN_BYTES, SLEEP_PLAN_BYTES};
+use reference::{demand3, numbers, Answer, Request, State, Table};
 
 use crate::choices::{choices, deepened, least, FEW_DEVICES};
 use crate::{equal, Case};
@@ -31,7 +31,7 @@ impl<'a> Start<'a> {
         let Request { device, a, b, .. } = case.request;
         let table = Table::read(&case.table)?;
         let state = State::read(&table, &case.state)?;
-        if case.plan.len() < SLEEP_PLAN_BYTES {
+        if case.plan.len() < table.version().sleep_plan_bytes() {
             return Err(Answer::refused(9, 0));
         }
         match (device, a, b) {
@@ -124,11 +124,12 @@ impl Sleep {
         let device_count = table.device_count();
         let states: Vec<u8> = (0..device_count).map(|d| state[4 * d]).collect();
         start.states_hold(Some(&states))?;
-        let mut entries = case.state[..128].to_vec();
+        let entry_bytes = table.version().entry_bytes();
+        let mut entries = case.state[..entry_bytes].to_vec();
         for (d, &taken) in states.iter().enumerate() {
             entries[4 * d] = taken;
         }
-        equal("the entries", &state[..128], &entries[..])?;
+        equal("the entries", &state[..entry_bytes], &entries[..])?;
 
         let read = State::read(table, state).map_err(|answer| answer.number.to_string())?;
         equal("what is on", &read.on(), &read.needed(table))?;
@@ -150,7 +151,7 @@ impl Sleep {
         for d in (0..table.device_count()).rev() {
             if state[4 * d] != end[4 * d] {
                 let request = Request::move_to(d as u32, end[4 * d].into());
-                let length = self.move_holds(case, &mut state, request, rest)?;
+                let length = self.move_holds(start, &mut state, request, rest)?;
                 rest = &rest[length..];
             }
         }
@@ -166,13 +167,14 @@ impl Sleep {
     /// The length of the list of a move, with which `list` begins.
     fn move_holds(
         &self,
-        case: &Case,
+        start: &Start,
         state: &mut [u8],
         request: Request,
         list: &[u8],
     ) -> Result<usize, String> {
+        let Start { case, table, .. } = start;
         let before = state.to_vec();
-        let mut plan = [0; PLAN_BYTES];
+        let mut plan = vec![0; table.version().plan_bytes()];
         let answer = self.planned(case, state, request, &mut plan);
         equal("the answer to a move", &answer, &Answer::done(answer.count))?;
         let own = &plan[..4 * usize::from(answer.count)];
@@ -194,7 +196,7 @@ impl Sleep {
 }
 
 /// `_OFF` of each resource of a set, by falling order and number.
-fn turn_off_calls(table: &Table, set: u32) -> Vec<u8> {
+fn turn_off_calls(table: &Table, set: u64) -> Vec<u8> {
     let mut resources: Vec<usize> = numbers(set).collect();
     resources.sort_by_key(|&r| (table.resource_order(r), r));
     let falling = resources.into_iter().rev();

@@ -1,28 +1,24 @@
 //! Random consistent states, random sets of resources that are on, and random
 //! arming.
 
-use reference::{wake_range, Device, Entry, State, Table, STATE_BYTES};
+use reference::{wake_range, Device, Entry, State, Table};
 
+use crate::image::{image, on_set, set_on};
 use crate::rng::Rng;
 
 /// Draws a consistent state of a good table, or `None` if the draw failed.
-pub fn draw_state(rng: &mut Rng, table: &[u8]) -> Option<[u8; STATE_BYTES]> {
+pub fn draw_state(rng: &mut Rng, table: &[u8]) -> Option<Vec<u8>> {
     let table = Table::read(table).ok()?;
-    let mut state = [0; STATE_BYTES];
+    let mut entries: Vec<[u8; 4]> = Vec::new();
     let mut needed = 0;
     for d in 0..table.device_count() {
         let device = table.device(d);
-        let shallowest = device.parent().map_or(0, |parent| state[4 * parent]);
+        let shallowest = device.parent().map_or(0, |parent| entries[parent][0]);
         let entry = draw_entry(rng, device, shallowest);
         needed |= device.needs(entry);
-        state[4 * d..4 * d + 4].copy_from_slice(&[
-            entry.state,
-            entry.armed.into(),
-            entry.wake_s,
-            entry.wake_d,
-        ]);
+        entries.push([entry.state, entry.armed.into(), entry.wake_s, entry.wake_d]);
     }
-    state[128..].copy_from_slice(&needed.to_le_bytes());
+    let state = image(table.version(), &entries, needed);
     State::read(&table, &state).is_ok().then_some(state)
 }
 
@@ -58,21 +54,16 @@ fn draw_wake_pair(rng: &mut Rng, device: Device, state: u8) -> Option<(u8, u8)> 
     (device.has_prw() && device.supports(d)).then_some((s, d))
 }
 
-/// The set of all resources of a table that is good.
-fn all_resources(table: &[u8]) -> u32 {
-    ((1u64 << table[3]) - 1) as u32
-}
-
-/// Changes which resources are on in a state.
-fn change_on(state: &mut [u8], change: impl FnOnce(u32) -> u32) {
-    let on = state[128..].as_chunks_mut().0;
-    on[0] = change(u32::from_le_bytes(on[0])).to_le_bytes();
+/// Changes which resources of a table are on in a state.
+fn change_on(table: &Table, state: &mut [u8], change: impl FnOnce(u64) -> u64) {
+    let on = change(on_set(table.version(), state)) & table.all_resources();
+    set_on(table.version(), state, on);
 }
 
 /// Switches resources on that nothing needs.
-pub(crate) fn switch_more_on(rng: &mut Rng, table: &[u8], state: &mut [u8]) {
-    let more = rng.next() as u32 & rng.next() as u32;
-    change_on(state, |on| on | more & all_resources(table));
+pub(crate) fn switch_more_on(rng: &mut Rng, table: &Table, state: &mut [u8]) {
+    let more = rng.next() & rng.next();
+    change_on(table, state, |on| on | more);
 }
 
 /// Arms devices of a consistent state for Sx: those that are armed for another
@@ -116,27 +107,27 @@ fn arm(rng: &mut Rng, table: &Table, state: &mut [u8], d: usize, is_wanted: impl
     if !legal.is_empty() {
         let (s, wake_d) = rng.pick(&legal);
         state[4 * d + 1..4 * d + 4].copy_from_slice(&[1, s, wake_d]);
-        change_on(state, |on| on | device.prw_set());
+        change_on(table, state, |on| on | device.prw_set());
     }
 }
 
 /// Gives a state of a good table any set of resources that are on: as it was,
 /// none, all, the others, one more or less, or any.
 pub fn report_any_on(rng: &mut Rng, table: &[u8], state: &mut [u8]) {
-    let all = all_resources(table);
-    let (any, few) = (rng.next() as u32, rng.next() as u32);
-    let one = 1 << rng.below(32);
+    let Ok(table) = Table::read(table) else {
+        return;
+    };
+    let (any, few) = (rng.next(), rng.next());
+    let one = 1 << rng.below(table.version().limit());
     let which = rng.below(16);
-    change_on(state, |on| {
-        all & match which {
-            0 => on,
-            1 => 0,
-            2 => u32::MAX,
-            3 => !on,
-            4..=6 => on ^ one,
-            7 | 8 => any & few,
-            9 | 10 => any | few,
-            _ => any,
-        }
+    change_on(&table, state, |on| match which {
+        0 => on,
+        1 => 0,
+        2 => u64::MAX,
+        3 => !on,
+        4..=6 => on ^ one,
+        7 | 8 => any & few,
+        9 | 10 => any | few,
+        _ => any,
     });
 }

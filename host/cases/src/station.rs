@@ -1,5 +1,7 @@
 //! Random stations that keep every rule of the table.
 
+use reference::Version;
+
 use crate::description::Description;
 use crate::rng::Rng;
 
@@ -24,7 +26,7 @@ pub struct Record {
     /// Bit 0 `_PRW`, bit 1 `_DSW`.
     pub flags: u8,
     /// `_PR0` to `_PR3` and `_PRW`.
-    pub sets: [u32; 5],
+    pub sets: [u64; 5],
     /// `_S1D` to `_S4D`.
     pub sxd: [u8; 4],
     /// `_S0W` to `_S4W`.
@@ -83,31 +85,19 @@ pub struct Station {
 }
 
 impl Station {
-    /// The table of the station.
-    pub fn table(&self) -> Vec<u8> {
-        let mut bytes = Vec::new();
-        self.write(&mut bytes);
-        bytes
-    }
-
-    /// Writes the table of the station in place of what `bytes` held.
-    pub fn write(&self, bytes: &mut Vec<u8>) {
-        bytes.clear();
-        bytes.extend_from_slice(b"PWT");
-        bytes.extend([
-            self.resources.len() as u8,
-            1,
-            0,
-            self.devices.len() as u8,
-            0,
-        ]);
+    /// The table of the station in some version. Bits of sets that it cannot hold
+    /// are lost.
+    pub fn table(&self, version: Version) -> Vec<u8> {
+        let mut bytes = header(version, self.resources.len(), self.devices.len());
         for resource in &self.resources {
             bytes.extend(resource.bytes());
         }
         for device in &self.devices {
-            device.write(bytes, 4);
-            bytes.extend([0; 6]);
+            let end = bytes.len() + version.record_bytes();
+            device.write(&mut bytes, version.set_bytes());
+            bytes.resize(end, 0);
         }
+        bytes
     }
 
     /// The station as two lists of records.
@@ -122,12 +112,12 @@ impl Station {
         description
     }
 
-    /// A random station that keeps every rule.
-    pub fn random(rng: &mut Rng) -> Self {
-        let resource_count = random_count(rng);
-        let device_count = random_count(rng);
+    /// A random station that keeps every rule of a version.
+    pub fn random(rng: &mut Rng, version: Version) -> Self {
+        let resource_count = random_count(rng, version.limit());
+        let device_count = random_count(rng, version.limit());
         let style = Style::random(rng);
-        let all = ((1u64 << resource_count) - 1) as u32;
+        let all = first_resources(resource_count);
         Self {
             resources: (0..resource_count)
                 .map(|r| style.resource(rng, r))
@@ -151,7 +141,7 @@ impl Record {
     fn write(&self, bytes: &mut Vec<u8>, set_bytes: usize) {
         bytes.extend([self.parent, self.ps, self.pr, self.flags]);
         for set in self.sets {
-            bytes.extend(&u64::from(set).to_le_bytes()[..set_bytes]);
+            bytes.extend(&set.to_le_bytes()[..set_bytes]);
         }
         bytes.extend(self.sxd);
         bytes.extend(self.sxw);
@@ -159,13 +149,27 @@ impl Record {
     }
 }
 
-/// A number of resources or devices: none, one, few, many or all 32.
-fn random_count(rng: &mut Rng) -> usize {
+/// The header of a table.
+pub(crate) fn header(version: Version, resource_count: usize, device_count: usize) -> Vec<u8> {
+    let [low, high] = version.number().to_le_bytes();
+    let counts = [resource_count as u8, low, high, device_count as u8, 0];
+    [b"PWT", &counts[..]].concat()
+}
+
+/// The set of the first resources, at most 64.
+pub fn first_resources(count: usize) -> u64 {
+    (0..count).fold(0, |set, r| set | 1 << r)
+}
+
+/// A number of resources or devices: none, one, few, many or all, of which the
+/// edges of both versions are more likely than others.
+fn random_count(rng: &mut Rng, limit: usize) -> usize {
     match rng.below(16) {
         0 => rng.below(2),
-        1 | 2 => 32,
-        3..=9 => 2 + rng.below(5),
-        _ => rng.below(33),
+        1..=4 => limit,
+        5 => rng.pick(&[31, 32, 33, 34, 63]).min(limit),
+        6..=11 => 2 + rng.below(5),
+        _ => rng.below(limit + 1),
     }
 }
 
@@ -182,6 +186,8 @@ struct Style {
     /// Whether wake ranges are wide and most sleep states allowed.
     wide_wake: bool,
     sets: Sets,
+    /// One in so many parts is not like the others.
+    exceptions: usize,
 }
 
 #[derive(Clone, Copy)]
@@ -255,6 +261,7 @@ impl Style {
                 Sets::Half,
                 Sets::All,
             ]),
+            exceptions: rng.pick(&[8, 8, 500]),
         }
     }
 
@@ -263,22 +270,22 @@ impl Style {
             Orders::Equal(order) => order,
             Orders::Few => rng.below(3) as u16,
             Orders::ByNumber => r as u16,
-            Orders::AgainstNumber => 31 - r as u16,
+            Orders::AgainstNumber => 63 - r as u16,
             Orders::Bytes => rng.pick(&[
                 0, 1, 0xff, 0x100, 0x101, 0x200, 0x7fff, 0x8000, 0xfffe, 0xffff,
             ]),
             Orders::Any => rng.next() as u16,
         };
         let level = match self.level {
-            Some(level) if !rng.one_in(16) => level,
+            Some(level) if !rng.one_in(2 * self.exceptions) => level,
             _ => rng.byte_below(5),
         };
         Resource { level, order }
     }
 
-    fn device(&self, rng: &mut Rng, d: usize, all: u32) -> Record {
+    fn device(&self, rng: &mut Rng, d: usize, all: u64) -> Record {
         let (ps, pr) = match self.shape {
-            Some(shape) if !rng.one_in(8) => shape,
+            Some(shape) if !rng.one_in(self.exceptions) => shape,
             _ => rng.pick(&SHAPES),
         };
         let prw = rng.below(8) < self.wakers;
@@ -303,7 +310,7 @@ impl Style {
     }
 
     fn parent(&self, rng: &mut Rng, d: usize) -> u8 {
-        if d == 0 || rng.one_in(8) {
+        if d == 0 || rng.one_in(self.exceptions) {
             return ABSENT;
         }
         match self.parents {
@@ -315,8 +322,8 @@ impl Style {
         }
     }
 
-    fn set(&self, rng: &mut Rng, all: u32) -> u32 {
-        let sets = if rng.one_in(8) {
+    fn set(&self, rng: &mut Rng, all: u64) -> u64 {
+        let sets = if rng.one_in(self.exceptions) {
             rng.pick(&[Sets::Empty, Sets::Single, Sets::Half, Sets::All])
         } else {
             self.sets
@@ -325,9 +332,9 @@ impl Style {
         all & match sets {
             Sets::Empty => 0,
             Sets::Single => 1 << (bits % u64::from(all.count_ones().max(1))),
-            Sets::Sparse => (bits & bits >> 32 & rng.next()) as u32,
-            Sets::Half => bits as u32,
-            Sets::All => u32::MAX,
+            Sets::Sparse => bits & rng.next() & rng.next(),
+            Sets::Half => bits,
+            Sets::All => u64::MAX,
         }
     }
 

@@ -3,8 +3,9 @@
 pub mod bring_up;
 pub mod sleep;
 
-use reference::Request;
+use reference::{Request, Version};
 
+use crate::image::image;
 use crate::station::{Record, Resource, Station, SHAPES};
 
 /// Every length from 0 to `extra` bytes more than `bytes` has. Bytes past the
@@ -41,7 +42,9 @@ pub fn each_byte(bytes: &[u8], mut each: impl FnMut(&[u8])) {
 
 /// Each byte in turn with several other values, at edges of the rules and beyond.
 pub fn each_wild_byte(bytes: &[u8], mut each: impl FnMut(&[u8])) {
-    let values = [0, 1, 2, 3, 4, 5, 8, 9, 15, 16, 31, 32, 127, 128, 254, 255];
+    let values = [
+        0, 1, 2, 3, 4, 5, 8, 9, 15, 16, 31, 32, 63, 64, 127, 128, 254, 255,
+    ];
     let mut changed = bytes.to_vec();
     for index in 0..bytes.len() {
         for value in values {
@@ -89,6 +92,8 @@ pub fn each_request(mut each: impl FnMut(Request)) {
         5,
         31,
         32,
+        63,
+        64,
         255,
         256,
         257,
@@ -109,8 +114,8 @@ pub fn each_request(mut each: impl FnMut(Request)) {
 
 /// Each way to exchange two calls of a list, to leave one out, to make one
 /// twice, beside itself or at the end, to rotate the list, or to put in `_ON` or
-/// `_OFF` of any resource or a method of some devices.
-pub fn each_list(list: &[u8], mut each: impl FnMut(&[u8])) {
+/// `_OFF` of any resource of a version or a method of some devices.
+pub fn each_list(version: Version, list: &[u8], mut each: impl FnMut(&[u8])) {
     let words = list.as_chunks::<4>().0;
     for first in 0..words.len() {
         for second in first + 1..words.len() {
@@ -126,8 +131,10 @@ pub fn each_list(list: &[u8], mut each: impl FnMut(&[u8])) {
             each([&[word], after, before].concat().as_flattened());
         }
     }
-    let switches = (0..=32).flat_map(|r| [[1, r, 0, 0], [2, r, 0, 0]]);
-    let methods = [0, 1, 31].map(|d| [[3, d, 0, 0], [3, d, 3, 0], [4, d, 3, 0x82], [4, d, 0, 0]]);
+    let limit = version.limit() as u8;
+    let switches = (0..=limit).flat_map(|r| [[1, r, 0, 0], [2, r, 0, 0]]);
+    let methods =
+        [0, 1, limit - 1].map(|d| [[3, d, 0, 0], [3, d, 3, 0], [4, d, 3, 0x82], [4, d, 0, 0]]);
     for word in switches.chain(methods.into_iter().flatten()) {
         for place in 0..=words.len() {
             let (before, after) = words.split_at(place);
@@ -169,12 +176,13 @@ pub fn bench_station() -> Station {
 
 /// Every move of the middle one of three devices, parent, device and child:
 /// each shape of masks, and each state of the three.
-pub fn each_move(mut each: impl FnMut(&[u8], &[u8], Request)) {
+pub fn each_move(version: Version, mut each: impl FnMut(&[u8], &[u8], Request)) {
     for shape in SHAPES {
-        let table = family(shape).table();
+        let table = family(shape).table(version);
         for states in 0..5 * 5 * 5 {
             let [parent, device, child] = [states / 25, states / 5 % 5, states % 5];
             let state = image(
+                version,
                 &[[parent, 0, 0, 0], [device, 0, 0, 0], [child, 0, 0, 0]],
                 0x1f,
             );
@@ -220,10 +228,29 @@ fn family((ps, pr): (u8, u8)) -> Station {
     }
 }
 
+/// Moves in a [`bring_up::chain`] whose first devices are in D0 and the others in
+/// D3hot, each split between them: to D0 below a parent in D3hot, and to D3hot above
+/// a child in D0.
+pub fn each_relative(version: Version, mut each: impl FnMut(&[u8], &[u8], Request)) {
+    let table = bring_up::chain(version).table(version);
+    let limit = version.limit();
+    for split in 0..=limit {
+        let entry = |d| [if d < split { 0 } else { 3 }, 0, 0, 0];
+        let entries: Vec<[u8; 4]> = (0..limit).map(entry).collect();
+        let state = image(version, &entries, u64::MAX);
+        for d in split + 1..limit {
+            each(&table, &state, Request::move_to(d as u32, 0));
+        }
+        for d in 0..split.saturating_sub(1) {
+            each(&table, &state, Request::move_to(d as u32, 3));
+        }
+    }
+}
+
 /// Every arming of one device: each pair of `_SxD` and `_SxW` for the sleep
 /// state, each deepest sleep state, resource level, shape of masks, present
 /// state, and each wake pair.
-pub fn each_arming(mut each: impl FnMut(&[u8], &[u8], Request)) {
+pub fn each_arming(version: Version, mut each: impl FnMut(&[u8], &[u8], Request)) {
     let shapes = [(0, 0), (9, 0), (15, 15), (0, 9), (13, 5)];
     for s in 0..5u8 {
         for sxd in [0, 1, 2, 3, 255] {
@@ -231,8 +258,12 @@ pub fn each_arming(mut each: impl FnMut(&[u8], &[u8], Request)) {
                 for (ps, pr) in shapes {
                     for level_and_deepest in [(s, s), (s.saturating_sub(1), s), (4, 4), (4, 0)] {
                         let record = waker(s, (sxd, sxw), (ps, pr), level_and_deepest.1);
-                        let level = level_and_deepest.0;
-                        each_pair(record, level, s, &mut each);
+                        let resources = [4, level_and_deepest.0];
+                        let station = Station {
+                            resources: resources.map(of_level).to_vec(),
+                            devices: vec![record],
+                        };
+                        each_pair(version, &station, s, &mut each);
                     }
                 }
             }
@@ -245,7 +276,7 @@ fn waker(s: u8, (sxd, sxw): (u8, u8), (ps, pr): (u8, u8), deepest: u8) -> Record
         ps,
         pr,
         flags: 3,
-        sets: [u32::from(pr & 1), 0, 0, 0, 2],
+        sets: [u64::from(pr & 1), 0, 0, 0, 2],
         deepest,
         ..Record::default()
     };
@@ -256,25 +287,21 @@ fn waker(s: u8, (sxd, sxw): (u8, u8), (ps, pr): (u8, u8), deepest: u8) -> Record
     record
 }
 
-fn each_pair(record: Record, level: u8, s: u8, each: &mut impl FnMut(&[u8], &[u8], Request)) {
-    let resources = [4, level].map(|level| Resource { level, order: 0 });
-    let station = Station {
-        resources: resources.to_vec(),
-        devices: vec![record],
-    };
-    let table = station.table();
+const fn of_level(level: u8) -> Resource {
+    Resource { level, order: 0 }
+}
+
+fn each_pair(
+    version: Version,
+    station: &Station,
+    s: u8,
+    each: &mut impl FnMut(&[u8], &[u8], Request),
+) {
+    let table = station.table(version);
     for present in 0..5 {
-        let state = image(&[[present, 0, 0, 0]], 0b01);
+        let state = image(version, &[[present, 0, 0, 0]], 0b01);
         for d in 0..5 {
             each(&table, &state, Request::arm(0, s.into(), d));
         }
     }
-}
-
-/// A state image from its entries and the set of resources that are on.
-pub fn image(entries: &[[u8; 4]], on: u32) -> Vec<u8> {
-    let mut bytes = entries.concat();
-    bytes.resize(128, 0);
-    bytes.extend(on.to_le_bytes());
-    bytes
 }

@@ -1,16 +1,20 @@
 //! The cases reach every answer and every rule. The reference alone is run.
 
 use cases::{
-    faults, may_take, sweep, workloads, Case, Cases, Counts, Coverage, Description, Rng, Station,
-    FAULTS, SHAPES, SLEEP,
+    faults, may_take, on_set, sweep, workloads, Case, Cases, Counts, Coverage, Description, Rng,
+    Station, Workload, FAULTS, SHAPES, SLEEP,
 };
 use reference::{
     bring_up, check, check_bring_up, describe, effect, fresh, numbers, plan, sleep_obstacles,
-    wake_range, write, Answer, Call, Effect, Entry, Obstacle, Request, State, Table,
-    SLEEP_PLAN_BYTES,
+    wake_range, write, Answer, Call, Effect, Entry, Obstacle, Request, State, Table, Version,
 };
 
 const CASES: usize = 200_000;
+
+/// Room for the plan of any version.
+const PLAN_BYTES: usize = Version::Two.plan_bytes();
+/// Room for the plan of a sleep entry of any version.
+const SLEEP_PLAN_BYTES: usize = Version::Two.sleep_plan_bytes();
 
 /// What each function answers to a case.
 struct Answers {
@@ -45,16 +49,18 @@ impl Answers {
 fn every_answer_is_given() {
     let mut coverage = Coverage::default();
     let mut cases = Cases::new(1);
-    for _ in 0..CASES {
+    for _ in 0..2 * CASES {
         let case = cases.next_case();
         let answers = Answers::of(case);
-        coverage.add_planned(case.request, answers.planner);
-        coverage.checker.add(answers.checker);
-        coverage.fresh.add(answers.fresh);
-        coverage.writer.add(answers.writer);
-        coverage.describer.add(answers.describer);
-        coverage.bring_up.add(answers.bring_up);
-        coverage.bring_up_checker.add(answers.bring_up_checker);
+        let counts = coverage.of_table(&case.table);
+        counts.add_planned(case.request, answers.planner);
+        counts.checker.add(answers.checker);
+        counts.fresh.add(answers.fresh);
+        counts.describer.add(answers.describer);
+        counts.bring_up.add(answers.bring_up);
+        counts.bring_up_checker.add(answers.bring_up_checker);
+        let counts = coverage.of_number(case.version);
+        counts.writer.add(answers.writer);
     }
     println!("{coverage}");
     coverage.must_be_whole(100);
@@ -63,19 +69,22 @@ fn every_answer_is_given() {
 #[test]
 fn every_size_and_every_shape_is_drawn() {
     let mut rng = Rng::new(3);
-    let (mut resources, mut devices) = ([0; 33], [0; 33]);
-    let mut shapes = [0; SHAPES.len()];
-    for _ in 0..20_000 {
-        let station = Station::random(&mut rng);
-        resources[station.resources.len()] += 1;
-        devices[station.devices.len()] += 1;
-        for device in &station.devices {
-            let shape = SHAPES.iter().position(|&s| s == (device.ps, device.pr));
-            shapes[shape.expect("a shape that keeps the object rules")] += 1;
+    for version in Version::ALL {
+        let mut resources = vec![0; version.limit() + 1];
+        let mut devices = resources.clone();
+        let mut shapes = [0; SHAPES.len()];
+        for _ in 0..20_000 {
+            let station = Station::random(&mut rng, version);
+            resources[station.resources.len()] += 1;
+            devices[station.devices.len()] += 1;
+            for device in &station.devices {
+                let shape = SHAPES.iter().position(|&s| s == (device.ps, device.pr));
+                shapes[shape.expect("a shape that keeps the object rules")] += 1;
+            }
         }
+        let all = resources.iter().chain(&devices).chain(&shapes);
+        assert!(all.into_iter().all(|&count| count >= 20));
     }
-    let all = resources.iter().chain(&devices).chain(&shapes);
-    assert!(all.into_iter().all(|&count| count >= 20));
 }
 
 /// The rules that an accepted request can meet.
@@ -89,7 +98,7 @@ const RULES: [&str; 24] = [
     "own call before resource calls",
     "own call after resource calls",
     "turn-on and turn-off calls in one list",
-    "33 calls",
+    "as many calls as there can be",
     "no calls",
     "equal orders in one list",
     "D3hot needs _PR3",
@@ -129,7 +138,7 @@ fn rules_met(table: &Table, effect: &Effect, kind: u32, list: &[[u8; 4]]) -> [bo
         others > 0 && own_call.as_ref() == list.first(),
         others > 0 && own_call.as_ref() == list.last(),
         has_kind(1) && has_kind(2),
-        list.len() == 33,
+        list.len() == table.version().plan_words(),
         list.is_empty(),
         orders.windows(2).any(|pair| pair[0] == pair[1]),
         d3hot(0b1000, 0b1000),
@@ -160,29 +169,41 @@ fn resource_orders(table: &Table, list: &[[u8; 4]]) -> Vec<(u8, u16)> {
 
 #[test]
 fn every_rule_is_met() {
-    let mut counts = [0; RULES.len()];
+    let mut counts = [[0; RULES.len()]; 2];
     let mut cases = Cases::new(2);
     for _ in 0..CASES {
         let case = cases.next_case();
         let Ok(effect) = effect(&case.table, &case.state, case.request) else {
             continue;
         };
-        let (mut state, mut buffer) = (case.state.clone(), [0; 132]);
+        let (mut state, mut buffer) = (case.state.clone(), [0; PLAN_BYTES]);
         let answer = plan(&case.table, &mut state, case.request, &mut buffer);
         let list = &buffer.as_chunks().0[..answer.count.into()];
         let table = Table::read(&case.table).expect("accepted");
         let met = rules_met(&table, &effect, case.request.kind, list);
-        for (count, met) in counts.iter_mut().zip(met) {
-            *count += usize::from(met);
-        }
+        add(&mut counts[index(&table)], &met);
     }
     must_be_met(&RULES, &counts);
 }
 
-fn must_be_met(rules: &[&str], counts: &[usize]) {
-    for (rule, &count) in rules.iter().zip(counts) {
-        println!("{count:6} {rule}");
-        assert!(count >= 10, "{rule}: {count}");
+/// Where the counts of a table's version stand.
+fn index(table: &Table) -> usize {
+    usize::from(table.version() == Version::Two)
+}
+
+/// Counts what was met.
+fn add(counts: &mut [usize], met: &[bool]) {
+    for (count, &met) in counts.iter_mut().zip(met) {
+        *count += usize::from(met);
+    }
+}
+
+/// Fails unless each rule was met in each version.
+fn must_be_met<const N: usize>(rules: &[&str; N], counts: &[[usize; N]; 2]) {
+    for (i, rule) in rules.iter().enumerate() {
+        let [one, two] = counts.map(|counts| counts[i]);
+        println!("{one:6} {two:6} {rule}");
+        assert!(one >= 10 && two >= 10, "{rule}: {one} and {two}");
     }
 }
 
@@ -192,7 +213,7 @@ const BRING_UP_LISTS: [&str; 8] = [
     "turn-off calls alone",
     "both",
     "no calls",
-    "32 calls",
+    "_ON or _OFF of as many resources as there can be",
     "equal orders among turn-on calls",
     "equal orders among turn-off calls",
     "a device in use without its supply that has methods",
@@ -215,7 +236,7 @@ fn bring_up_list_has(table: &Table, reported: &[u8], list: &[[u8; 4]]) -> [bool;
         has_kind(2) && !has_kind(1),
         has_kind(1) && has_kind(2),
         list.is_empty(),
-        list.len() == 32,
+        list.len() == table.version().limit(),
         has_equal(1),
         has_equal(2),
         (0..table.device_count()).any(|d| in_use(&d)),
@@ -224,13 +245,13 @@ fn bring_up_list_has(table: &Table, reported: &[u8], list: &[[u8; 4]]) -> [bool;
 
 #[test]
 fn every_kind_of_bring_up_is_met() {
-    let mut lists = [0; BRING_UP_LISTS.len()];
+    let mut lists = [[0; BRING_UP_LISTS.len()]; 2];
     // Each fault of one device alone, with all that is needed on, and without.
-    let mut alone = [[0; FAULTS.len()]; 2];
+    let mut alone = [[[0; FAULTS.len()]; 2]; 2];
     let mut cases = Cases::new(3);
     for _ in 0..CASES {
         let case = cases.next_case();
-        let mut buffer = [0; 132];
+        let mut buffer = [0; PLAN_BYTES];
         let answer = bring_up(&case.table, &mut case.reported.clone(), &mut buffer);
         let Ok(table) = Table::read(&case.table) else {
             continue;
@@ -238,25 +259,24 @@ fn every_kind_of_bring_up_is_met() {
         if answer.is_done() {
             let list = &buffer.as_chunks().0[..answer.count.into()];
             let has = bring_up_list_has(&table, &case.reported, list);
-            for (count, has) in lists.iter_mut().zip(has) {
-                *count += usize::from(has);
-            }
+            add(&mut lists[index(&table)], &has);
         } else if answer.number == 8 {
             if let Some((fault, supplied)) = fault_alone(&table, &case.reported) {
-                alone[usize::from(supplied)][fault] += 1;
+                alone[usize::from(supplied)][index(&table)][fault] += 1;
             }
         }
     }
     must_be_met(&BRING_UP_LISTS, &lists);
-    must_be_met(&FAULTS, &alone[0]);
-    must_be_met(&FAULTS, &alone[1]);
+    for counts in &alone {
+        must_be_met(&FAULTS, counts);
+    }
 }
 
 /// The fault of a state with good values that has but one, and whether all that
 /// it needs is on.
 fn fault_alone(table: &Table, reported: &[u8]) -> Option<(usize, bool)> {
     let entries = reported.as_chunks().0;
-    let on = u32::from_le_bytes(entries[32]);
+    let on = on_set(table.version(), reported);
     let mut found = Vec::new();
     let mut needed = 0;
     for (d, &entry) in entries[..table.device_count()].iter().enumerate() {
@@ -278,7 +298,7 @@ const SLEEP_ENTRIES: [&str; 16] = [
     "all of some devices move",
     "some move and some stay",
     "none of some moves",
-    "32 moves",
+    "as many moves as there can be",
     "none moves, with turn-off calls",
     "none moves, without calls",
     "moves without calls",
@@ -310,12 +330,12 @@ fn sleep_entry_has(
         has_some && move_count == states.len(),
         move_count > 0 && move_count < states.len(),
         has_some && none_moves,
-        move_count == 32,
+        move_count == table.version().limit(),
         none_moves && !calls.is_empty(),
         none_moves && calls.is_empty(),
         move_count > 0 && calls.is_empty(),
         calls.iter().any(|word| word[0] == 1),
-        calls.len() > 33,
+        calls.len() > table.version().plan_words(),
         before.on() & !before.needed(table) != 0,
         some(&|d| moves(d) && only_parent_forbids(table, before, x, &states, d)),
         some(&|d| moves(d) && table.device(d).sxd(x) == Some(states[d])),
@@ -362,29 +382,29 @@ fn obstacle_index(obstacle: Obstacle) -> usize {
 
 #[test]
 fn every_kind_of_sleep_entry_is_met() {
-    let mut entries = [0; SLEEP_ENTRIES.len()];
-    let mut obstacles = [0; OBSTACLES.len()];
+    let mut entries = [[0; SLEEP_ENTRIES.len()]; 2];
+    let mut obstacles = [[0; OBSTACLES.len()]; 2];
     let mut cases = Cases::new(4);
     for _ in 0..CASES {
         let case = cases.next_case();
         if case.request.kind != SLEEP {
             continue;
         }
+        let Ok(table) = Table::read(&case.table) else {
+            continue;
+        };
         let (mut end, mut buffer) = (case.state.clone(), [0; SLEEP_PLAN_BYTES]);
         let answer = plan(&case.table, &mut end, case.request, &mut buffer);
         if answer.is_done() {
-            let table = Table::read(&case.table).expect("accepted");
             let before = State::read(&table, &case.state).expect("accepted");
             let after = State::read(&table, &end).expect("consistent");
             let calls = &buffer.as_chunks().0[..answer.count.into()];
             let has = sleep_entry_has(&table, &before, &after, case.request.a as u8, calls);
-            for (count, has) in entries.iter_mut().zip(has) {
-                *count += usize::from(has);
-            }
+            add(&mut entries[index(&table)], &has);
         } else if answer.number == 21 {
             let found = sleep_obstacles(&case.table, &case.state, case.request.a);
             for obstacle in found.expect("refused with 21").1 {
-                obstacles[obstacle_index(obstacle)] += 1;
+                obstacles[index(&table)][obstacle_index(obstacle)] += 1;
             }
         }
     }
@@ -407,7 +427,7 @@ fn a_seed_gives_the_same_cases_again() {
 
 #[test]
 fn sweeps_have_their_sizes() {
-    let bench = sweep::bench_station().table();
+    let bench = sweep::bench_station().table(Version::One);
     assert_eq!(bench, include_bytes!("../../../examples/station.pwt"));
     assert!(fresh(&bench, &mut [0; 132]).is_done());
     let mut count = 0;
@@ -424,9 +444,9 @@ fn sweeps_have_their_sizes() {
     sweep::each_bit(&bench, |_| count += 1);
     assert_eq!(count, 140 * 8);
     count = 0;
-    // Of 16 values a byte, all but its own.
+    // Of 18 values a byte, all but its own.
     sweep::each_wild_byte(&[0, 7, 255], |_| count += 1);
-    assert_eq!(count, 15 + 16 + 15);
+    assert_eq!(count, 17 + 18 + 17);
     let mut lengths = Vec::new();
     sweep::each_wide_length(&[1, 2], |bytes| lengths.push(bytes.len()));
     assert_eq!(lengths, [258, 65_538]);
@@ -435,18 +455,18 @@ fn sweeps_have_their_sizes() {
     assert_eq!(lengths, [0, 1, 3, 4, 5, 7, 8, 9, 11, 12, 13, 15, 16, 17]);
     count = 0;
     sweep::each_request(|_| count += 1);
-    assert_eq!(count, 14 * 14 * 14 * 14);
+    assert_eq!(count, 16 * 16 * 16 * 16);
 }
 
 #[test]
 fn sweeps_of_bring_up_have_their_sizes() {
     let mut count = 0;
-    sweep::bring_up::each_reported(|_, _| count += 1);
+    sweep::bring_up::each_reported(Version::Two, |_, _| count += 1);
     // Per shape of masks, with 130 entries; then the bench station.
     let per_shape = 3 * 130 * 16 + 3 * 130 * 16 + 125 * 32;
     assert_eq!(count, 21 * per_shape + 125 * 6 * 8);
     count = 0;
-    sweep::bring_up::each_on_and_needed(&[1, 2, 1], |_, _| count += 1);
+    sweep::bring_up::each_on_and_needed(Version::Two, &[1, 2, 1], |_, _| count += 1);
     assert_eq!(count, 8 * 8);
     count = 0;
     sweep::bring_up::each_short_list(|_| count += 1);
@@ -459,38 +479,51 @@ fn sweeps_of_bring_up_have_their_sizes() {
     assert_eq!(sequences.len(), 24);
 }
 
+/// The answers of a sweep.
+fn counts_of(sweep: impl FnOnce(&mut dyn FnMut(Answer))) -> Counts {
+    let mut counts = Counts::default();
+    sweep(&mut |answer| counts.add(answer));
+    counts
+}
+
 #[test]
 fn sweeps_of_bring_up_reach_their_answers() {
-    let mut counts = Counts::default();
-    sweep::bring_up::each_reported(|table, state| {
-        counts.add(bring_up(table, &mut state.to_vec(), &mut [0; 132]));
-    });
-    counts.must_be("bring-up", &[0, 8], 10_000);
-    let mut counts = Counts::default();
-    sweep::bring_up::each_fault(|table, state, d| {
-        let answer = bring_up(table, &mut state.to_vec(), &mut [0; 132]);
-        assert_eq!(answer, Answer::refused(8, d as u64));
-        counts.add(answer);
-    });
-    counts.must_reach_places("bring-up", &[8]);
+    let answer = |table: &[u8], state: &[u8]| {
+        let buffer = &mut [0; PLAN_BYTES];
+        bring_up(table, &mut state.to_vec(), buffer)
+    };
+    for version in Version::ALL {
+        let counts = counts_of(|add| {
+            sweep::bring_up::each_reported(version, |table, state| add(answer(table, state)));
+        });
+        counts.must_be("bring-up", &[0, 8], 10_000);
+        let counts = counts_of(|add| {
+            sweep::bring_up::each_fault(version, |table, state, d| {
+                let answer = answer(table, state);
+                assert_eq!(answer, Answer::refused(8, d as u64));
+                add(answer);
+            });
+        });
+        counts.must_reach("bring-up", &[8], 0..version.limit());
+    }
 }
 
 #[test]
 fn sweeps_of_sleep_entry_have_their_sizes() {
     let mut count = 0;
     // Sleep state, shape of masks, `_SxD`, what cannot be on, state, and arming.
-    sweep::sleep::each_device(|_, _, _| count += 1);
+    sweep::sleep::each_device(Version::Two, |_, _, _| count += 1);
     assert_eq!(count, 4 * 21 * 5 * 16 * 5 * 7);
     count = 0;
     // Of each device 16 sets of states with D3cold, and 8 without.
-    sweep::sleep::each_three_devices(|_, _, _| count += 1);
+    sweep::sleep::each_three_devices(Version::Two, |_, _, _| count += 1);
     assert_eq!(count, 6 * 24 * 24 * 24);
     count = 0;
-    sweep::sleep::each_on_the_bench(|_, _, _| count += 1);
+    sweep::sleep::each_on_the_bench(Version::Two, |_, _, _| count += 1);
     assert_eq!(count, 125 * 6 * 8 * 6);
     count = 0;
-    sweep::sleep::each_armed_for_another(|_, _, _, _| count += 1);
-    assert_eq!(count, 3 * 3 * 32 * 2);
+    sweep::sleep::each_armed_for_another(Version::Two, |_, _, _, _| count += 1);
+    assert_eq!(count, 3 * 3 * 64 * 2);
 }
 
 #[test]
@@ -499,58 +532,93 @@ fn sweeps_of_sleep_entry_reach_their_answers() {
         let buffer = &mut [0; SLEEP_PLAN_BYTES];
         plan(table, &mut state.to_vec(), Request::sleep(x), buffer)
     };
-    let mut counts = Counts::default();
-    sweep::sleep::each_device(|table, state, x| counts.add(answer(table, state, x)));
-    counts.must_be("one device", &[0, 8, 20, 21], 1000);
-    let mut counts = Counts::default();
-    sweep::sleep::each_three_devices(|table, state, x| counts.add(answer(table, state, x)));
-    counts.must_be("three devices", &[0, 21], 1000);
-    let mut counts = Counts::default();
-    sweep::sleep::each_on_the_bench(|table, state, x| counts.add(answer(table, state, x)));
-    counts.must_be("the bench station", &[0, 8, 10, 20], 50);
-    let mut counts = Counts::default();
-    sweep::sleep::each_armed_for_another(|table, state, x, d| {
-        let answer = answer(table, state, x);
-        assert_eq!(answer, Answer::refused(20, d as u64));
-        counts.add(answer);
-    });
-    counts.must_reach_places("sleep entry", &[20]);
+    for version in Version::ALL {
+        let counts = counts_of(|add| {
+            sweep::sleep::each_device(version, |table, state, x| add(answer(table, state, x)));
+        });
+        counts.must_be("one device", &[0, 8, 20, 21], 1000);
+        let counts = counts_of(|add| {
+            sweep::sleep::each_three_devices(version, |table, state, x| {
+                add(answer(table, state, x));
+            });
+        });
+        counts.must_be("three devices", &[0, 21], 1000);
+        let counts = counts_of(|add| {
+            sweep::sleep::each_on_the_bench(version, |table, state, x| {
+                add(answer(table, state, x));
+            });
+        });
+        counts.must_be("the bench station", &[0, 8, 10, 20], 50);
+        let counts = counts_of(|add| {
+            sweep::sleep::each_armed_for_another(version, |table, state, x, d| {
+                let answer = answer(table, state, x);
+                assert_eq!(answer, Answer::refused(20, d as u64));
+                add(answer);
+            });
+        });
+        counts.must_reach("sleep entry", &[20], 0..version.limit());
+    }
 }
 
 #[test]
 fn sweeps_reach_their_answers() {
-    let mut moves = Counts::default();
-    sweep::each_move(|table, state, request| {
-        let mut state = state.to_vec();
-        moves.add(plan(table, &mut state, request, &mut [0; 132]));
-    });
-    moves.must_be("moves", &[0, 8, 11, 12, 13, 14], 100);
-    let mut armings = Counts::default();
-    sweep::each_arming(|table, state, request| {
-        let mut state = state.to_vec();
-        armings.add(plan(table, &mut state, request, &mut [0; 132]));
-    });
-    armings.must_be("armings", &[0, 5, 8, 16, 17, 18], 100);
+    let answer = |table: &[u8], state: &[u8], request| {
+        let buffer = &mut [0; PLAN_BYTES];
+        plan(table, &mut state.to_vec(), request, buffer)
+    };
+    for version in Version::ALL {
+        let counts = counts_of(|add| {
+            sweep::each_move(version, |table, state, request| {
+                add(answer(table, state, request));
+            });
+        });
+        counts.must_be("moves", &[0, 8, 11, 12, 13, 14], 100);
+        let counts = counts_of(|add| {
+            sweep::each_arming(version, |table, state, request| {
+                add(answer(table, state, request));
+            });
+        });
+        counts.must_be("armings", &[0, 5, 8, 16, 17, 18], 100);
+        let counts = counts_of(|add| {
+            sweep::each_relative(version, |table, state, request| {
+                add(answer(table, state, request));
+            });
+        });
+        counts.must_be("relatives", &[13, 14], 10);
+        counts.must_reach("relatives", &[13], 0..version.limit() - 1);
+        counts.must_reach("relatives", &[14], 1..version.limit());
+    }
 }
 
 #[test]
 fn changed_lists_conform_only_within_equal_orders() {
-    let full = workloads().into_iter().nth(2).expect("the full table").case;
-    let (mut passed, mut refused) = (0, 0);
-    sweep::each_list(&full.list, |list| {
-        match check(&full.table, &full.state, full.request, list).number {
-            0 => passed += 1,
-            number => {
-                assert_eq!(number, 19);
-                refused += 1;
+    // Of 24 resources to switch off, eight pairs have equal orders; of 56, eight times
+    // three and eight times four, which make three and six pairs.
+    for (version, calls, pairs, words) in [
+        (Version::One, 25, 8, 66 + 12),
+        (Version::Two, 57, 8 * 3 + 8 * 6, 130 + 12),
+    ] {
+        let is_full = |w: &Workload| w.name.ends_with(&format!("full, {calls} calls to D3cold"));
+        let full = workloads()
+            .into_iter()
+            .find(is_full)
+            .expect("measured")
+            .case;
+        let (mut passed, mut refused) = (0, 0);
+        sweep::each_list(version, &full.list, |list| {
+            match check(&full.table, &full.state, full.request, list).number {
+                0 => passed += 1,
+                number => {
+                    assert_eq!(number, 19);
+                    refused += 1;
+                }
             }
-        }
-    });
-    // Of 24 resources to switch off, eight pairs have equal orders.
-    assert_eq!(
-        (passed, refused),
-        (8, 300 - 8 + 3 * 25 + 24 + 26 * (66 + 12))
-    );
+        });
+        assert_eq!(full.list.len(), 4 * calls);
+        let exchanges = calls * (calls - 1) / 2;
+        let all = exchanges + 3 * calls + calls - 1 + (calls + 1) * words;
+        assert_eq!((passed, refused), (pairs, all - pairs));
+    }
 }
 
 #[test]
@@ -579,19 +647,28 @@ fn workloads_get_their_answers() {
         .iter()
         .all(|n| planner.contains(n)));
     assert!([0, 1, 5, 7, 8, 10, 19].iter().all(|n| checker.contains(n)));
-    assert_eq!(writer, [0, 0, 5]);
-    assert_eq!(describer, [0, 0, 9]);
-    assert_eq!(bring_up, [0, 0, 0, 8, 9]);
-    assert_eq!(bring_up_checker, [0, 0, 0, 8, 19]);
+    assert_eq!(writer, [0, 0, 5, 0]);
+    assert_eq!(describer, [0, 0, 9, 0]);
+    assert_eq!(bring_up, [0, 0, 0, 8, 9, 0, 0, 0]);
+    assert_eq!(bring_up_checker, [0, 0, 0, 8, 19, 0, 0, 0]);
+}
+
+/// The counts of calls in the inputs that are measured with some function.
+fn measured_counts(count: impl Fn(&Workload) -> Option<u16>) -> Vec<u16> {
+    workloads().iter().filter_map(count).collect()
 }
 
 #[test]
-fn measured_sleep_entries_have_their_calls() {
-    let counts: Vec<u16> = workloads()
-        .iter()
-        .filter(|workload| workload.case.request.kind == SLEEP)
-        .map(|workload| Answers::of(&workload.case).planner.count)
-        .collect();
-    // All of 32 moves have an own call, 31 an _ON and 31 an _OFF.
-    assert_eq!(counts, [2, 94, 0, 0, 0]);
+fn measured_plans_have_their_calls() {
+    let is_sleep = |workload: &Workload| workload.case.request.kind == SLEEP;
+    let planned = |workload: &Workload| Answers::of(&workload.case).planner.count;
+    let accepted = |workload: &Workload| workload.planner == Some(0) && !is_sleep(workload);
+    let calls = measured_counts(|workload| accepted(workload).then(|| planned(workload)));
+    assert_eq!(calls, [3, 3, 25, 25, 1, 57, 57, 5]);
+    // All of 32 moves have an own call, 31 an _ON and 31 an _OFF; and of 64, 63.
+    let calls = measured_counts(|workload| is_sleep(workload).then(|| planned(workload)));
+    assert_eq!(calls, [2, 94, 0, 0, 0, 190, 0, 51]);
+    let brought_up = |workload: &Workload| Answers::of(&workload.case).bring_up.count;
+    let calls = measured_counts(|w| (w.bring_up == Some(0)).then(|| brought_up(w)));
+    assert_eq!(calls, [3, 32, 32, 64, 64, 44]);
 }

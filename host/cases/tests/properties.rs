@@ -2,12 +2,13 @@
 //! where that is possible.
 
 use cases::{
-    faults, inverse_holds, permute_equal_orders, sweep, BringUp, Case, Cases, Rng, Sleep, Station,
-    FAULTS, SLEEP,
+    faults, inverse_holds, permute_equal_orders, set_on, sweep, BringUp, Case, Cases, Rng, Sleep,
+    Station, Versions, FAULTS, SLEEP,
 };
 use reference::{
     bring_up, check, check_bring_up, check_table, check_words, demand3, demand3_words, describe,
     effect, execution, fresh, plan, plan_words, record, write, Answer, Call, Effect, State, Table,
+    Version,
 };
 
 const CASES: usize = 100_000;
@@ -101,7 +102,8 @@ fn an_accepted_request_leaves_the_new_entry_and_the_needed_set() {
             after.wake_s,
             after.wake_d,
         ]);
-        expected[128..].copy_from_slice(&effect.needed_after.to_le_bytes());
+        let version = Version::of_table(&case.table).expect("accepted");
+        set_on(version, &mut expected, effect.needed_after);
         assert_eq!(planned.state, expected);
         // The new state is consistent: the next request is looked at.
         let next = check(&case.table, &planned.state, Default::default(), &[]);
@@ -167,8 +169,8 @@ fn bytes_and_words_agree() {
 
 /// What a list must do.
 struct Due {
-    on: u32,
-    target: u32,
+    on: u64,
+    target: u64,
     own_call: Option<Call>,
     own_call_last: bool,
 }
@@ -191,7 +193,7 @@ impl Due {
         let list_words = words(list);
         let mut found = list_words.clone();
         let mut due: Vec<u32> = self.own_call.map(Call::word).into_iter().collect();
-        for resource in 0..32u8 {
+        for resource in 0..64u8 {
             let needed = self.target >> resource & 1 != 0;
             let on = self.on >> resource & 1 != 0;
             match (needed, on) {
@@ -257,8 +259,9 @@ fn a_record_is_handed_out_exactly_for_a_device_of_a_good_table() {
         let part = record(&case.table, case.device);
         let good = check_table(&case.table).is_done();
         if good && case.device < usize::from(case.table[6]) {
-            let start = 8 + 4 * usize::from(case.table[3]) + 40 * case.device;
-            assert!(std::ptr::eq(part, &case.table[start..start + 40]));
+            let length = if case.table[4] == 1 { 40 } else { 64 };
+            let start = 8 + 4 * usize::from(case.table[3]) + length * case.device;
+            assert!(std::ptr::eq(part, &case.table[start..start + length]));
         } else {
             assert!(part.is_empty());
         }
@@ -277,10 +280,12 @@ fn bring_up_leaves_what_is_needed_on_and_its_list_passes() {
     for_each_case(23, |case| {
         assert_eq!(REFERENCE.holds(case), Ok(()), "{case:?}");
     });
-    sweep::bring_up::each_reported(|table, state| {
-        let case = Case::of_bring_up(table, state);
-        assert_eq!(REFERENCE.holds(&case), Ok(()), "{case:?}");
-    });
+    for version in Version::ALL {
+        sweep::bring_up::each_reported(version, |table, state| {
+            let case = Case::of_bring_up(table, state);
+            assert_eq!(REFERENCE.holds(&case), Ok(()), "{case:?}");
+        });
+    }
 }
 
 /// The reference's functions that sleep entry is checked with.
@@ -301,10 +306,45 @@ fn sleep_entry_takes_the_least_choice_move_by_move() {
     });
     assert!(count > CASES / 4);
     let each = |table: &[u8], state: &[u8], x| run(&Case::of_sleep(table, state, x));
-    sweep::sleep::each_device(each);
-    sweep::sleep::each_three_devices(each);
-    sweep::sleep::each_on_the_bench(each);
-    sweep::sleep::each_armed_for_another(|table, state, x, _| each(table, state, x));
+    for version in Version::ALL {
+        sweep::sleep::each_device(version, each);
+        sweep::sleep::each_three_devices(version, each);
+        sweep::sleep::each_on_the_bench(version, each);
+        sweep::sleep::each_armed_for_another(version, |table, state, x, _| each(table, state, x));
+    }
+}
+
+/// The reference's functions that are compared in both versions.
+const REFERENCE_VERSIONS: Versions = Versions {
+    write: |version, lists, table| write(version, &lists.resources, &lists.devices, table).pack(),
+    fresh: |table, state| fresh(table, state).pack(),
+    plan: REFERENCE_SLEEP.plan,
+    check: REFERENCE.check,
+    bring_up: REFERENCE.bring_up,
+    check_bring_up: REFERENCE.check_bring_up,
+};
+
+#[test]
+fn a_station_gets_the_same_in_both_versions() {
+    let (mut requests, mut bring_ups) = (0, 0);
+    let mut run = |case: &Case| match REFERENCE_VERSIONS.agree(case) {
+        Ok(compared) => {
+            requests += usize::from(compared.request);
+            bring_ups += usize::from(compared.bring_up);
+        }
+        Err(what) => panic!("{what}\n{case:?}"),
+    };
+    for_each_case(28, &mut run);
+    for version in Version::ALL {
+        let mut run = |case: Case| run(&case);
+        sweep::bring_up::each_reported(version, |table, state| {
+            run(Case::of_bring_up(table, state));
+        });
+        sweep::sleep::each_on_the_bench(version, |table, state, x| {
+            run(Case::of_sleep(table, state, x));
+        });
+    }
+    assert!(requests > CASES / 2 && bring_ups > CASES / 2);
 }
 
 /// The lowest device that has a fault, whatever is on.
@@ -393,12 +433,14 @@ fn writer_and_describer_are_inverse() {
 fn a_drawn_station_is_written_as_its_table() {
     let mut rng = Rng::new(21);
     for _ in 0..CASES / 10 {
-        let station = Station::random(&mut rng);
-        let description = station.description();
-        let mut table = vec![0; description.table_length()];
-        let answer = write(1, &description.resources, &description.devices, &mut table);
+        let version = rng.pick(&Version::ALL);
+        let station = Station::random(&mut rng, version);
+        let lists = station.description();
+        let mut table = vec![0; lists.table_length(version)];
+        let number = version.number().into();
+        let answer = write(number, &lists.resources, &lists.devices, &mut table);
         assert_eq!(answer, Answer::done(table.len() as u16));
-        assert_eq!(table, station.table());
+        assert_eq!(table, station.table(version));
     }
 }
 
@@ -424,11 +466,14 @@ fn a_writers_place_is_a_record_of_its_list() {
 
 #[test]
 fn a_damaged_bench_table_never_makes_a_function_fail() {
-    let bench = sweep::bench_station().table();
-    let run = |table: &[u8]| {
-        let answer = fresh(table, &mut [0; 132]);
-        assert_eq!(answer, check_table(table));
-    };
-    sweep::each_byte(&bench, run);
-    sweep::each_length(&bench, 48, run);
+    for version in Version::ALL {
+        let bench = sweep::bench_station().table(version);
+        let run = |table: &[u8]| {
+            let lent = Version::of_table(table).unwrap_or(version);
+            let answer = fresh(table, &mut vec![0; lent.state_bytes()]);
+            assert_eq!(answer, check_table(table));
+        };
+        sweep::each_byte(&bench, run);
+        sweep::each_length(&bench, 80, run);
+    }
 }

@@ -3,8 +3,14 @@
 use std::ffi::{OsStr, OsString};
 use std::path::Path;
 
-/// The option that names the resources that are on. The others name a file.
+use sailgarnet::Version;
+
+use crate::words::{number, quoted};
+
+/// The option that names the resources that are on.
 pub const ON: &str = "--on";
+/// The option that names the version of a table. The others name a file.
+pub const VERSION: &str = "--version";
 
 /// The words after a subcommand, sorted out.
 #[derive(Default)]
@@ -48,7 +54,11 @@ impl Args {
         if self.value(name).is_some() {
             return Err(format!("{name} is given twice"));
         }
-        let what = if name == ON { "resources" } else { "a file" };
+        let what = match name {
+            ON => "resources",
+            VERSION => "1 or 2",
+            _ => "a file",
+        };
         let value = rest.next().ok_or_else(|| format!("{name} needs {what}"))?;
         self.options.push((name, value.clone()));
         Ok(())
@@ -60,6 +70,16 @@ impl Args {
         found.map(|(_, value)| value.as_os_str())
     }
 
+    /// The version that is asked for, if one is.
+    pub fn version(&self) -> Result<Option<Version>, String> {
+        let Some(word) = self.value(VERSION).map(OsStr::to_string_lossy) else {
+            return Ok(None);
+        };
+        let version = number(&word).and_then(Version::from_number);
+        let unknown = || format!("{VERSION} is 1 or 2, not {}", quoted(&word));
+        version.map(Some).ok_or_else(unknown)
+    }
+
     /// The file an option names.
     pub fn option(&self, name: &str) -> Option<&Path> {
         self.value(name).map(Path::new)
@@ -68,13 +88,14 @@ impl Args {
 
 #[cfg(test)]
 mod tests {
-    use super::{Args, ON};
+    use super::{Args, ON, VERSION};
+    use sailgarnet::Version;
     use std::ffi::OsString;
     use std::path::Path;
 
     fn parse(words: &[&str]) -> Result<Args, String> {
         let words: Vec<OsString> = words.iter().map(OsString::from).collect();
-        Args::parse(&words, &["-o", "--list", ON])
+        Args::parse(&words, &["-o", "--list", ON, VERSION])
     }
 
     #[test]
@@ -101,6 +122,19 @@ mod tests {
         assert_eq!(message(&["-x"]), "unknown option -x");
         assert_eq!(message(&["-o"]), "-o needs a file");
         assert_eq!(message(&["--on"]), "--on needs resources");
+        assert_eq!(message(&["--version"]), "--version needs 1 or 2");
         assert_eq!(message(&["-o", "a", "-o", "b"]), "-o is given twice");
+    }
+
+    #[test]
+    fn a_version_is_1_or_2() {
+        let version = |words: &[&str]| parse(words).ok().unwrap().version();
+        assert_eq!(version(&["a"]), Ok(None));
+        assert_eq!(version(&["--version", "1"]), Ok(Some(Version::One)));
+        assert_eq!(version(&["--version", "2"]), Ok(Some(Version::Two)));
+        for word in ["0", "3", "02", "+2", "two", "", "4294967298"] {
+            let message = version(&["--version", word]).unwrap_err();
+            assert_eq!(message, format!("--version is 1 or 2, not \"{word}\""));
+        }
     }
 }

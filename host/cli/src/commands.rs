@@ -3,14 +3,15 @@
 use std::ffi::OsString;
 use std::path::Path;
 
-use sailgarnet::{Answer, Device, Resource, Verdict, MAX_TABLE_BYTES, STATE_BYTES};
+use sailgarnet::Verdict;
 
-use crate::args::{Args, ON};
+use crate::args::{Args, ON, VERSION};
 use crate::help::{self, Help};
 use crate::subject::Subject;
-use crate::{backend, demo, files, grid, printer, reader, show, svg, words, Failure, Report};
+use crate::{backend, demo, files, grid, svg, tables, words, Failure, Report};
 
-type Outcome = Result<Report, Failure>;
+/// What a subcommand gives.
+pub type Outcome = Result<Report, Failure>;
 
 /// Runs the command line.
 pub fn run(line: Vec<OsString>) -> Outcome {
@@ -21,10 +22,11 @@ pub fn run(line: Vec<OsString>) -> Outcome {
         )));
     };
     match name.to_string_lossy().as_ref() {
-        "show" => with_args(&help::SHOW, rest, &[], show_table),
-        "describe" => with_args(&help::DESCRIBE, rest, &["-o"], describe_table),
-        "write" => with_args(&help::WRITE, rest, &["-o"], write_table),
-        "fresh" => with_args(&help::FRESH, rest, &["-o"], write_fresh),
+        "show" => with_args(&help::SHOW, rest, &[], tables::show),
+        "describe" => with_args(&help::DESCRIBE, rest, &["-o"], tables::describe),
+        "write" => with_args(&help::WRITE, rest, &[VERSION, "-o"], tables::write),
+        "convert" => with_args(&help::CONVERT, rest, &[VERSION, "-o"], tables::convert),
+        "fresh" => with_args(&help::FRESH, rest, &["-o"], tables::fresh),
         "plan" => with_args(&help::PLAN, rest, &["-o", "--list"], plan_list),
         "check" => with_args(&help::CHECK, rest, &[], check_list),
         "trace" => with_args(&help::TRACE, rest, &["--svg"], trace_list),
@@ -72,7 +74,7 @@ pub fn usage(help: &Help, message: &str) -> Failure {
 }
 
 /// The operands, if there is exactly one for each name.
-fn exactly<'a, const N: usize>(
+pub fn exactly<'a, const N: usize>(
     help: &Help,
     operands: &'a [OsString],
     names: [&str; N],
@@ -97,91 +99,10 @@ pub fn disagreement(refusal: reference::Answer) -> Failure {
     ))
 }
 
-fn refusal(answer: Answer) -> Report {
-    Report::refused(words::answer_line(answer))
-}
-
-/// What was done with a table, and how large it is.
-fn done_with(answer: Answer, table: &[u8]) -> Report {
-    Report::done(words::answer_line(answer) + &words::table_size(table))
-}
-
 /// The file to write, which must be named.
-fn output<'a>(help: &Help, args: &'a Args, name: &str) -> Result<&'a Path, Failure> {
+pub fn output<'a>(help: &Help, args: &'a Args, name: &str) -> Result<&'a Path, Failure> {
     let path = args.option("-o");
     path.ok_or_else(|| usage(help, &format!("-o {name} is missing")))
-}
-
-fn show_table(help: &Help, args: &Args) -> Outcome {
-    let [table] = exactly(help, &args.operands, ["TABLE"])?;
-    let table = files::read(Path::new(table))?;
-    let answer = backend::fresh(&table, &mut [0; STATE_BYTES]);
-    if !answer.is_done() {
-        return Ok(refusal(answer));
-    }
-    show::table(&table).map(Report::done)
-}
-
-fn describe_table(help: &Help, args: &Args) -> Outcome {
-    let [table_path] = exactly(help, &args.operands, ["TABLE"])?;
-    let output = args.option("-o");
-    files::must_keep(output, &[Some(Path::new(table_path))])?;
-    let table = files::read(Path::new(table_path))?;
-    // As many records as the header says. Without a header nothing is written.
-    let number = |byte: usize| table.get(byte).copied().map_or(0, usize::from);
-    let mut resources = vec![0; Resource::BYTES * number(3)];
-    let mut devices = vec![0; Device::BYTES * number(6)];
-    let answer = backend::describe(&table, &mut resources, &mut devices);
-    if !answer.is_done() {
-        return Ok(refusal(answer));
-    }
-    let version = u16::from_le_bytes([table[4], table[5]]);
-    let text = printer::text(version, &resources, &devices);
-    let Some(path) = output else {
-        return Ok(Report::done(text));
-    };
-    files::write(path, text.as_bytes())?;
-    Ok(done_with(answer, &table))
-}
-
-fn write_table(help: &Help, args: &Args) -> Outcome {
-    let [text_path] = exactly(help, &args.operands, ["FILE"])?;
-    let text_path = Path::new(text_path);
-    let output = output(help, args, "TABLE")?;
-    files::must_keep(Some(output), &[Some(text_path)])?;
-    let bytes = files::read(text_path)?;
-    let position = |mistake| format!("{}:{mistake}", text_path.display());
-    let text = reader::read(&bytes).map_err(|mistake| Failure::at_position(position(mistake)))?;
-    let resources: Vec<u8> = text.resources.iter().flat_map(|r| r.to_bytes()).collect();
-    let devices: Vec<u8> = text.devices.iter().flat_map(|d| d.to_bytes()).collect();
-    let mut buffer = [0; MAX_TABLE_BYTES];
-    let answer = backend::write(text.version, &resources, &devices, &mut buffer);
-    if !answer.is_done() {
-        let line = words::answer_line_with(answer, reader::refusal_sentence(answer));
-        let part = position(text.refused_part(answer));
-        return Ok(Report::refused(format!("{line}{part}\n")));
-    }
-    let table = &buffer[..answer.bytes_written()];
-    files::write(output, table)?;
-    Ok(done_with(answer, table))
-}
-
-fn write_fresh(help: &Help, args: &Args) -> Outcome {
-    let [table_path] = exactly(help, &args.operands, ["TABLE"])?;
-    let output = output(help, args, "STATE")?;
-    files::must_keep(Some(output), &[Some(Path::new(table_path))])?;
-    let table = files::read(Path::new(table_path))?;
-    let mut state = [0; STATE_BYTES];
-    let answer = backend::fresh(&table, &mut state);
-    if !answer.is_done() {
-        return Ok(refusal(answer));
-    }
-    files::write(output, &state)?;
-    let on = words::resources(words::on_set(&state));
-    let text = words::answer_line(answer);
-    Ok(Report::done(format!(
-        "{text}Every device is in D0 and not armed. On: {on}\n"
-    )))
 }
 
 fn plan_list(help: &Help, args: &Args) -> Outcome {

@@ -7,6 +7,10 @@ use crate::words;
 
 /// How many calls stand beside each other.
 const CALLS_ACROSS: usize = 12;
+/// With more resources than this, those that stay as they are have no row.
+const MANY_ROWS: usize = 16;
+/// How long a line of names may be.
+const WIDTH: usize = 100;
 
 /// The calls of each part, and a grid with a row for each resource and a column for
 /// each call.
@@ -25,10 +29,33 @@ fn draw_part(trace: &Trace, part: usize) -> String {
     }
     // The first point is the start of the part; the others are after a call.
     let points: Vec<usize> = (calls.start..=calls.end).collect();
-    for points in points.chunks(CALLS_ACROSS + 1) {
-        text += &block(trace, part, points);
+    let has_row = |row: &&Row| trace.rows.len() <= MANY_ROWS || !stays(row, &points);
+    let (rows, others): (Vec<&Row>, Vec<&Row>) = trace.rows.iter().partition(has_row);
+    if others.is_empty() || !rows.is_empty() {
+        for points in points.chunks(CALLS_ACROSS + 1) {
+            text += &block(trace, part, points, &rows);
+        }
     }
-    text
+    let (on, off): (Vec<&Row>, Vec<&Row>) = others.iter().partition(|row| row.on[points[0]]);
+    text + &throughout("on", &on) + &throughout("off", &off)
+}
+
+/// Whether a resource is as it is at all these points, and not off where it must be
+/// on.
+fn stays(row: &Row, points: &[usize]) -> bool {
+    let first = row.on[points[0]];
+    let stays_at = |&point: &usize| row.on[point] == first && !row.fails_at(point);
+    points.iter().all(stays_at)
+}
+
+/// The resources that stay on or off in a part, in lines.
+fn throughout(word: &str, rows: &[&Row]) -> String {
+    if rows.is_empty() {
+        return String::new();
+    }
+    let names = words::names(rows.iter().map(|row| row.resource));
+    let text = format!("{word} throughout: {names}");
+    words::wrap(&text, WIDTH).join("\n  ") + "\n"
 }
 
 /// What went wrong, a line each.
@@ -42,7 +69,7 @@ fn call_line(number: usize, step: &Step) -> String {
     format!("{}{own}\n", words::call_line(number, step.bytes))
 }
 
-fn block(trace: &Trace, part: usize, points: &[usize]) -> String {
+fn block(trace: &Trace, part: usize, points: &[usize], rows: &[&Row]) -> String {
     let mut text = String::from("\nresource  order  needed      ");
     for &point in points {
         let title = match point == trace.parts[part].calls.start {
@@ -52,10 +79,10 @@ fn block(trace: &Trace, part: usize, points: &[usize]) -> String {
         let _ = write!(text, "{title:>6}");
     }
     text += "\n";
-    if trace.rows.is_empty() {
+    if rows.is_empty() {
         text += "(the table has no resources)\n";
     }
-    for row in &trace.rows {
+    for row in rows {
         text += &grid_line(row, needed(row.needed[part]), points);
     }
     text

@@ -22,10 +22,11 @@ for example: move 1 D2
 ";
 
 /// All subcommands.
-pub const ALL: [Help; 10] = [
+pub const ALL: [Help; 11] = [
     SHOW,
     DESCRIBE,
     WRITE,
+    CONVERT,
     FRESH,
     PLAN,
     CHECK,
@@ -41,8 +42,9 @@ pub const SHOW: Help = Help {
     usage: "TABLE",
     purpose: "show the resources and devices of a table",
     text: "\
-TABLE is a power table, a file of raw bytes. For each device the parent, the
-states it has, its methods, and the resources it needs in each state are shown.
+TABLE is a power table of version 1 or 2, a file of raw bytes. Its version and size
+are shown, and for each device the parent, the states it has, its methods, and the
+resources it needs in each state.
 ",
 };
 
@@ -55,7 +57,8 @@ pub const DESCRIBE: Help = Help {
 TABLE is a power table, a file of raw bytes. It has no names, so the resources
 are named r0, r1 and so on, and the devices d0, d1 and so on. The text may be
 given other names; sailgarnet write --help explains its lines. Keep a text with
-other names: a table cannot give them back.
+other names: a table cannot give them back. The text names the version of the
+table, and is written back as the same bytes.
 
   -o FILE    write the text to this file
 ",
@@ -64,13 +67,14 @@ other names: a table cannot give them back.
 /// `write`.
 pub const WRITE: Help = Help {
     name: "write",
-    usage: "FILE -o TABLE",
+    usage: "FILE [--version N] -o TABLE",
     purpose: "write the table of a station that is given as text",
     text: "\
 FILE is text. What it does not say is absent, and # begins a comment. Resources
 and devices get their numbers in the order in which they stand.
 
   version 1
+      At most 32 resources and 32 devices; or version 2, at most 64 of each.
   resource NAME level SLEEP order NUMBER
       It can be on down to SLEEP. NUMBER is 0 to 65535; lower is on earlier.
   device NAME
@@ -86,7 +90,27 @@ SLEEP is S0 to S4, STATE is D0, D1, D2, D3hot or D3cold. A mistake in the text i
 shown with its line and column. Nothing is written then, or if the station is
 refused.
 
-  -o TABLE    the file to write
+  --version N    write version N, 1 or 2, whichever of them the text names
+  -o TABLE       the file to write
+",
+};
+
+/// `convert`.
+pub const CONVERT: Help = Help {
+    name: "convert",
+    usage: "TABLE --version N -o TABLE",
+    purpose: "write a table in the other version",
+    text: "\
+The resources and devices stay as they are, with their numbers, so the same request
+gives the same calls. Version 1 has at most 32 resources and 32 devices, version 2 at
+most 64 of each; a table that does not fit is refused with 2. Converted back, it has
+the same bytes.
+
+A state has 132 bytes for version 1 and 264 for version 2, so the converted table
+begins with a state of its own: sailgarnet fresh.
+
+  --version N    the version to write, 1 or 2; a table that has it is copied
+  -o TABLE       the file to write, another one than is read
 ",
 };
 
@@ -98,7 +122,7 @@ pub const FRESH: Help = Help {
     text: "\
 In the fresh state every device is in D0 and not armed, and all resources are on.
 
-  -o STATE    the file to write, 132 bytes
+  -o STATE    the file to write, 132 bytes, for a table of version 2 264
 ",
 };
 
@@ -154,11 +178,13 @@ request. A list that does not conform is traced too, and refused.
 The grid has a row for each resource and a column for the start and for each
 call. It says when some device needs the resource: before or after the request,
 or both. The mark ! stands where a resource is off though needed before and after.
+In a table with more than 16 resources, those that stay on or off have no row and are
+named below the grid.
 
 Faults are below the grid: words that are no call of the table, resources that
 are off though needed, and resources that are on at the end though not needed.
-A list without a fault may still not conform: a call may be missing, or not in
-its place.
+A list without a fault may still not conform: a call may be missing, not be in
+its place, or switch what is so already.
 
 Sleep entry is traced without LIST, and refused with 10 with one, as by check. Each
 move has its calls and a grid of its own; before and after are of the move. The

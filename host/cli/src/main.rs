@@ -1,6 +1,6 @@
-//! The command `sailgarnet`: shows power tables, describes them as text and
-//! writes them from it, plans requests and bring-ups, and checks and traces lists
-//! of method calls.
+//! The command `sailgarnet`: shows power tables of both versions, describes them as
+//! text and writes them from it, converts them, plans requests and bring-ups, and
+//! checks and traces lists of method calls.
 
 #![forbid(unsafe_code)]
 
@@ -16,12 +16,14 @@ mod line;
 mod objects;
 mod printer;
 mod reader;
+mod refusals;
 mod request;
 mod resources;
 mod show;
 mod sleep;
 mod subject;
 mod svg;
+mod tables;
 mod trace;
 mod words;
 

@@ -2,14 +2,15 @@
 
 use std::fmt::Write;
 
-use sailgarnet::{devices, resources, Device, Resource, NONE};
+use sailgarnet::{devices, resources, Device, Resource, Version, NONE};
 
 use crate::objects::{has_list, has_method, LISTS, METHODS, PRW, SLEEP};
 use crate::words::device_state;
 
 /// The text of a station that is described by two lists, for a table of this
 /// version. Resources are named r0, r1 and so on, devices d0, d1 and so on.
-pub fn text(version: u16, resource_list: &[u8], device_list: &[u8]) -> String {
+pub fn text(version: Version, resource_list: &[u8], device_list: &[u8]) -> String {
+    let version = version.number();
     let mut text = format!("# sailgarnet write --help explains these lines\nversion {version}\n");
     if !resource_list.is_empty() {
         text.push('\n');

@@ -3,7 +3,7 @@
 //! What is wrong with the words is a mistake here. Whether the station that they
 //! say keeps the rules is for the planner to answer.
 
-use sailgarnet::{Answer, Device, Place, Resource, Verdict, MAX_DEVICES, MAX_RESOURCES, NONE};
+use sailgarnet::{Answer, Device, Place, Resource, Verdict, Version, NONE};
 
 use crate::line::{characters, lines, Line, Mistake, Rest, Word};
 use crate::objects::{self, LISTS, METHODS, PRW, SLEEP};
@@ -12,7 +12,7 @@ use crate::words;
 
 /// A station that was read, and the words of the text that name its parts.
 pub struct Text<'a> {
-    /// The version of the table to write.
+    /// The number of the version of the table to write.
     pub version: u32,
     version_word: Word<'a>,
     /// The resources.
@@ -25,7 +25,7 @@ pub struct Text<'a> {
 }
 
 const VERSION_FIRST: &str =
-    "a station begins with the line version 1; only comments may stand before it";
+    "a station begins with the line version 1 or version 2; only comments may stand before it";
 
 /// Reads a text, or gives its first mistake.
 pub fn read(bytes: &[u8]) -> Result<Text<'_>, Mistake> {
@@ -128,6 +128,32 @@ impl<'a> Text<'a> {
         ))
     }
 
+    /// Has the table written in another version than the text says, unless the text
+    /// says one that there is not.
+    pub fn write_as(&mut self, version: Version) {
+        if Version::from_number(self.version).is_some() {
+            self.version = version.number();
+        }
+    }
+
+    /// What a refusal means, where the sentence of the number speaks of what a text
+    /// cannot have.
+    pub fn refusal_sentence(&self, answer: Answer) -> Option<String> {
+        match answer.verdict()? {
+            Verdict::NotATable => Some("the version of the table is neither 1 nor 2.".into()),
+            Verdict::TooMany => {
+                let most = Version::from_number(self.version)?.max_resources();
+                Some(format!(
+                    "there are more than {most} resources or more than {most} devices."
+                ))
+            }
+            Verdict::BadDevice => {
+                Some("a line of this device has a value that is not allowed.".into())
+            }
+            _ => None,
+        }
+    }
+
     /// The part of the text that a refusal is about, and where it stands.
     pub fn refused_part(&self, answer: Answer) -> Mistake {
         let Names { resources, devices } = &self.names;
@@ -150,17 +176,28 @@ impl<'a> Text<'a> {
         }
     }
 
-    /// How many records the text has, at the first one too many.
+    /// How many records the text has, at the first one too many, and whether they fit
+    /// into another version.
     fn counts(&self) -> Mistake {
-        let Names { resources, devices } = &self.names;
-        let surplus = resources.get(MAX_RESOURCES).or(devices.get(MAX_DEVICES));
-        let resources = words::count(resources.len(), "resource");
-        let devices = words::count(devices.len(), "device");
-        let message = format!("the text has {resources} and {devices}");
-        match surplus {
+        let resources = words::count(self.names.resources.len(), "resource");
+        let devices = words::count(self.names.devices.len(), "device");
+        let hint = match self.first_beyond(Version::Two) {
+            None => "; with --version 2 there is room for 64 of each",
+            Some(_) => "",
+        };
+        let message = format!("the text has {resources} and {devices}{hint}");
+        let version = Version::from_number(self.version);
+        match version.and_then(|version| self.first_beyond(version)) {
             Some(name) => name.mistake(message),
             None => Mistake::at_start(message),
         }
+    }
+
+    /// The name of the first record that a version has no room for.
+    fn first_beyond(&self, version: Version) -> Option<Word<'a>> {
+        let Names { resources, devices } = &self.names;
+        let resource = resources.get(version.max_resources());
+        resource.or(devices.get(version.max_devices())).copied()
     }
 
     /// What is bad in the fields of a device: the first of what a text can say
@@ -185,17 +222,6 @@ impl<'a> Text<'a> {
 }
 
 const D3COLD: u8 = 4;
-
-/// What a refusal of a text means, where the sentence of the number speaks of what
-/// a text cannot have.
-pub fn refusal_sentence(answer: Answer) -> Option<&'static str> {
-    match answer.verdict()? {
-        Verdict::NotATable => Some("the version of the table is not 1."),
-        Verdict::TooMany => Some("there are more than 32 resources or more than 32 devices."),
-        Verdict::BadDevice => Some("a line of this device has a value that is not allowed."),
-        _ => None,
-    }
-}
 
 /// The names that a text gives, by number.
 struct Names<'a> {
@@ -355,7 +381,7 @@ fn order(rest: &mut Rest) -> Result<u16, Mistake> {
 
 fn version(word: Word) -> Result<u32, Mistake> {
     word.number().ok_or_else(|| {
-        let message = format!("{} is no version; write 1", word.quoted());
+        let message = format!("{} is no version; write 1 or 2", word.quoted());
         word.mistake(message)
     })
 }

@@ -6,7 +6,7 @@ use crate::words::{number, numbered_beyond, quoted};
 
 /// The set of the resources that a word names, such as `r0,r2`. `none` and an
 /// empty word name none.
-pub fn parse(word: &str) -> Result<u32, String> {
+pub fn parse(word: &str) -> Result<u64, String> {
     if word.is_empty() || word.eq_ignore_ascii_case("none") {
         return Ok(0);
     }
@@ -33,7 +33,7 @@ fn resource(name: &str) -> Result<usize, String> {
 }
 
 /// Checks that a table has all resources of a set.
-pub fn must_be_in(table: &Table, set: u32) -> Result<(), String> {
+pub fn must_be_in(table: &Table, set: u64) -> Result<(), String> {
     let count = table.resource_count();
     let beyond = numbers(set).find_map(|r| numbered_beyond("resource", r, count));
     beyond.map_or(Ok(()), Err)
@@ -50,6 +50,7 @@ mod tests {
             ("r0,r2", 5),
             ("r2,R0", 5),
             ("r31", 1 << 31),
+            ("r63,r0", 1 << 63 | 1),
             ("none", 0),
             ("None", 0),
             ("", 0),
@@ -62,14 +63,14 @@ mod tests {
     fn other_words_are_explained() {
         for (word, message) in [
             ("r0,r2,r0", "\"r0\" is listed twice"),
-            ("r0,", "\"\" is no resource; write r0 to r31"),
+            ("r0,", "\"\" is no resource; write r0 to r63"),
             ("r0 r2", "\"r0 r2\" is no resource"),
             ("r0,none", "\"none\" is no resource"),
             ("0", "\"0\" is no resource"),
             ("r", "\"r\" is no resource"),
             ("r01", "\"r01\" is no resource"),
             ("r+1", "\"r+1\" is no resource"),
-            ("r32", "\"r32\" is no resource"),
+            ("r64", "\"r64\" is no resource"),
             ("r18446744073709551616", "is no resource"),
         ] {
             let found = parse(word).unwrap_err();

@@ -1,7 +1,7 @@
 //! Sleep entry in words: its moves, and why it is refused.
 
 use reference::{Obstacle, SleepMove, State, Table};
-use sailgarnet::{Answer, Request, Verdict, PLAN_BYTES};
+use sailgarnet::{Answer, Request, Verdict, Version};
 
 use crate::commands::disagreement;
 use crate::trace::{Part, Purpose};
@@ -21,7 +21,8 @@ pub fn parts(table: &[u8], state: &[u8], x: u32, list: &[u8]) -> Result<Vec<Part
         let request = Request::move_to(step.device as u32, step.to.into());
         let effect = reference::effect(table, &state, backend::reference_request(request));
         let purpose = Purpose::of_request(&effect.map_err(disagreement)?);
-        let mut plan = [0; PLAN_BYTES];
+        // Enough for both versions.
+        let mut plan = [0; Version::Two.plan_bytes()];
         let answer = backend::plan(table, &mut state, request, &mut plan);
         let calls = &plan[..answer.plan_length()];
         if !list[4 * first..].starts_with(calls) {

@@ -5,13 +5,15 @@ use std::fmt;
 use std::path::Path;
 
 use reference::{State, Table};
-use sailgarnet::{Answer, Request, Verdict, SLEEP_PLAN_BYTES};
+use sailgarnet::{Answer, Request, Verdict, Version};
 
 use crate::args::{Args, ON};
 use crate::commands::{disagreement, usage};
 use crate::help::Help;
 use crate::trace::{Part, Purpose, Trace};
-use crate::{backend, consistency, files, request, resources, sleep, words, Failure, Report};
+use crate::{
+    backend, consistency, files, refusals, request, resources, sleep, words, Failure, Report,
+};
 
 /// What a list of calls is for.
 #[derive(Clone, Copy)]
@@ -108,12 +110,10 @@ impl<'a> Subject<'a> {
     fn set_on(&mut self, names: &OsStr) -> Result<(), String> {
         let on = resources::parse(&names.to_string_lossy())?;
         // A table or a state that cannot be read is left to the planner's answer.
-        let (Ok(table), Some(bytes)) = (Table::read(&self.table), self.state.last_chunk_mut())
-        else {
-            return Ok(());
-        };
-        resources::must_be_in(&table, on).map_err(|fault| format!("{ON} {fault}"))?;
-        *bytes = on.to_le_bytes();
+        if let Ok(table) = Table::read(&self.table) {
+            resources::must_be_in(&table, on).map_err(|fault| format!("{ON} {fault}"))?;
+            let _ = sailgarnet::set_on(&mut self.state, on);
+        }
         Ok(())
     }
 
@@ -135,8 +135,8 @@ impl<'a> Subject<'a> {
 
     fn plan_task(&self, task: Task) -> (Answer, Vec<u8>, Vec<u8>) {
         let (table, mut state) = (&self.table, self.state.clone());
-        // Enough for every task.
-        let mut list = vec![0; SLEEP_PLAN_BYTES];
+        // Enough for every task and both versions.
+        let mut list = vec![0; Version::Two.sleep_plan_bytes()];
         let answer = match task {
             Task::Request(request) => backend::plan(table, &mut state, request, &mut list),
             Task::BringUp => backend::bring_up(table, &mut state, &mut list),
@@ -216,19 +216,32 @@ impl<'a> Subject<'a> {
         format!("The planner's list has {}", words::call_lines(&list))
     }
 
-    /// The refusal of the task. For a device that is not consistent and for sleep
-    /// entry it says why.
+    /// The refusal of the task. For a table or a state as a whole, for a device that
+    /// is not consistent or not there and for sleep entry it says why.
     pub fn refusal(&self, answer: Answer) -> Report {
         let (why, more) = match (answer.verdict(), self.task.sleep_entry()) {
+            (Some(Verdict::NotATable | Verdict::TooMany | Verdict::WrongLength), _) => {
+                (refusals::of_table(answer, &self.table), None)
+            }
+            (Some(Verdict::BadState), _) => refusals::of_state(&self.table, &self.state).unzip(),
             (Some(Verdict::Inconsistent), _) => {
                 let device = answer.place as usize;
                 (self.inconsistency(device), Some(self.remedy().into()))
             }
             (_, Some(x)) => sleep::refusal(answer, &self.table, &self.state, x).unzip(),
+            (Some(Verdict::BadRequest), None) => (self.no_such_device(), None),
             _ => (None, None),
         };
         let line = words::answer_line_with(answer, why.as_deref());
         Report::refused(line + &more.unwrap_or_default())
+    }
+
+    /// That the table does not have the device of the request.
+    fn no_such_device(&self) -> Option<String> {
+        match self.task {
+            Task::Request(request) => refusals::of_request(&self.table, request),
+            Task::BringUp => None,
+        }
     }
 
     /// Why this device is not consistent. That a resource is off is no reason to

@@ -1,6 +1,7 @@
 //! A trace as a timing diagram.
 
 mod bands;
+mod repeats;
 
 use std::fmt::Write;
 use std::ops::Range;
@@ -8,6 +9,7 @@ use std::ops::Range;
 use sailgarnet::Answer;
 
 use self::bands::Extras;
+use self::repeats::Repeats;
 use crate::subject::Task;
 use crate::trace::{Part, Row, Step, Trace};
 use crate::words;
@@ -61,6 +63,8 @@ struct Layout {
     spans: Vec<Range<usize>>,
     /// What there is for bands.
     bands: Extras,
+    /// What is shown again.
+    repeats: Repeats,
     /// The lines of text at the top.
     heading: Vec<String>,
     /// The lines of text about faults, at the bottom.
@@ -81,7 +85,9 @@ impl Layout {
         let bands = Extras::of(trace);
         let top = 60 + LINE * heading.len() + 60 + bands.height;
         let lines = faults.len() + LEGEND.len() + bands.legend.iter().len();
-        let height = top + ROW * trace.rows.len().max(1) + LINE * (lines + 1);
+        let rows = trace.rows.len().max(1);
+        let repeats = Repeats::of(rows, width);
+        let height = top + ROW * rows + repeats.height + LINE * (lines + 1);
         Self {
             width,
             height,
@@ -89,6 +95,7 @@ impl Layout {
             edges,
             spans,
             bands,
+            repeats,
             heading,
             faults,
         }
@@ -177,19 +184,12 @@ fn draw_column_titles(out: &mut String, layout: &Layout) {
 fn draw_call(out: &mut String, layout: &Layout, rows: usize, number: usize, step: &Step) {
     let x = layout.edges[number];
     let (top, bottom) = (layout.top - 6, layout.row_top(rows.max(1)));
-    let (line, label) = if step.own {
-        ("own", "middle own-text")
-    } else {
-        ("call", "middle")
-    };
+    let line = if step.own { "own" } else { "call" };
     let _ = writeln!(
         out,
         "<line class=\"{line}\" x1=\"{x}\" y1=\"{top}\" x2=\"{x}\" y2=\"{bottom}\"/>"
     );
-    let (method, target) = words::short_call(step.call);
-    text(out, x, layout.top - 42, "small middle", &number.to_string());
-    text(out, x, layout.top - METHODS, label, &method);
-    text(out, x, layout.top - 12, "small middle", &target);
+    repeats::draw_call_texts(out, layout, bottom, number, step);
 }
 
 fn draw_row(out: &mut String, layout: &Layout, top: usize, row: &Row) {
@@ -207,6 +207,7 @@ fn draw_row(out: &mut String, layout: &Layout, top: usize, row: &Row) {
     text(out, 52, base - 6, "small", &order);
     draw_need(out, LEFT - 60, base - 10, needed.before);
     draw_need(out, layout.after(), base - 10, needed.after);
+    repeats::draw_name(out, layout, base - 6, row);
     draw_areas(out, layout, base, row);
 }
 
@@ -238,7 +239,7 @@ fn draw_areas(out: &mut String, layout: &Layout, base: usize, row: &Row) {
 }
 
 /// The line that is high for on and low for off, with a word at the start and
-/// after each change.
+/// after each change, and again where a large drawing repeats it.
 fn draw_level(out: &mut String, layout: &Layout, base: usize, row: &Row) {
     let edges = &layout.edges;
     let level = |on: bool| if on { base - SWING } else { base };
@@ -247,14 +248,19 @@ fn draw_level(out: &mut String, layout: &Layout, base: usize, row: &Row) {
         let _ = write!(path, "V{}H{end}", level(on));
     }
     let _ = writeln!(out, "<path class=\"level\" d=\"{path}\"/>");
+    let mut last = LEFT;
     for (point, &on) in row.on.iter().enumerate() {
+        let x = edges[point];
+        let is_said = point > 0 && row.on[point - 1] == on;
         let word = match (on, row.fails_at(point)) {
             (_, true) => "! off",
-            _ if point > 0 && row.on[point - 1] == on => continue,
+            _ if is_said && !layout.repeats.is_far(x - last) => continue,
             (true, _) => "on",
             (false, _) => "off",
         };
-        text(out, edges[point] + 7, base - 6, "small", word);
+        last = x;
+        let word = layout.repeats.named(row, word);
+        text(out, x + 7, base - 6, "small", &word);
     }
 }
 
@@ -262,7 +268,7 @@ fn draw_legend(out: &mut String, layout: &Layout, trace: &Trace) {
     let after = layout.after();
     text(out, after, layout.top - 24, "small middle", "needed");
     text(out, after, layout.top - 10, "small middle", "after");
-    let mut y = layout.row_top(trace.rows.len().max(1)) + 26;
+    let mut y = layout.row_top(trace.rows.len().max(1)) + layout.repeats.height + 26;
     for line in LEGEND.into_iter().chain(layout.bands.legend) {
         text(out, 20, y, "small", line);
         y += LINE;

@@ -10,12 +10,12 @@ use crate::words::{self, numbered_beyond};
 /// What a part of a list is measured by: what is on at its start, what is needed,
 /// and the own call.
 pub struct Purpose {
-    on_before: u32,
-    needed_before: u32,
-    needed_after: u32,
+    on_before: u64,
+    needed_before: u64,
+    needed_after: u64,
     /// The bytes of the device's own call.
     own_call: Option<[u8; 4]>,
-    own_call_needs: u32,
+    own_call_needs: u64,
 }
 
 impl Purpose {
@@ -31,7 +31,7 @@ impl Purpose {
     }
 
     /// That of switching alone. It keeps the entries, so what is needed stays.
-    pub fn of_switching(on: u32, needed: u32) -> Self {
+    pub fn of_switching(on: u64, needed: u64) -> Self {
         Self {
             on_before: on,
             needed_before: needed,
@@ -187,7 +187,7 @@ fn steps(parts: &[Part], list: &[u8]) -> Vec<Step> {
 }
 
 /// What is on at the start and after each call.
-fn points(on_before: u32, list: &[u8]) -> Vec<Execution> {
+fn points(on_before: u64, list: &[u8]) -> Vec<Execution> {
     let mut execution = Execution::new(on_before);
     let mut points = vec![execution];
     for &bytes in list.as_chunks().0 {
@@ -198,7 +198,7 @@ fn points(on_before: u32, list: &[u8]) -> Vec<Execution> {
 }
 
 fn row(table: &Table, parts: &[Part], points: &[Execution], r: usize) -> Row {
-    let holds = |set: u32| set >> r & 1 != 0;
+    let holds = |set: u64| set >> r & 1 != 0;
     let needed = parts.iter().map(|part| Needed {
         before: holds(part.purpose.needed_before),
         after: holds(part.purpose.needed_after),
@@ -286,7 +286,7 @@ fn faults_of_own_calls(part: &Part, steps: &[Step], points: &[Execution]) -> Vec
 }
 
 /// Resources that are not as needed, and bytes that are no word.
-fn faults_at_the_end(needed: u32, end: Execution, odd_bytes: usize) -> Vec<String> {
+fn faults_at_the_end(needed: u64, end: Execution, odd_bytes: usize) -> Vec<String> {
     let off = words::names(numbers(needed & !end.on()));
     let on = words::names(end.on_but_not_in(needed));
     let mut faults = Vec::new();

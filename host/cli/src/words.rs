@@ -4,7 +4,7 @@ use std::ops::Range;
 use std::str::FromStr;
 
 use reference::numbers;
-use sailgarnet::{Answer, Call};
+use sailgarnet::{Answer, Call, Version};
 
 /// The names of the device states, by number.
 pub const DEVICE_STATES: [&str; 5] = ["D0", "D1", "D2", "D3hot", "D3cold"];
@@ -15,7 +15,7 @@ pub fn device_state(state: u8) -> &'static str {
 }
 
 /// The resources of a set, or that there are none.
-pub fn resources(set: u32) -> String {
+pub fn resources(set: u64) -> String {
     match set {
         0 => "none".into(),
         _ => names(numbers(set)),
@@ -28,10 +28,9 @@ pub fn names(resources: impl IntoIterator<Item = usize>) -> String {
     names.join(" ")
 }
 
-/// The set of resources that are on in a state image.
-pub fn on_set(state: &[u8]) -> u32 {
-    let bytes = state.last_chunk().expect("a state has 132 bytes");
-    u32::from_le_bytes(*bytes)
+/// The set of resources that are on in a state that the planner took or made.
+pub fn on_set(state: &[u8]) -> u64 {
+    sailgarnet::on_set(state).expect("the length of a state")
 }
 
 /// A call in words.
@@ -155,12 +154,18 @@ pub fn numbered_beyond(noun: &str, number: usize, count: usize) -> Option<String
     (number >= count).then(|| format!("names {noun} {number}, and the table has {has}"))
 }
 
+/// How many resources and devices a table says that it has. It has a header.
+pub fn table_counts(table: &[u8]) -> (usize, usize) {
+    (table[3].into(), table[6].into())
+}
+
 /// How large a table is that the planner found good or wrote.
 pub fn table_size(table: &[u8]) -> String {
-    let number = |byte: usize, noun| count(table[byte].into(), noun);
-    let (resources, devices) = (number(3, "resource"), number(6, "device"));
-    let bytes = count(table.len(), "byte");
-    format!("Table of {bytes}: {resources}, {devices}\n")
+    let (resources, devices) = table_counts(table);
+    let (resources, devices) = (count(resources, "resource"), count(devices, "device"));
+    let version = Version::of_table(table).expect("the header of a table");
+    let (version, bytes) = (version.number(), count(table.len(), "byte"));
+    format!("Table of version {version}, {bytes}: {resources}, {devices}\n")
 }
 
 /// A text in lines of at most `width` letters, broken between words.
@@ -188,7 +193,7 @@ mod tests {
     #[test]
     fn sets_are_named() {
         assert_eq!(resources(0), "none");
-        assert_eq!(resources(0x8000_0005), "r0 r2 r31");
+        assert_eq!(resources(0x8000_0000_8000_0005), "r0 r2 r31 r63");
     }
 
     #[test]

@@ -3,28 +3,26 @@
 use crate::call::Call;
 use crate::planner::{effect, Effect};
 use crate::request::Request;
+use crate::resources::numbers;
 use crate::switching::words;
-use crate::table::numbers;
 
 /// What is on while a list is carried out: a set of resources that follows the
 /// words and gives no answers. It knows no table: any byte is the number of a
 /// resource.
 #[derive(Clone, Copy, Debug, PartialEq, Eq)]
 pub struct Execution {
-    /// Resource r is on if bit r % 32 of word r / 32 is 1.
-    on: [u32; 8],
+    /// Resource r is on if bit r % 64 of word r / 64 is 1.
+    on: [u64; 4],
 }
 
 impl Execution {
-    /// The start, with these of the resources 0 to 31 on, and no other.
-    pub fn new(on: u32) -> Self {
-        Self {
-            on: [on, 0, 0, 0, 0, 0, 0, 0],
-        }
+    /// The start, with these of the resources 0 to 63 on, and no other.
+    pub fn new(on: u64) -> Self {
+        Self { on: [on, 0, 0, 0] }
     }
 
-    /// The resources 0 to 31 that are on; a table has no others.
-    pub fn on(self) -> u32 {
+    /// The resources 0 to 63 that are on; a table has no others.
+    pub fn on(self) -> u64 {
         self.on[0]
     }
 
@@ -50,21 +48,21 @@ impl Execution {
     }
 
     /// The resources that are on and not in a set, rising.
-    pub fn on_but_not_in(self, set: u32) -> impl Iterator<Item = usize> {
+    pub fn on_but_not_in(self, set: u64) -> impl Iterator<Item = usize> {
         let mut extra = self.on;
         extra[0] &= !set;
-        let words = (0..).step_by(32).zip(extra);
+        let words = (0..).step_by(64).zip(extra);
         words.flat_map(|(first, bits)| numbers(bits).map(move |bit| first + bit))
     }
 }
 
 /// The word of a resource, and its bit there.
-fn place(resource: u8) -> (usize, u32) {
-    (usize::from(resource / 32), 1 << (resource % 32))
+fn place(resource: u8) -> (usize, u64) {
+    (usize::from(resource / 64), 1 << (resource % 64))
 }
 
-/// Which of the resources 0 to 31 are on after each word of a list.
-pub fn execution(on: u32, words: impl IntoIterator<Item = u32>) -> impl Iterator<Item = u32> {
+/// Which of the resources 0 to 63 are on after each word of a list.
+pub fn execution(on: u64, words: impl IntoIterator<Item = u32>) -> impl Iterator<Item = u64> {
     words
         .into_iter()
         .scan(Execution::new(on), |execution, word| {
@@ -123,7 +121,7 @@ fn check_demand3(
     }
     if execution != Execution::new(effect.needed_after) {
         return Err(format!(
-            "at the end {:#010x} is on, not the needed {:#010x}",
+            "at the end {:#x} is on, not the needed {:#x}",
             execution.on(),
             effect.needed_after
         ));
@@ -135,7 +133,7 @@ fn check_point(effect: &Effect, execution: Execution, calls: usize) -> Result<()
     let missing = effect.needed_before & effect.needed_after & !execution.on();
     if missing != 0 {
         return Err(format!(
-            "after {calls} calls {missing:#010x} is off, needed before and after"
+            "after {calls} calls {missing:#x} is off, needed before and after"
         ));
     }
     let allowed = effect.on_before | effect.needed_after;
@@ -151,7 +149,7 @@ fn check_own_call(effect: &Effect, execution: Execution, call: usize) -> Result<
     match effect.own_call_needs & !execution.on() {
         0 => Ok(()),
         missing => Err(format!(
-            "call {call} is the device's own and finds {missing:#010x} off, which it needs"
+            "call {call} is the device's own and finds {missing:#x} off, which it needs"
         )),
     }
 }

@@ -6,7 +6,8 @@
 //!
 //! [`check_table`], [`fresh`], [`plan`], [`check`], [`bring_up`],
 //! [`check_bring_up`], [`write()`] and [`describe`] take byte buffers as the C
-//! functions do. [`plan_words`] and [`check_words`] take 32-bit words.
+//! functions do, and tables of both versions; [`Version`] has the sizes that a
+//! version fixes. [`plan_words`] and [`check_words`] take 32-bit words.
 //! [`effect`] gives what a permitted request does, and [`demand3`] carries out
 //! a list that the checker passed. [`sleep_moves`] gives the moves of a sleep
 //! entry, and [`sleep_obstacles`] says why there is none.
@@ -17,27 +18,28 @@ mod answer;
 mod bring_up;
 mod call;
 mod describe;
+mod device;
 mod execution;
 mod planner;
 mod request;
+mod resources;
 mod sleep;
 mod state;
 mod switching;
 mod table;
+mod version;
 mod work;
 
 pub use answer::Answer;
 pub use bring_up::{bring_up, check_bring_up};
 pub use call::Call;
 pub use describe::{describe, write, DESCRIBED_DEVICE_BYTES, DESCRIBED_RESOURCE_BYTES};
+pub use device::{wake_range, Device};
 pub use execution::{demand3, demand3_words, execution, Execution};
-pub use planner::{
-    check, check_words, effect, fresh, plan, plan_words, Effect, PLAN_BYTES, PLAN_WORDS,
-    SLEEP_PLAN_BYTES, SLEEP_PLAN_WORDS,
-};
+pub use planner::{check, check_words, effect, fresh, plan, plan_words, Effect};
 pub use request::Request;
+pub use resources::{numbers, Resources};
 pub use sleep::{sleep_moves, sleep_obstacles, Obstacle, SleepMove};
-pub use state::{Entry, State, STATE_BYTES};
-pub use table::{
-    check_table, numbers, record, wake_range, Device, Table, MAX_DEVICES, MAX_RESOURCES,
-};
+pub use state::{Entry, State};
+pub use table::{check_table, record, Records, Table, MAX_DEVICES, MAX_RESOURCES};
+pub use version::Version;

@@ -4,19 +4,11 @@ use crate::answer::Answer;
 use crate::call::Call;
 use crate::request::{verdict, Request, SLEEP};
 use crate::sleep::{least_choice, write_moves};
-use crate::state::{write_fresh, Entry, State};
-use crate::switching::words;
-use crate::table::{Table, MAX_DEVICES};
+use crate::state::{write_fresh, Entry};
+use crate::switching::{words, Switching};
+use crate::table::{for_either, Records, Table};
+use crate::version::Version;
 use crate::work::Work;
-
-/// The room a plan needs, in words: every resource once and the own call.
-pub const PLAN_WORDS: usize = 33;
-/// The room a plan needs, in bytes.
-pub const PLAN_BYTES: usize = 4 * PLAN_WORDS;
-/// The room a plan of sleep entry needs, in words: every device may move.
-pub const SLEEP_PLAN_WORDS: usize = MAX_DEVICES * PLAN_WORDS;
-/// The room a plan of sleep entry needs, in bytes.
-pub const SLEEP_PLAN_BYTES: usize = 4 * SLEEP_PLAN_WORDS;
 
 /// Writes the fresh state of a table into `state`.
 pub fn fresh(table: &[u8], state: &mut [u8]) -> Answer {
@@ -24,13 +16,11 @@ pub fn fresh(table: &[u8], state: &mut [u8]) -> Answer {
         Ok(table) => table,
         Err(refusal) => return refusal,
     };
-    match state.try_into() {
-        Ok(state) => {
-            write_fresh(&table, state);
-            Answer::done(0)
-        }
-        Err(_) => Answer::refused(7, 0),
+    if state.len() != table.version().state_bytes() {
+        return Answer::refused(7, 0);
     }
+    write_fresh(&table, state);
+    Answer::done(0)
 }
 
 /// Plans a request: writes the calls to `plan`, four bytes each, and the new
@@ -65,38 +55,40 @@ fn plan_calls(
     room: usize,
     write: impl FnMut(usize, u32),
 ) -> Answer {
-    match count_of_plan(table, state, request, room, write) {
+    let count = Table::read(table).and_then(
+        |table| for_either!(table, records => count_of_plan(&records, state, request, room, write)),
+    );
+    match count {
         Ok(count) => Answer::done(count),
         Err(refusal) => refusal,
     }
 }
 
-fn count_of_plan(
-    table: &[u8],
+fn count_of_plan<const N: usize, const W: usize>(
+    records: &Records<N, W>,
     lent: &mut [u8],
     request: Request,
     room: usize,
     write: impl FnMut(usize, u32),
 ) -> Result<u16, Answer> {
-    let table = Table::read(table)?;
-    let state = State::read(&table, lent)?;
-    if room < words_due(request.kind) {
+    let state = records.state(lent)?;
+    if room < words_due(Records::<N, W>::VERSION, request.kind) {
         return Err(Answer::refused(9, 0));
     }
     if request.kind == SLEEP {
-        let choice = least_choice(&table, &state, request)?;
-        return Ok(write_moves(&table, lent, &choice, write));
+        let choice = least_choice(records, &state, request)?;
+        return Ok(write_moves(records, lent, &choice, write));
     }
-    let work = Work::of(&table, &state, verdict(&table, &state, request)?);
-    Ok(work.write(&table, lent, write))
+    let work = Work::of(records, &state, verdict(records, &state, request)?);
+    Ok(work.write(records, lent, write))
 }
 
-/// The room for a plan, in words. Only the kind counts, since the room is looked
-/// at before the other numbers.
-const fn words_due(kind: u32) -> usize {
+/// The room for a plan, in words. Of the request only the kind counts, since the
+/// room is looked at before the other numbers.
+const fn words_due(version: Version, kind: u32) -> usize {
     match kind {
-        SLEEP => SLEEP_PLAN_WORDS,
-        _ => PLAN_WORDS,
+        SLEEP => version.sleep_plan_words(),
+        _ => version.plan_words(),
     }
 }
 
@@ -106,21 +98,24 @@ fn check_calls(
     request: Request,
     list: Option<impl Iterator<Item = u32>>,
 ) -> Answer {
-    match work_of_check(table, state, request) {
-        Ok((table, work)) => work.switching.check(&table, list),
+    let answer = Table::read(table).and_then(|table| {
+        let switching = for_either!(table, records => switching_due(&records, state, request))?;
+        Ok(switching.check(table.resources(), list))
+    });
+    match answer {
+        Ok(answer) => answer,
         Err(refusal) => refusal,
     }
 }
 
-fn work_of_check<'a>(
-    table: &'a [u8],
+fn switching_due<const N: usize, const W: usize>(
+    records: &Records<N, W>,
     state: &[u8],
     request: Request,
-) -> Result<(Table<'a>, Work), Answer> {
-    let table = Table::read(table)?;
-    let state = State::read(&table, state)?;
-    let work = Work::of(&table, &state, verdict(&table, &state, request)?);
-    Ok((table, work))
+) -> Result<Switching, Answer> {
+    let state = records.state(state)?;
+    let change = verdict(records, &state, request)?;
+    Ok(Work::of(records, &state, change).switching)
 }
 
 /// What a permitted request about one device does, apart from its list.
@@ -133,28 +128,35 @@ pub struct Effect {
     /// The entry of the device after the request.
     pub entry_after: Entry,
     /// The resources on before the request.
-    pub on_before: u32,
+    pub on_before: u64,
     /// The resources that some device needs before the request.
-    pub needed_before: u32,
+    pub needed_before: u64,
     /// The resources that some device needs after the request.
-    pub needed_after: u32,
+    pub needed_after: u64,
     /// The device's own needs before the request.
-    pub device_needs_before: u32,
+    pub device_needs_before: u64,
     /// The device's own needs after the request.
-    pub device_needs_after: u32,
+    pub device_needs_after: u64,
     /// The device's own call.
     pub own_call: Option<Call>,
     /// The needs that must be met when the own call is made: those after for a
     /// move to D0 and for arming, those before for a deeper move and for disarming.
-    pub own_call_needs: u32,
+    pub own_call_needs: u64,
 }
 
 /// What a request does, or its refusal (1 to 8, 10 to 18). Sleep entry is 10.
 pub fn effect(table: &[u8], state: &[u8], request: Request) -> Result<Effect, Answer> {
-    let table = Table::read(table)?;
-    let state = State::read(&table, state)?;
-    let change = verdict(&table, &state, request)?;
-    let device = table.device(change.device);
+    for_either!(Table::read(table)?, records => effect_in(&records, state, request))
+}
+
+fn effect_in<const N: usize, const W: usize>(
+    records: &Records<N, W>,
+    state: &[u8],
+    request: Request,
+) -> Result<Effect, Answer> {
+    let state = records.state(state)?;
+    let change = verdict(records, &state, request)?;
+    let device = records.device(change.device);
     let entry_before = state.entry(change.device);
     let device_needs_before = device.needs(entry_before);
     let device_needs_after = device.needs(change.entry);
@@ -163,8 +165,8 @@ pub fn effect(table: &[u8], state: &[u8], request: Request) -> Result<Effect, An
         entry_before,
         entry_after: change.entry,
         on_before: state.on(),
-        needed_before: state.needed(&table),
-        needed_after: state.needed_with(&table, change.device, change.entry),
+        needed_before: records.needed(&state),
+        needed_after: records.needed_with(&state, change.device, change.entry),
         device_needs_before,
         device_needs_after,
         own_call: change.own_call.and_then(Call::from_word),

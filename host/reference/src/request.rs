@@ -2,8 +2,9 @@
 
 use crate::answer::Answer;
 use crate::call::Call;
+use crate::device::Record;
 use crate::state::{Entry, State, D0, D3COLD, D3HOT};
-use crate::table::{Device, Table};
+use crate::table::Records;
 
 /// A request: four unsigned numbers, as the board passes them.
 #[derive(Clone, Copy, Debug, Default, PartialEq, Eq)]
@@ -83,7 +84,11 @@ pub(crate) struct Change {
 }
 
 /// The change a request about one device makes, or its refusal.
-pub(crate) fn verdict(table: &Table, state: &State, request: Request) -> Result<Change, Answer> {
+pub(crate) fn verdict<const N: usize, const W: usize>(
+    records: &Records<N, W>,
+    state: &State,
+    request: Request,
+) -> Result<Change, Answer> {
     let Request { kind, device, a, b } = request;
     let in_range = match kind {
         MOVE => a <= 4 && b == 0,
@@ -91,19 +96,24 @@ pub(crate) fn verdict(table: &Table, state: &State, request: Request) -> Result<
         DISARM => a == 0 && b == 0,
         _ => false,
     };
-    if !in_range || device >= table.device_count() as u32 {
+    if !in_range || device >= records.device_count() as u32 {
         return Err(Answer::refused(10, 0));
     }
     let d = device as usize;
     match kind {
-        MOVE => verdict_on_move(table, state, d, a as u8),
-        ARM => verdict_on_arming(table, state, d, a as u8, b as u8),
-        _ => Ok(disarming(table.device(d), state.entry(d), d)),
+        MOVE => verdict_on_move(records, state, d, a as u8),
+        ARM => verdict_on_arming(records, state, d, a as u8, b as u8),
+        _ => Ok(disarming(records.device(d), state.entry(d), d)),
     }
 }
 
-fn verdict_on_move(table: &Table, state: &State, d: usize, target: u8) -> Result<Change, Answer> {
-    let device = table.device(d);
+fn verdict_on_move<const N: usize, const W: usize>(
+    records: &Records<N, W>,
+    state: &State,
+    d: usize,
+    target: u8,
+) -> Result<Change, Answer> {
+    let device = records.device(d);
     let entry = state.entry(d);
     if !device.supports(target) {
         return Err(Answer::refused(11, 0));
@@ -116,7 +126,7 @@ fn verdict_on_move(table: &Table, state: &State, d: usize, target: u8) -> Result
             return Err(Answer::refused(13, parent as u64));
         }
     }
-    if let Some(child) = shallower_child(table, state, d, target) {
+    if let Some(child) = shallower_child(records, state, d, target) {
         return Err(Answer::refused(14, child as u64));
     }
     if entry.armed && target > entry.wake_d {
@@ -126,7 +136,12 @@ fn verdict_on_move(table: &Table, state: &State, d: usize, target: u8) -> Result
 }
 
 /// The change that a permitted move makes.
-pub(crate) fn moving(device: Device, entry: Entry, d: usize, target: u8) -> Change {
+pub(crate) fn moving<const N: usize, const W: usize>(
+    device: Record<N, W>,
+    entry: Entry,
+    d: usize,
+    target: u8,
+) -> Change {
     Change {
         device: d,
         entry: Entry {
@@ -139,13 +154,23 @@ pub(crate) fn moving(device: Device, entry: Entry, d: usize, target: u8) -> Chan
 }
 
 /// The lowest direct child of `d` in a state shallower than `target`.
-fn shallower_child(table: &Table, state: &State, d: usize, target: u8) -> Option<usize> {
+fn shallower_child<const N: usize, const W: usize>(
+    records: &Records<N, W>,
+    state: &State,
+    d: usize,
+    target: u8,
+) -> Option<usize> {
     // A parent's number is lower than its own, so children come after `d`.
-    (d + 1..table.device_count())
-        .find(|&c| table.device(c).parent() == Some(d) && state.entry(c).state < target)
+    (d + 1..records.device_count())
+        .find(|&c| records.device(c).parent() == Some(d) && state.entry(c).state < target)
 }
 
-fn own_call_of_move(device: Device, d: usize, present: u8, target: u8) -> Option<u32> {
+fn own_call_of_move<const N: usize, const W: usize>(
+    device: Record<N, W>,
+    d: usize,
+    present: u8,
+    target: u8,
+) -> Option<u32> {
     let method = target.min(D3HOT);
     let due = target != present
         && !(present == D3HOT && target == D3COLD)
@@ -159,16 +184,16 @@ fn own_call_of_move(device: Device, d: usize, present: u8, target: u8) -> Option
     })
 }
 
-fn verdict_on_arming(
-    table: &Table,
+fn verdict_on_arming<const N: usize, const W: usize>(
+    records: &Records<N, W>,
     state: &State,
     d: usize,
     wake_s: u8,
     wake_d: u8,
 ) -> Result<Change, Answer> {
-    let device = table.device(d);
+    let device = records.device(d);
     let entry = state.entry(d);
-    table.wake_pair(device, wake_s, wake_d)?;
+    device.wake_pair(records.resources, wake_s, wake_d)?;
     if wake_d < entry.state {
         return Err(Answer::refused(18, 0));
     }
@@ -189,7 +214,11 @@ fn verdict_on_arming(
     })
 }
 
-fn disarming(device: Device, entry: Entry, d: usize) -> Change {
+fn disarming<const N: usize, const W: usize>(
+    device: Record<N, W>,
+    entry: Entry,
+    d: usize,
+) -> Change {
     let call = Call::SetWake {
         device: d as u8,
         wake: None,

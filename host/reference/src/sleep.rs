@@ -3,9 +3,10 @@
 
 use crate::answer::Answer;
 use crate::request::{moving, Request};
+use crate::resources::numbers;
 use crate::state::{write_on_set, Entry, State, D0, D3COLD};
 use crate::switching::Switching;
-use crate::table::{numbers, Table, MAX_DEVICES};
+use crate::table::{for_either, Records, Table, MAX_DEVICES};
 use crate::work::Work;
 
 /// A state for every device of a table; the rest is not used.
@@ -53,10 +54,17 @@ pub enum Obstacle {
 /// The moves of a sleep entry for Sx in the order of its plan, or its refusal with
 /// 1 to 8, 10, 20 or 21.
 pub fn sleep_moves(table: &[u8], state: &[u8], x: u32) -> Result<Vec<SleepMove>, Answer> {
-    let table = Table::read(table)?;
-    let state = State::read(&table, state)?;
-    let choice = least_choice(&table, &state, Request::sleep(x))?;
-    let moves = (0..table.device_count()).rev().map(|device| SleepMove {
+    for_either!(Table::read(table)?, records => moves_in(&records, state, x))
+}
+
+fn moves_in<const N: usize, const W: usize>(
+    records: &Records<N, W>,
+    state: &[u8],
+    x: u32,
+) -> Result<Vec<SleepMove>, Answer> {
+    let state = records.state(state)?;
+    let choice = least_choice(records, &state, Request::sleep(x))?;
+    let moves = (0..records.device_count()).rev().map(|device| SleepMove {
         device,
         from: state.entry(device).state,
         to: choice[device],
@@ -68,9 +76,16 @@ pub fn sleep_moves(table: &[u8], state: &[u8], x: u32) -> Result<Vec<SleepMove>,
 /// state to take, when those below it take their least, and what is against each
 /// of its states D0 to D3cold.
 pub fn sleep_obstacles(table: &[u8], state: &[u8], x: u32) -> Option<(usize, [Obstacle; 5])> {
-    let table = Table::read(table).ok()?;
-    let state = State::read(&table, state).ok()?;
-    let sleep = Sleep::of(&table, &state, Request::sleep(x)).ok()?;
+    for_either!(Table::read(table).ok()?, records => obstacles_in(&records, state, x))
+}
+
+fn obstacles_in<const N: usize, const W: usize>(
+    records: &Records<N, W>,
+    state: &[u8],
+    x: u32,
+) -> Option<(usize, [Obstacle; 5])> {
+    let state = records.state(state).ok()?;
+    let sleep = Sleep::of(records, &state, Request::sleep(x)).ok()?;
     let (device, parent) = sleep.least_choice().err()?;
     let mut against = [Obstacle::NotSupported; 5];
     for (target, obstacle) in (D0..=D3COLD).zip(&mut against) {
@@ -81,39 +96,39 @@ pub fn sleep_obstacles(table: &[u8], state: &[u8], x: u32) -> Option<(usize, [Ob
 
 /// The states that the devices take for a request of sleep entry, or its refusal
 /// with 10, 20 or 21.
-pub(crate) fn least_choice(
-    table: &Table,
+pub(crate) fn least_choice<const N: usize, const W: usize>(
+    records: &Records<N, W>,
     state: &State,
     request: Request,
 ) -> Result<Choice, Answer> {
-    let sleep = Sleep::of(table, state, request)?;
+    let sleep = Sleep::of(records, state, request)?;
     sleep.least_choice().map_err(|_| Answer::refused(21, 0))
 }
 
 /// Moves the devices of a good state to a choice, by falling number: writes the
 /// calls by index and word, and the new state, and gives the number of calls.
-pub(crate) fn write_moves(
-    table: &Table,
+pub(crate) fn write_moves<const N: usize, const W: usize>(
+    records: &Records<N, W>,
     state: &mut [u8],
     choice: &Choice,
     mut write: impl FnMut(usize, u32),
 ) -> u16 {
     let mut count = 0;
     let mut none_moved = true;
-    for (d, &target) in choice[..table.device_count()].iter().enumerate().rev() {
-        let now = State::of_good(table, state);
+    for (d, &target) in choice[..records.device_count()].iter().enumerate().rev() {
+        let now = records.good_state(state);
         let entry = now.entry(d);
         if target != entry.state {
-            let work = Work::of(table, &now, moving(table.device(d), entry, d, target));
-            count += work.write(table, state, |i, word| write(count as usize + i, word));
+            let work = Work::of(records, &now, moving(records.device(d), entry, d, target));
+            count += work.write(records, state, |i, word| write(count as usize + i, word));
             none_moved = false;
         }
     }
     if none_moved {
-        let now = State::of_good(table, state);
-        let switching = Switching::new(now.on(), now.needed(table));
-        count = switching.write_calls(table, write);
-        write_on_set(state, switching.target);
+        let now = records.good_state(state);
+        let switching = Switching::new(now.on(), records.needed(&now));
+        count = switching.write_calls(records.resources, write);
+        write_on_set(Records::<N, W>::VERSION, state, switching.target);
     }
     count
 }
@@ -122,17 +137,17 @@ pub(crate) fn write_moves(
 type Parent = Option<(usize, u8)>;
 
 /// A sleep entry whose armed devices are all armed for its x.
-struct Sleep<'a> {
-    table: &'a Table<'a>,
+struct Sleep<'a, const N: usize, const W: usize> {
+    records: &'a Records<'a, N, W>,
     state: &'a State<'a>,
     x: u8,
     /// The resources that cannot be on in Sx.
-    lost: u32,
+    lost: u64,
 }
 
-impl<'a> Sleep<'a> {
+impl<'a, const N: usize, const W: usize> Sleep<'a, N, W> {
     /// What a request of sleep entry asks for, or its refusal with 10 or 20.
-    fn of(table: &'a Table, state: &'a State, request: Request) -> Result<Self, Answer> {
+    fn of(records: &'a Records<N, W>, state: &'a State, request: Request) -> Result<Self, Answer> {
         let Request { device, a, b, .. } = request;
         if !(1..=4).contains(&a) || device != 0 || b != 0 {
             return Err(Answer::refused(10, 0));
@@ -142,14 +157,15 @@ impl<'a> Sleep<'a> {
             let entry = state.entry(d);
             entry.armed && entry.wake_s != x
         };
-        if let Some(d) = (0..table.device_count()).find(is_armed_for_another) {
+        if let Some(d) = (0..records.device_count()).find(is_armed_for_another) {
             return Err(Answer::refused(20, d as u64));
         }
-        let lost = numbers(table.all_resources())
-            .filter(|&r| table.system_level(r) < x)
+        let resources = records.resources;
+        let lost = numbers(resources.all())
+            .filter(|&r| resources.system_level(r) < x)
             .fold(0, |set, r| set | 1 << r);
         Ok(Self {
-            table,
+            records,
             state,
             x,
             lost,
@@ -161,8 +177,8 @@ impl<'a> Sleep<'a> {
     /// its parent's leaves to it. The error is the first device that has none.
     fn least_choice(&self) -> Result<Choice, (usize, Parent)> {
         let mut choice = [D0; MAX_DEVICES];
-        for d in 0..self.table.device_count() {
-            let parent = self.table.device(d).parent().map(|p| (p, choice[p]));
+        for d in 0..self.records.device_count() {
+            let parent = self.records.device(d).parent().map(|p| (p, choice[p]));
             let shallowest = parent.map_or(D0, |(_, state)| state);
             choice[d] = (shallowest..=D3COLD)
                 .find(|&target| self.own_obstacle(d, target).is_none())
@@ -184,7 +200,7 @@ impl<'a> Sleep<'a> {
 
     /// What is against a state, whatever the other devices do.
     fn own_obstacle(&self, d: usize, target: u8) -> Option<Obstacle> {
-        let (device, entry) = (self.table.device(d), self.state.entry(d));
+        let (device, entry) = (self.records.device(d), self.state.entry(d));
         if !device.supports(target) {
             return Some(Obstacle::NotSupported);
         }
@@ -199,7 +215,7 @@ impl<'a> Sleep<'a> {
             ..entry
         });
         if let Some(resource) = numbers(needs & self.lost).next() {
-            let level = self.table.system_level(resource);
+            let level = self.records.resources.system_level(resource);
             return Some(Obstacle::Unpowered { resource, level });
         }
         (entry.armed && target != entry.wake_d).then_some(Obstacle::NotWakeState(entry.wake_d))

@@ -2,24 +2,25 @@
 
 use crate::answer::Answer;
 use crate::call::Call;
-use crate::table::{numbers, Table, MAX_RESOURCES};
+use crate::resources::{numbers, Resources};
+use crate::table::MAX_RESOURCES;
 
 /// The calls that bring the resources that are on to a target, before, after or
 /// without a device's own call.
 pub(crate) struct Switching {
     /// The resources that are on at the end.
-    pub target: u32,
+    pub target: u64,
     /// Those of the target that are off.
-    to_turn_on: u32,
+    to_turn_on: u64,
     /// The resources that are on and not in the target.
-    to_turn_off: u32,
+    to_turn_off: u64,
     own_first: Option<u32>,
     own_last: Option<u32>,
 }
 
 impl Switching {
     /// The switching alone.
-    pub fn new(on: u32, target: u32) -> Self {
+    pub fn new(on: u64, target: u64) -> Self {
         Self {
             target,
             to_turn_on: target & !on,
@@ -39,7 +40,7 @@ impl Switching {
     }
 
     /// Writes the planner's list by index and word, and gives its length.
-    pub fn write_calls(&self, table: &Table, mut write: impl FnMut(usize, u32)) -> u16 {
+    pub fn write_calls(&self, resources: Resources, mut write: impl FnMut(usize, u32)) -> u16 {
         let mut count = 0;
         let mut push = |word| {
             write(count, word);
@@ -47,7 +48,7 @@ impl Switching {
         };
         self.own_first.into_iter().for_each(&mut push);
         let mut keys = [0; MAX_RESOURCES];
-        for &key in rising(table, self.to_turn_on, &mut keys) {
+        for &key in rising(resources, self.to_turn_on, &mut keys) {
             push(
                 Call::On {
                     resource: key as u8,
@@ -55,7 +56,7 @@ impl Switching {
                 .word(),
             );
         }
-        for &key in rising(table, self.to_turn_off, &mut keys).iter().rev() {
+        for &key in rising(resources, self.to_turn_off, &mut keys).iter().rev() {
             push(
                 Call::Off {
                     resource: key as u8,
@@ -68,8 +69,8 @@ impl Switching {
     }
 
     /// The checker's answer to a list, or to one that ends within a word: 0 or 19.
-    pub fn check(&self, table: &Table, list: Option<impl Iterator<Item = u32>>) -> Answer {
-        if list.is_some_and(|list| self.list_conforms(table, list)) {
+    pub fn check(&self, resources: Resources, list: Option<impl Iterator<Item = u32>>) -> Answer {
+        if list.is_some_and(|list| self.list_conforms(resources, list)) {
             Answer::done(0)
         } else {
             Answer::refused(19, 0)
@@ -78,10 +79,10 @@ impl Switching {
 
     /// Whether a list has exactly the calls due, in order, with equal
     /// resource orders in any sequence.
-    fn list_conforms(&self, table: &Table, mut list: impl Iterator<Item = u32>) -> bool {
+    fn list_conforms(&self, resources: Resources, mut list: impl Iterator<Item = u32>) -> bool {
         calls_own(self.own_first, &mut list)
-            && switches_on(table, self.to_turn_on, &mut list)
-            && switches_off(table, self.to_turn_off, &mut list)
+            && switches_on(resources, self.to_turn_on, &mut list)
+            && switches_off(resources, self.to_turn_off, &mut list)
             && calls_own(self.own_last, &mut list)
             && list.next().is_none()
     }
@@ -96,10 +97,10 @@ pub(crate) fn words(list: &[u8]) -> Option<impl Iterator<Item = u32> + '_> {
 
 /// The resources of a set as sort keys, rising by order and then by number.
 /// The lowest byte of a key is the resource number.
-fn rising<'k>(table: &Table, set: u32, keys: &'k mut [u32; MAX_RESOURCES]) -> &'k [u32] {
+fn rising<'k>(resources: Resources, set: u64, keys: &'k mut [u32; MAX_RESOURCES]) -> &'k [u32] {
     let mut length = 0;
     for r in numbers(set) {
-        keys[length] = u32::from(table.resource_order(r)) << 8 | r as u32;
+        keys[length] = u32::from(resources.order(r)) << 8 | r as u32;
         length += 1;
     }
     let keys = &mut keys[..length];
@@ -113,13 +114,13 @@ fn calls_own(own_call: Option<u32>, list: &mut impl Iterator<Item = u32>) -> boo
 }
 
 /// Whether the next calls of a list are `_ON` of each resource of `due`, by rising order.
-fn switches_on(table: &Table, mut due: u32, list: &mut impl Iterator<Item = u32>) -> bool {
+fn switches_on(resources: Resources, mut due: u64, list: &mut impl Iterator<Item = u32>) -> bool {
     let mut last = 0;
     while due != 0 {
         let Some(Call::On { resource }) = list.next().and_then(Call::from_word) else {
             return false;
         };
-        let Some(order) = take(table, &mut due, resource) else {
+        let Some(order) = take(resources, &mut due, resource) else {
             return false;
         };
         if order < last {
@@ -131,13 +132,13 @@ fn switches_on(table: &Table, mut due: u32, list: &mut impl Iterator<Item = u32>
 }
 
 /// Whether the next calls of a list are `_OFF` of each resource of `due`, by falling order.
-fn switches_off(table: &Table, mut due: u32, list: &mut impl Iterator<Item = u32>) -> bool {
+fn switches_off(resources: Resources, mut due: u64, list: &mut impl Iterator<Item = u32>) -> bool {
     let mut last = u16::MAX;
     while due != 0 {
         let Some(Call::Off { resource }) = list.next().and_then(Call::from_word) else {
             return false;
         };
-        let Some(order) = take(table, &mut due, resource) else {
+        let Some(order) = take(resources, &mut due, resource) else {
             return false;
         };
         if order > last {
@@ -149,11 +150,11 @@ fn switches_off(table: &Table, mut due: u32, list: &mut impl Iterator<Item = u32
 }
 
 /// Takes a resource out of a set and gives its order, or `None` if it is not in it.
-fn take(table: &Table, set: &mut u32, resource: u8) -> Option<u16> {
-    let bit = 1u32.checked_shl(resource.into())?;
+fn take(resources: Resources, set: &mut u64, resource: u8) -> Option<u16> {
+    let bit = 1u64.checked_shl(resource.into())?;
     if *set & bit == 0 {
         return None;
     }
     *set &= !bit;
-    Some(table.resource_order(resource.into()))
+    Some(resources.order(resource.into()))
 }

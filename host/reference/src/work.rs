@@ -3,7 +3,7 @@
 use crate::request::Change;
 use crate::state::{write_change, Entry, State};
 use crate::switching::Switching;
-use crate::table::Table;
+use crate::table::Records;
 
 /// What is to be done for a permitted change of one device.
 pub(crate) struct Work {
@@ -14,14 +14,18 @@ pub(crate) struct Work {
 }
 
 impl Work {
-    pub fn of(table: &Table, state: &State, change: Change) -> Self {
+    pub fn of<const N: usize, const W: usize>(
+        records: &Records<N, W>,
+        state: &State,
+        change: Change,
+    ) -> Self {
         let Change {
             device,
             entry,
             own_call,
             own_call_first,
         } = change;
-        let needed = state.needed_with(table, device, entry);
+        let needed = records.needed_with(state, device, entry);
         let switching = Switching::new(state.on(), needed);
         Self {
             device,
@@ -32,9 +36,21 @@ impl Work {
 
     /// Writes the calls by index and word, and the new state, and gives the
     /// number of calls.
-    pub fn write(&self, table: &Table, state: &mut [u8], write: impl FnMut(usize, u32)) -> u16 {
-        let count = self.switching.write_calls(table, write);
-        write_change(state, self.device, self.entry, self.switching.target);
+    pub fn write<const N: usize, const W: usize>(
+        &self,
+        records: &Records<N, W>,
+        state: &mut [u8],
+        write: impl FnMut(usize, u32),
+    ) -> u16 {
+        let count = self.switching.write_calls(records.resources, write);
+        let version = Records::<N, W>::VERSION;
+        write_change(
+            version,
+            state,
+            self.device,
+            self.entry,
+            self.switching.target,
+        );
         count
     }
 }

@@ -2,10 +2,9 @@
 
 mod common;
 
-use common::{bench, state, table, Desk, Record, D0, D1, D2, D3COLD, D3HOT};
+use common::{bench, state, table, Desk, Record, D0, D1, D2, D3COLD, D3HOT, PLAN_BYTES};
 use reference::{
     bring_up, check, check_bring_up, check_table, describe, fresh, plan, record, Answer, Request,
-    PLAN_BYTES,
 };
 
 const CAMERA: u32 = 1;
@@ -72,7 +71,7 @@ fn answer_1_is_the_header() {
     for length in 0..8 {
         refuses_table(&bench()[..length], 1, 0);
     }
-    for (index, byte) in [(0, b'p'), (1, 0), (2, b'S'), (4, 0), (4, 2), (5, 1), (7, 1)] {
+    for (index, byte) in [(0, b'p'), (1, 0), (2, b'S'), (4, 0), (4, 3), (5, 1), (7, 1)] {
         refuses_table(&changed(index, byte), 1, 0);
     }
     // It comes before 2.

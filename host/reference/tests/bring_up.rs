@@ -3,10 +3,9 @@
 
 mod common;
 
-use common::{bench, state, table, Desk, Record};
-use reference::{
-    bring_up, check, check_bring_up, execution, plan, Answer, Request, PLAN_BYTES, PLAN_WORDS,
-};
+use cases::Case;
+use common::{agrees_with_version_2, bench, state, table, Desk, Record, PLAN_BYTES, PLAN_WORDS};
+use reference::{bring_up, check, check_bring_up, execution, plan, Answer, Request};
 
 const ON0: [u8; 4] = [1, 0, 0, 0];
 const ON1: [u8; 4] = [1, 1, 0, 0];
@@ -15,6 +14,9 @@ const OFF0: [u8; 4] = [2, 0, 0, 0];
 const OFF1: [u8; 4] = [2, 1, 0, 0];
 const OFF2: [u8; 4] = [2, 2, 0, 0];
 
+/// All of 32 resources.
+const ALL: u64 = 0xffff_ffff;
+
 /// An entry that is not armed.
 const fn at(state: u8) -> [u8; 4] {
     [state, 0, 0, 0]
@@ -22,7 +24,7 @@ const fn at(state: u8) -> [u8; 4] {
 
 /// Brings up a table with these entries and these resources on. It must give
 /// exactly these calls and leave the entries with `needed` on.
-fn brings_up(table: &[u8], entries: &[[u8; 4]], on: u32, calls: &[[u8; 4]], needed: u32) {
+fn brings_up(table: &[u8], entries: &[[u8; 4]], on: u64, calls: &[[u8; 4]], needed: u64) {
     let reported = state(entries, on);
     let (mut lent, mut buffer) = (reported.clone(), [0x5a; PLAN_BYTES + 5]);
     let answer = bring_up(table, &mut lent, &mut buffer);
@@ -36,6 +38,7 @@ fn brings_up(table: &[u8], entries: &[[u8; 4]], on: u32, calls: &[[u8; 4]], need
     let words = calls.iter().map(|&call| u32::from_le_bytes(call));
     assert_eq!(execution(on, words).last().unwrap_or(on), needed);
     is_up(table, &lent);
+    agrees_with_version_2(&Case::of_bring_up(table, &reported));
 }
 
 /// A second bring-up finds nothing to do, and a request finds a consistent state.
@@ -63,6 +66,7 @@ fn refuses(table: &[u8], reported: &[u8], number: u8, place: u64) {
     for list in [&[][..], &[1], &ON0] {
         assert_eq!(check_bring_up(table, reported, list), refusal);
     }
+    agrees_with_version_2(&Case::of_bring_up(table, reported));
 }
 
 /// On the bench station the bus needs {0}, also in D3hot; the camera {0, 1, 2} in
@@ -114,7 +118,7 @@ fn wide() -> Vec<u8> {
         ps: 9,
         pr: 9,
         flags: 3,
-        sets: [u32::MAX, 0, 0, 0, 0],
+        sets: [ALL, 0, 0, 0, 0],
         sxw: [4; 5],
         deepest: 4,
         ..Record::default()
@@ -126,10 +130,10 @@ fn wide() -> Vec<u8> {
 fn equal_orders_rise_by_number_for_turn_on_calls_and_fall_for_turn_off_calls() {
     let turn_on: Vec<[u8; 4]> = (0..32).map(|r| [1, r, 0, 0]).collect();
     let turn_off: Vec<[u8; 4]> = (0..32).rev().map(|r| [2, r, 0, 0]).collect();
-    brings_up(&wide(), &[at(0)], 0, &turn_on, u32::MAX);
-    brings_up(&wide(), &[at(4)], u32::MAX, &turn_off, 0);
+    brings_up(&wide(), &[at(0)], 0, &turn_on, ALL);
+    brings_up(&wide(), &[at(4)], ALL, &turn_off, 0);
     // No own call: a device that is armed and in use gets no method.
-    brings_up(&wide(), &[[0, 1, 3, 4]], 1, &turn_on[1..], u32::MAX);
+    brings_up(&wide(), &[[0, 1, 3, 4]], 1, &turn_on[1..], ALL);
 }
 
 #[test]
@@ -356,7 +360,7 @@ fn equal_orders_may_come_in_any_sequence() {
 
 #[test]
 fn thirty_two_calls_of_equal_order_pass_in_any_sequence_and_no_more() {
-    let reported = state(&[at(4)], u32::MAX);
+    let reported = state(&[at(4)], ALL);
     let number = |calls: &[[u8; 4]]| {
         let answer = check_bring_up(&wide(), &reported, calls.as_flattened());
         answer.number

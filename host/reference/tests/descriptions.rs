@@ -220,7 +220,7 @@ fn a_full_station_has_1416_bytes() {
 #[test]
 fn answer_1_is_the_whole_number_of_the_version() {
     let refusal = Answer::refused(1, 0);
-    for version in [0, 2, 3, 257, 65_537, 0x0100_0000, 0x0100_0001, u32::MAX] {
+    for version in [0, 3, 257, 258, 65_537, 65_538, 0x0100_0001, u32::MAX] {
         assert_eq!(Lists::bench().answer_for(version, 140), refusal);
         // It comes before 2, 9, 4 and 5.
         let many = Lists::bench().lengths(133, 1729);
@@ -458,7 +458,8 @@ fn describe_refuses_a_table_before_a_buffer() {
     for (table, number, place) in [
         (vec![], 1, 0),
         (changed(0, b'p'), 1, 0),
-        (changed(4, 2), 1, 0),
+        (changed(4, 3), 1, 0),
+        (changed(4, 2), 3, 0),
         (changed(3, 33), 2, 0),
         (changed(6, 33), 2, 0),
         (bench()[..139].to_vec(), 3, 0),

@@ -2,10 +2,8 @@
 
 mod common;
 
-use common::{state, table, Desk, Record, D0, D2, D3COLD, D3HOT};
-use reference::{
-    check, demand3, effect, wake_range, Answer, Execution, Request, State, Table, PLAN_WORDS,
-};
+use common::{state, table, Desk, Record, D0, D2, D3COLD, D3HOT, PLAN_WORDS};
+use reference::{check, demand3, effect, wake_range, Answer, Execution, Request, State, Table};
 
 /// A device that wakes from S1 with these values, and has all five states.
 fn waker(s1d: u8, s1w: u8) -> Desk {
@@ -259,7 +257,7 @@ fn wide() -> Desk {
     let device = Record {
         ps: 9,
         pr: 9,
-        sets: [u32::MAX, 0, 0, 0, 0],
+        sets: [0xffff_ffff, 0, 0, 0, 0],
         ..Record::default()
     };
     Desk::fresh(table(&[(4, 7); 32], &[device]))
@@ -274,7 +272,7 @@ fn equal_orders_rise_by_number_for_turn_on_calls_and_fall_for_turn_off_calls() {
     assert_eq!(deeper.len(), PLAN_WORDS);
     desk.accepts(Request::move_to(0, D3COLD), &deeper, &[[4, 0, 0, 0]], 0);
     let shallower = [turn_on, vec![[3, 0, 0, 0]]].concat();
-    desk.accepts(Request::move_to(0, D0), &shallower, &[], u32::MAX);
+    desk.accepts(Request::move_to(0, D0), &shallower, &[], 0xffff_ffff);
 }
 
 #[test]
@@ -378,16 +376,18 @@ fn the_execution_keeps_a_set_and_nothing_else() {
         ([1, 1, 1, 0], &[0]),
         ([0, 0, 0, 0], &[0]),
         ([1, 31, 0, 0], &[0, 31]),
-        ([1, 32, 0, 0], &[0, 31, 32]),
-        ([2, 0, 0, 0], &[31, 32]),
-        ([1, 255, 0, 0], &[31, 32, 255]),
-        ([2, 32, 0, 0], &[31, 255]),
+        ([1, 63, 0, 0], &[0, 31, 63]),
+        ([1, 64, 0, 0], &[0, 31, 63, 64]),
+        ([2, 0, 0, 0], &[31, 63, 64]),
+        ([1, 255, 0, 0], &[31, 63, 64, 255]),
+        ([2, 64, 0, 0], &[31, 63, 255]),
+        ([2, 63, 0, 0], &[31, 255]),
         ([2, 255, 0, 0], &[31]),
     ] {
         execution.carry_out(u32::from_le_bytes(bytes));
         let found: Vec<u8> = (0..=255).filter(|&r| execution.is_on(r)).collect();
         assert_eq!(found, on, "{bytes:?}");
-        let of_a_table = on.iter().filter(|&&r| r < 32).map(|r| 1 << r).sum::<u32>();
+        let of_a_table = on.iter().filter(|&&r| r < 64).map(|r| 1 << r).sum::<u64>();
         assert_eq!(execution.on(), of_a_table, "{bytes:?}");
     }
 }
@@ -432,12 +432,12 @@ fn demand3_names_the_point_that_fails() {
         );
     };
     assert_eq!(run(&[own, on2, off1]), Ok(()));
-    fails(&[own, off0, on2, off1], "after 2 calls 0x00000001 is off");
+    fails(&[own, off0, on2, off1], "after 2 calls 0x1 is off");
     fails(&[off1, own, on2], "call 2 is the device's own");
-    fails(&[own, on2], "at the end 0x00000007 is on");
+    fails(&[own, on2], "at the end 0x7 is on");
     fails(&[on2, off1], "made 0 times");
     fails(&[own, own, on2, off1], "made 2 times");
-    for r in [5, 32, 255] {
+    for r in [5, 32, 64, 255] {
         let text = format!("after 2 calls r{r} is on, neither on at the start nor needed");
         fails(&[own, [1, r, 0, 0], on2, off1], &text);
     }

@@ -3,11 +3,14 @@
 
 mod common;
 
-use cases::{arm_for, choices, draw_state, least, Rng, Station, FEW_DEVICES};
-use common::{bench, state, table, Desk, Record};
+use cases::{arm_for, choices, draw_state, least, Case, Rng, Station, FEW_DEVICES};
+use common::{
+    agrees_with_version_2, bench, state, table, Desk, Record, PLAN_BYTES, PLAN_WORDS,
+    SLEEP_PLAN_BYTES, SLEEP_PLAN_WORDS,
+};
 use reference::{
     check, effect, plan, plan_words, sleep_moves, sleep_obstacles, Answer, Obstacle, Request,
-    SleepMove, State, Table, PLAN_BYTES, PLAN_WORDS, SLEEP_PLAN_BYTES, SLEEP_PLAN_WORDS,
+    SleepMove, State, Table, Version,
 };
 
 const OFF0: [u8; 4] = [2, 0, 0, 0];
@@ -24,7 +27,7 @@ const fn at(state: u8) -> [u8; 4] {
     [state, 0, 0, 0]
 }
 
-fn desk(table: &[u8], entries: &[[u8; 4]], on: u32) -> Desk {
+fn desk(table: &[u8], entries: &[[u8; 4]], on: u64) -> Desk {
     Desk {
         table: table.to_vec(),
         state: state(entries, on),
@@ -39,7 +42,7 @@ fn bench_with(camera: [u8; 4], lamp: [u8; 4]) -> Desk {
 
 /// A sleep entry for Sx must give exactly these calls, and leave these entries and
 /// this on. The functions on words do what those on bytes do.
-fn sleeps(desk: &Desk, x: u32, calls: &[[u8; 4]], entries: &[[u8; 4]], on: u32) {
+fn sleeps(desk: &Desk, x: u32, calls: &[[u8; 4]], entries: &[[u8; 4]], on: u64) {
     let Desk {
         table,
         state: start,
@@ -62,6 +65,7 @@ fn sleeps(desk: &Desk, x: u32, calls: &[[u8; 4]], entries: &[[u8; 4]], on: u32) 
     assert_eq!(lent, state(entries, on), "S{x}");
     assert_eq!(sleep_obstacles(table, start, x), None);
     moves_give(desk, x, calls);
+    agrees_with_version_2(&Case::of_sleep(table, start, x));
 }
 
 /// Each move alone is accepted from the state that those before it leave, and
@@ -97,6 +101,7 @@ fn refuses(desk: &Desk, x: u32, number: u8, place: u64) {
     assert_eq!(answer, refusal, "S{x}");
     assert_eq!((&lent, buffer), (state, [0x5a; SLEEP_PLAN_BYTES]));
     assert_eq!(sleep_moves(table, state, x), Err(refusal));
+    agrees_with_version_2(&Case::of_sleep(table, state, x));
     if number != 21 {
         assert_eq!(sleep_obstacles(table, state, x), None);
     }
@@ -445,11 +450,12 @@ fn the_least_of_all_choices_is_taken() {
     let mut rng = Rng::new(1);
     let (mut with_choice, mut without, mut with_several) = (0, 0, 0);
     while with_choice + without < 40_000 {
-        let station = Station::random(&mut rng);
+        let version = rng.pick(&Version::ALL);
+        let station = Station::random(&mut rng, version);
         if station.devices.len() > FEW_DEVICES {
             continue;
         }
-        let bytes = station.table();
+        let bytes = station.table(version);
         let Some(mut drawn) = draw_state(&mut rng, &bytes) else {
             continue;
         };

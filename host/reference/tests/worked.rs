@@ -3,10 +3,8 @@
 
 mod common;
 
-use common::{bench, state, table, Desk, Record, D0, D1, D2, D3COLD, D3HOT};
-use reference::{
-    check, check_table, effect, execution, fresh, plan, plan_words, Answer, Request, PLAN_BYTES,
-};
+use common::{bench, state, table, Desk, Record, D0, D1, D2, D3COLD, D3HOT, PLAN_BYTES};
+use reference::{check, check_table, effect, execution, fresh, plan, plan_words, Answer, Request};
 
 const BUS: u32 = 0;
 const CAMERA: u32 = 1;
@@ -162,7 +160,7 @@ fn the_execution_follows_w4() {
     );
     let request = Request::move_to(CAMERA, D3HOT);
     let words = [0x0003_0103, 0x0000_0102, 0x0000_0202];
-    let sets: Vec<u32> = execution(0b111, words).collect();
+    let sets: Vec<u64> = execution(0b111, words).collect();
     assert_eq!(sets, [0b111, 0b101, 0b001]);
     let effect = effect(&desk.table, &desk.state, request).unwrap();
     assert_eq!((effect.needed_before, effect.needed_after), (0b111, 0b001));

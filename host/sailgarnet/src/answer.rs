@@ -89,9 +89,9 @@ pub enum Verdict {
     /// Nothing is refused.
     Done = 0,
     /// The table is too short for a header, the header is wrong, or the version
-    /// to write is not 1.
+    /// to write is neither 1 nor 2.
     NotATable = 1,
-    /// The table has too many resources or devices.
+    /// The table has more resources or devices than its version allows.
     TooMany = 2,
     /// The table has the wrong length.
     WrongLength = 3,
@@ -195,10 +195,16 @@ impl Verdict {
             Verdict::Done => "done.",
             Verdict::NotATable => {
                 "the table is shorter than 8 bytes, its mark, its version or its byte 7 is wrong, \
-                 or the version to write is not 1."
+                 or the version to write is neither 1 nor 2."
             }
-            Verdict::TooMany => "the table has more than 32 resources or more than 32 devices.",
-            Verdict::WrongLength => "the table is not 8 bytes, 4 a resource and 40 a device long.",
+            Verdict::TooMany => {
+                "the table has more resources or more devices than its version allows: 32 of each \
+                 in version 1, 64 in version 2."
+            }
+            Verdict::WrongLength => {
+                "the table is not 8 bytes, 4 a resource and, in version 1, 40 a device long, in \
+                 version 2 64 a device."
+            }
             Verdict::BadResource => {
                 "the record of this resource has a system level above 4, its byte 1 is not zero, \
                  or it is cut short."
@@ -213,7 +219,8 @@ impl Verdict {
                  _PR2 is, and _DSW needs _PRW."
             }
             Verdict::BadState => {
-                "the state is not 132 bytes long, or a value in it is not allowed."
+                "the state is not 132 bytes long, with a table of version 2 not 264, or a value in \
+                 it is not allowed."
             }
             Verdict::Inconsistent => {
                 "the state is not consistent: this device is in a state it does not have, is \
@@ -223,7 +230,8 @@ impl Verdict {
             }
             Verdict::NoRoom => {
                 "a buffer is too short for what is to be written: for 33 calls, of sleep entry for \
-                 1056, however few are made, or for the whole table or list of records."
+                 1056, with a table of version 2 for 65 and 4160, however few are made, or for the \
+                 whole table or list of records."
             }
             Verdict::BadRequest => {
                 "the kind, the device or a number of the request is out of range, or an unused \

@@ -6,12 +6,17 @@
 //! the C functions and refuse a buffer of the wrong length by their answer, so no
 //! call can go wrong in another way.
 //!
-//! A table says which resources and devices there are. A state, 132 bytes, says
-//! what is on and in which state each device is. A [`Request`] moves, arms or
-//! disarms one device, or is a sleep entry, which brings the devices to where they
-//! may be while the system sleeps. The planner gives the method calls that carry it
-//! out, a [`Call`] for each four bytes, and the new state; or it refuses. The
-//! [`Answer`] says which, and its [`Verdict`] has a sentence for each number.
+//! A table says which resources and devices there are. A state says what is on and
+//! in which state each device is. A [`Request`] moves, arms or disarms one device,
+//! or is a sleep entry, which brings the devices to where they may be while the
+//! system sleeps. The planner gives the method calls that carry it out, a [`Call`]
+//! for each four bytes, and the new state; or it refuses. The [`Answer`] says which,
+//! and its [`Verdict`] has a sentence for each number.
+//!
+//! A table has one of two versions: version 1 for at most 32 resources and 32
+//! devices, version 2 for 64 of each. The functions take both and see from the
+//! table which it is. [`Version`] has the lengths of records, states and plans; the
+//! constants of this crate are those of version 1.
 //!
 //! At power-on a state has the entries that the board kept and the resources that
 //! are on by then. `bring_up` gives the calls that make it consistent, as a request
@@ -29,6 +34,8 @@ mod description;
 #[cfg(feature = "link")]
 mod library;
 mod request;
+mod state;
+mod version;
 
 pub use answer::{Answer, Place, Verdict};
 pub use call::{calls, Call};
@@ -36,27 +43,30 @@ pub use description::{devices, resources, Device, Resource, NONE};
 #[cfg(feature = "link")]
 pub use library::{bring_up, check, check_bring_up, describe, fresh, plan, write};
 pub use request::Request;
+pub use state::{on_set, set_on};
+pub use version::Version;
 
-/// The length of a state.
-pub const STATE_BYTES: usize = 132;
+/// The length of a state, with a table of version 1.
+pub const STATE_BYTES: usize = Version::One.state_bytes();
 
-/// The most calls a plan can have, but for sleep entry.
-pub const PLAN_CALLS: usize = 33;
+/// The most calls a plan can have, but for sleep entry, with a table of version 1.
+pub const PLAN_CALLS: usize = Version::One.plan_calls();
 
-/// The room the planner asks for in bytes, four a call, but for sleep entry.
-pub const PLAN_BYTES: usize = 4 * PLAN_CALLS;
+/// The room the planner asks for in bytes, but for sleep entry, with a table of
+/// version 1.
+pub const PLAN_BYTES: usize = Version::One.plan_bytes();
 
-/// The calls the planner asks room for at sleep entry: each device may move.
-pub const SLEEP_PLAN_CALLS: usize = PLAN_CALLS * MAX_DEVICES;
+/// The calls the planner asks room for at sleep entry, with a table of version 1.
+pub const SLEEP_PLAN_CALLS: usize = Version::One.sleep_plan_calls();
 
-/// The room the planner asks for at sleep entry in bytes, four a call.
-pub const SLEEP_PLAN_BYTES: usize = 4 * SLEEP_PLAN_CALLS;
+/// The room the planner asks for at sleep entry in bytes, with a table of version 1.
+pub const SLEEP_PLAN_BYTES: usize = Version::One.sleep_plan_bytes();
 
-/// The most resources a table can have.
-pub const MAX_RESOURCES: usize = 32;
+/// The most resources a table of version 1 can have.
+pub const MAX_RESOURCES: usize = Version::One.max_resources();
 
-/// The most devices a table can have.
-pub const MAX_DEVICES: usize = 32;
+/// The most devices a table of version 1 can have.
+pub const MAX_DEVICES: usize = Version::One.max_devices();
 
-/// The most bytes a table can have.
-pub const MAX_TABLE_BYTES: usize = 8 + 4 * MAX_RESOURCES + 40 * MAX_DEVICES;
+/// The most bytes a table of version 1 can have.
+pub const MAX_TABLE_BYTES: usize = Version::One.max_table_bytes();

@@ -79,7 +79,8 @@ mod c {
 /// Writes the fresh state of a table into `state`: every device in D0 and not
 /// armed, all resources on.
 ///
-/// Gives 1 to 6 for the table, 7 if `state` is not 132 bytes long, else 0. A
+/// Gives 1 to 6 for the table, 7 if `state` does not have the bytes of a state with
+/// this table ([`Version::state_bytes`](crate::Version::state_bytes)), else 0. A
 /// refusal writes nothing.
 ///
 /// ```
@@ -88,6 +89,13 @@ mod c {
 /// let mut state = [1; sailgarnet::STATE_BYTES];
 /// assert!(sailgarnet::fresh(&table, &mut state).is_done());
 /// assert_eq!(state, [0; sailgarnet::STATE_BYTES]);
+///
+/// // One of version 2, with 40 resources.
+/// let mut table = vec![b'P', b'W', b'T', 40, 2, 0, 0, 0];
+/// table.resize(8 + 4 * 40, 0);
+/// let mut state = [1; sailgarnet::Version::Two.state_bytes()];
+/// assert!(sailgarnet::fresh(&table, &mut state).is_done());
+/// assert_eq!(sailgarnet::on_set(&state), Some((1 << 40) - 1));
 /// ```
 #[inline]
 pub fn fresh(table: &[u8], state: &mut [u8]) -> Answer {
@@ -103,8 +111,10 @@ pub fn fresh(table: &[u8], state: &mut [u8]) -> Answer {
 /// the new state to `state`.
 ///
 /// Gives 0 and the number of calls, or a refusal, which writes nothing: 1 to 18,
-/// for sleep entry 1 to 10, 20 and 21. `plan` needs room for 132 bytes, for sleep
-/// entry for 4224, whatever the calls.
+/// for sleep entry 1 to 10, 20 and 21. With a table of version 1 `plan` needs room
+/// for 132 bytes, for sleep entry for 4224, with one of version 2 for 260 and 16640,
+/// whatever the calls ([`Version::plan_bytes`](crate::Version::plan_bytes),
+/// [`Version::sleep_plan_bytes`](crate::Version::sleep_plan_bytes)).
 ///
 /// A sleep entry moves devices by falling number. The calls of each move are those
 /// of a request for it alone, from the state that the moves before it leave, and
@@ -213,10 +223,12 @@ pub fn check(table: &[u8], state: &[u8], request: Request, list: &[u8]) -> Answe
 /// Gives 0 and the number of calls, or a refusal, which writes nothing: 1 to 7 as
 /// for a request; 8 for the lowest device that is in a state which it does not
 /// have, shallower than its parent, armed for a wake pair that is not legal, or
-/// deeper than its wake state, whatever is on; 9 if `plan` has less than 132 bytes.
+/// deeper than its wake state, whatever is on; 9 if `plan` has less than 132 bytes,
+/// with a table of version 2 less than 260.
 ///
 /// ```
-/// use sailgarnet::{bring_up, check_bring_up, Verdict, PLAN_BYTES, STATE_BYTES};
+/// use sailgarnet::{bring_up, check_bring_up, on_set, set_on};
+/// use sailgarnet::{Verdict, PLAN_BYTES, STATE_BYTES};
 ///
 /// // Two resources, and a device that needs resource 0 in D0 and in D3hot.
 /// let mut table = vec![b'P', b'W', b'T', 2, 1, 0, 1, 0, 4, 0, 0, 0, 4, 0, 0, 0];
@@ -228,13 +240,13 @@ pub fn check(table: &[u8], state: &[u8], request: Request, list: &[u8]) -> Answe
 ///
 /// // The device was in D0, and resource 1 alone is on.
 /// let mut reported = [0; STATE_BYTES];
-/// reported[128] = 0b10;
+/// assert!(set_on(&mut reported, 0b10));
 /// let (mut state, mut buffer) = (reported, [0; PLAN_BYTES]);
 /// let answer = bring_up(&table, &mut state, &mut buffer);
 /// assert_eq!(answer.verdict(), Some(Verdict::Done));
 /// let list = &buffer[..answer.plan_length()];
 /// assert_eq!(list, [1, 0, 0, 0, 2, 1, 0, 0]);
-/// assert_eq!(state[128], 0b01);
+/// assert_eq!(on_set(&state), Some(0b01));
 /// assert!(check_bring_up(&table, &reported, list).is_done());
 ///
 /// // The device has no D3cold.
@@ -284,9 +296,10 @@ pub fn check_bring_up(table: &[u8], state: &[u8], list: &[u8]) -> Answer {
 /// each, to the first bytes of `table`. The bytes past it are left as they were.
 ///
 /// Gives 0 and the table's length in bytes, or a refusal, which writes nothing:
-/// 1 if `version` is not 1, 2 for more than 32 records of a kind, 9 if `table`
-/// is too short, then 4, 5 and 6 as for a table that has these records. A record
-/// that is cut short counts, and is refused with 4 or 5.
+/// 1 if `version` is neither 1 nor 2, 2 for more than 32 records of a kind in
+/// version 1 and 64 in version 2, 9 if `table` is too short, then 4, 5 and 6 as for a
+/// table that has these records. A record that is cut short counts, and is refused
+/// with 4 or 5.
 ///
 /// ```
 /// use sailgarnet::{write, Device, Resource, Verdict, MAX_TABLE_BYTES};
@@ -304,6 +317,22 @@ pub fn check_bring_up(table: &[u8], state: &[u8], list: &[u8]) -> Answer {
 /// let lamp = Device { sets: [0b10, 0, 0, 0, 0], ..lamp };
 /// let answer = write(1, &supply.to_bytes(), &lamp.to_bytes(), &mut table);
 /// assert_eq!(answer.verdict(), Some(Verdict::BadDevice));
+/// ```
+///
+/// Version 2 has room for more:
+///
+/// ```
+/// use sailgarnet::{write, Device, Resource, Verdict, Version};
+///
+/// // A lamp that needs the last of 47 resources in D0.
+/// let supplies = Resource { system_level: 0, order: 2 }.to_bytes().repeat(47);
+/// let lamp = Device { pr_mask: 0b1001, sets: [1 << 46, 0, 0, 0, 0], ..Device::default() };
+/// let mut table = [0; Version::Two.max_table_bytes()];
+/// let answer = write(1, &supplies, &lamp.to_bytes(), &mut table);
+/// assert_eq!(answer.verdict(), Some(Verdict::TooMany));
+/// let answer = write(2, &supplies, &lamp.to_bytes(), &mut table);
+/// assert_eq!(answer.bytes_written(), 8 + 4 * 47 + 64);
+/// assert_eq!(Version::of_table(&table), Some(Version::Two));
 /// ```
 #[inline]
 pub fn write(version: u32, resources: &[u8], devices: &[u8], table: &mut [u8]) -> Answer {
@@ -330,6 +359,9 @@ pub fn write(version: u32, resources: &[u8], devices: &[u8], table: &mut [u8]) -
 /// Gives 0 and the number of bytes in both lists, or a refusal, which writes
 /// nothing: 1 to 6 for the table, then 9 if a buffer is too short.
 ///
+/// The lists are the same for both versions, so a table is turned into one of the
+/// other version by describing it and writing what it describes.
+///
 /// ```
 /// use sailgarnet::{describe, devices, write, Device, Verdict, MAX_TABLE_BYTES};
 ///
@@ -349,6 +381,12 @@ pub fn write(version: u32, resources: &[u8], devices: &[u8], table: &mut [u8]) -
 /// let mut buffer = [0; MAX_TABLE_BYTES];
 /// let answer = write(1, &[], &list, &mut buffer);
 /// assert_eq!(buffer[..answer.bytes_written()], table);
+///
+/// // The same device in a table of version 2 describes the same list.
+/// let answer = write(2, &[], &list, &mut buffer);
+/// let mut other = [0; Device::BYTES];
+/// assert!(describe(&buffer[..answer.bytes_written()], &mut [], &mut other).is_done());
+/// assert_eq!(other, list);
 /// ```
 #[inline]
 pub fn describe(table: &[u8], resources: &mut [u8], devices: &mut [u8]) -> Answer {

@@ -8,7 +8,7 @@ use Rattle.bench.proofs.main.Statement.{statement}
 use Rattle.bench.proofs.main.Tie as tie
 
 abbrev Inv-loop : tie.InvT-loop
-Inv-loop text n table₀ size₀ state₀ at₀ t12 table size state at = (length table ≡ 1782) × (size ≤ 1782) × (length state ≡ 132)
+Inv-loop text n table₀ size₀ state₀ at₀ t12 table size state at = (length table ≡ 4428) × (size ≤ 4428) × (length state ≡ 265)
 
 abbrev μ-loop : tie.MeasureT-loop
 μ-loop text n table₀ size₀ state₀ at₀ t12 table size state at = n - at
@@ -17,5 +17,5 @@ pub main-spec : {M : Type 1} → statement M
 main-spec = tie.close (tie.spec Inv-loop μ-loop (λ c κs. search needs) (λ c. search needs) (λ c κs. search needs) (λ c. search needs)
     (λ c. search needs) (λ c. search needs) (λ c. search needs) (λ c κs. search needs) (λ c. search needs) (λ c. search needs)
     (λ c. search needs) (λ c. search needs) (λ c κs. search needs) (λ c. search needs) (λ c κs. search needs) (λ c. search needs)
-    (λ c. part-long _ 1782 _ (search needs) (search needs)) (λ c κs. search needs) (λ c κs. simp length-take (search needs))
+    (λ c. part-long _ 4428 _ (search needs) (search needs)) (λ c κs. search needs) (λ c κs. simp length-take (search needs))
     (λ c. search needs) (λ c κs. search needs) (λ c. search needs) (λ c. search needs) (λ c. search needs) (λ c. search needs))

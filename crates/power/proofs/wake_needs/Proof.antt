@@ -1,4 +1,5 @@
 -- Each way out is a law of the needs.
+use Rattle.table.proofs.Readers.{field-here-at}
 use borrow.Author.Needs.{needs}
 use Rattle.power.proofs.StateLaws.{set-laws, unarmed-needs}
 use Rattle.power.proofs.wake_needs.Statement.{statement}
@@ -11,5 +12,5 @@ wake-needs-spec =
     (λ c. unarmed-needs _ _ (search needs))
     (λ c κs. search needs)
     (λ c κs. search needs)
-    (λ c. search (needs, set-laws))
+    (λ c. search (needs, set-laws, field-here-at (λ v. v .sets)))
     (λ c. search (needs, set-laws)))

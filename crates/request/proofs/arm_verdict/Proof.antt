@@ -1,4 +1,5 @@
 use Rattle.request.proofs.Rules.{arming}
+use Rattle.table.proofs.Readers.{record-at}
 use borrow.Author.Needs.{needs}
 use Rattle.request.proofs.arm_verdict.Statement.{statement}
 use Rattle.request.proofs.arm_verdict.Tie as tie
@@ -8,10 +9,12 @@ arm-verdict-spec =
     tie.close
     (tie.spec
     (λ c κs. search needs)
-    (λ c. search (needs, arming))
     (λ c κs. search needs)
+    (λ c κs. search (needs, record-at))
     (λ c. search (needs, arming))
-    (λ c κs. search needs)
+    (λ c κs. search (needs, record-at))
+    (λ c. search (needs, arming))
+    (λ c κs. search (needs, record-at))
     (λ c. search (needs, arming))
     (λ c κs. search needs)
     (λ c. search (needs, arming))

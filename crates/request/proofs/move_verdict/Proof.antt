@@ -1,4 +1,5 @@
 use Rattle.request.proofs.Rules.{moving}
+use Rattle.table.proofs.Readers.{record-at}
 use borrow.Author.Needs.{needs}
 use Rattle.request.proofs.move_verdict.Statement.{statement}
 use Rattle.request.proofs.move_verdict.Tie as tie
@@ -9,10 +10,12 @@ move-verdict-spec =
     (tie.spec
     (λ c κs. search needs)
     (λ c κs. search needs)
+    (λ c κs. search needs)
+    (λ c κs. search (needs, record-at))
     (λ c. search (needs, moving))
     (λ c κs. search needs)
     (λ c. search (needs, moving))
-    (λ c κs. search needs)
+    (λ c κs. search (needs, record-at))
     (λ c κs. search needs)
     (λ c. search needs)
     (λ c. search (needs, moving))

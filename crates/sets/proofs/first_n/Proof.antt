@@ -1,4 +1,4 @@
--- Below 32 it is one less than the next resource alone, and 32 is the whole word.
+-- Below 64 it is one less than the next resource alone, and 64 is the whole word.
 use mathlib.Core.Path.{_≡_, refl, ap}
 use Prim.Native.Nat.{ℕ, _-_}
 use native.Mathlib.Omega.{arith}
@@ -17,7 +17,7 @@ returns c = ap (λ (x : ℕ). x - 1) (c .single .ensures)
 
 returns-2 : tie.Need-returns-2
 unfolding firstN
-returns-2 c = let e : c .before .args .n ≡ 32 = omega arith in rw e refl
+returns-2 c = let e : c .before .args .n ≡ 64 = omega arith in rw e refl
 
 pub first-n-spec : {M : Type 1} → statement M
 first-n-spec = tie.close (tie.spec (λ c κs. search needs) sub-result returns returns-2)

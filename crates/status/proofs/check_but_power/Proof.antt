@@ -1,4 +1,4 @@
--- A bad image is 7; otherwise the answer is that of the consistency check with all resources on.
+-- 7, then the rules apart from power.
 use Rattle.status.proofs.Chains.{but-power-laws}
 use borrow.Author.Needs.{needs}
 use Rattle.status.proofs.check_but_power.Statement.{statement}
@@ -10,8 +10,5 @@ check-but-power-spec =
     (tie.spec
     (λ c κs. search needs)
     (λ c. search (needs, but-power-laws))
-    (λ c κs. search (needs, but-power-laws))
-    (λ c. search (needs, but-power-laws))
-    (λ c κs. search (needs, but-power-laws))
     (λ c κs. search (needs, but-power-laws))
     (λ c. search (needs, but-power-laws)))

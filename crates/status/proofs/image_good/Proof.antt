@@ -8,10 +8,10 @@ pub image-good-spec : {M : Type 1} → statement M
 image-good-spec =
     tie.close
     (tie.spec
-    (λ c κs. search needs)
+    (λ c κs. search (needs, image-laws))
     (λ c. search (needs, image-laws))
     (λ c κs. search (needs, image-laws))
     (λ c. search (needs, image-laws))
-    (λ c κs. search needs)
+    (λ c κs. search (needs, image-laws))
     (λ c κs. search (needs, image-laws))
     (λ c. search (needs, image-laws)))

@@ -1,36 +1,37 @@
 //! States to bring up, and lists for them.
 
-use reference::Table;
+use reference::{Table, Version};
 
-use super::{bench_station, family, image};
+use super::{bench_station, family};
 use crate::faults::{entries_with_fault, good_entries, FAULTS};
+use crate::image::{image, set_on};
 use crate::station::{Record, Resource, Station, SHAPES};
 
 /// Small stations with every set of resources on: one device with each entry,
 /// also below another one; a family of three in each state; and the bench station.
-pub fn each_reported(mut each: impl FnMut(&[u8], &[u8])) {
+pub fn each_reported(version: Version, mut each: impl FnMut(&[u8], &[u8])) {
     for shape in SHAPES {
         for (level, deepest) in [(4, None), (2, Some(3)), (4, Some(4))] {
-            let table = station(level, 4, vec![waker(shape, deepest)]);
+            let table = station(level, 4, vec![waker(shape, deepest)]).table(version);
             good_entries().for_each(|entry| each_on(&table, &[entry], &mut each));
         }
         let child = Record {
             parent: 0,
             ..waker(shape, Some(3))
         };
-        let table = station(2, 4, vec![waker((15, 15), None), child]);
+        let table = station(2, 4, vec![waker((15, 15), None), child]).table(version);
         for parent in [0, 2, 4].map(at) {
             good_entries().for_each(|entry| each_on(&table, &[parent, entry], &mut each));
         }
-        let table = family(shape).table();
+        let table = family(shape).table(version);
         each_three_states(|states| each_on(&table, &states.map(at), &mut each));
     }
-    each_reported_on_the_bench(each);
+    each_reported_on_the_bench(version, each);
 }
 
 /// Each state of the three devices; bus and camera are armed in some ways.
-pub fn each_reported_on_the_bench(mut each: impl FnMut(&[u8], &[u8])) {
-    let table = bench_station().table();
+pub fn each_reported_on_the_bench(version: Version, mut each: impl FnMut(&[u8], &[u8])) {
+    let table = bench_station().table(version);
     let not_armed = [0, 0, 0];
     let s3 = |d| [1, 3, d];
     each_three_states(|[bus, camera, lamp]| {
@@ -62,19 +63,20 @@ fn each_three_states(mut each: impl FnMut([u8; 3])) {
 
 /// These entries with each set of the table's resources on.
 fn each_on(table: &[u8], entries: &[[u8; 4]], each: &mut impl FnMut(&[u8], &[u8])) {
+    let version = Version::of_table(table).expect("a good table");
     for on in 0..1 << table[3] {
-        each(table, &image(entries, on));
+        each(table, &image(version, entries, on));
     }
 }
 
 /// So many resources, of which r0 has this level.
-fn station(level: u8, resource_count: u16, devices: Vec<Record>) -> Vec<u8> {
+fn station(level: u8, resource_count: u16, devices: Vec<Record>) -> Station {
     let resource = |r| Resource {
         level: if r == 0 { level } else { 4 },
         order: r % 2,
     };
     let resources = (0..resource_count).map(resource).collect();
-    Station { resources, devices }.table()
+    Station { resources, devices }
 }
 
 /// A device that needs another resource in each state, with each kind of wake
@@ -101,8 +103,8 @@ fn waker((ps, pr): (u8, u8), deepest: Option<u8>) -> Record {
 
 /// Each set of resources on with each needed set: a device for each resource,
 /// whose orders these are.
-pub fn each_on_and_needed(orders: &[u16], mut each: impl FnMut(&[u8], &[u8])) {
-    let table = one_device_each(orders).table();
+pub fn each_on_and_needed(version: Version, orders: &[u16], mut each: impl FnMut(&[u8], &[u8])) {
+    let table = one_device_each(orders).table(version);
     for needed in 0..1 << orders.len() {
         each_on(&table, &needing(needed, orders.len()), &mut each);
     }
@@ -127,7 +129,7 @@ pub fn one_device_each(orders: &[u16]) -> Station {
 }
 
 /// Entries with which so many devices need these resources, each its own.
-pub fn needing(needed: u32, count: usize) -> Vec<[u8; 4]> {
+pub fn needing(needed: u64, count: usize) -> Vec<[u8; 4]> {
     let state = |r| if needed >> r & 1 != 0 { 0 } else { 3 };
     (0..count).map(|r| at(state(r))).collect()
 }
@@ -170,21 +172,21 @@ pub fn each_sequence(list: &[u8], mut each: impl FnMut(&[u8])) {
     arrange(0, &mut list.as_chunks().0.to_vec(), &mut each);
 }
 
-/// 32 devices in D3hot, each below the one before, of which each has each of
-/// [`FAULTS`] in turn, but the first has no parent; with all on, none, and some.
-/// The last operand is the number of the device.
-pub fn each_fault(mut each: impl FnMut(&[u8], &[u8], usize)) {
-    let bytes = chain().table();
+/// All devices of a [`chain`] in D3hot, of which each has each of [`FAULTS`] in
+/// turn, but the first has no parent; with all on, none, and some. The last operand
+/// is the number of the device.
+pub fn each_fault(version: Version, mut each: impl FnMut(&[u8], &[u8], usize)) {
+    let bytes = chain(version).table(version);
     let table = Table::read(&bytes).expect("a good table");
-    for d in 0..32 {
+    for d in 0..version.limit() {
         for fault in 0..FAULTS.len() {
-            let mut state = image(&[at(3); 32], 0);
+            let mut state = image(version, &vec![at(3); version.limit()], 0);
             let entries = entries_with_fault(&table, &state, d, fault);
             assert_eq!(entries.is_empty(), d == 0 && fault == 1);
             for entry in entries {
                 state[4 * d..4 * d + 4].copy_from_slice(&entry);
-                for on in [0, u32::MAX, 0x0f33_5566] {
-                    state[128..].copy_from_slice(&on.to_le_bytes());
+                for on in [0, u64::MAX, 0x6655_330f_0f33_5566] {
+                    set_on(version, &mut state, on);
                     each(&bytes, &state, d);
                 }
             }
@@ -192,24 +194,26 @@ pub fn each_fault(mut each: impl FnMut(&[u8], &[u8], usize)) {
     }
 }
 
-/// 32 devices, each below the one before, without D1, D2 and D3cold.
-pub fn chain() -> Station {
-    let device = |d: u8| Record {
-        parent: if d == 0 { 255 } else { d - 1 },
+/// As many devices as a version has, each below the one before, without D1, D2
+/// and D3cold.
+pub fn chain(version: Version) -> Station {
+    let limit = version.limit();
+    let device = |d: usize| Record {
+        parent: if d == 0 { 255 } else { d as u8 - 1 },
         ps: 9,
         pr: 1,
         flags: 3,
-        sets: [1 << d, 0, 0, 0, 1 << (31 - d)],
+        sets: [1 << d, 0, 0, 0, 1 << (limit - 1 - d)],
         sxw: [3; 5],
         deepest: 3,
         ..Record::default()
     };
-    let resource = |r: u16| Resource {
+    let resource = |r: usize| Resource {
         level: 4,
-        order: 7 * r % 16,
+        order: 7 * r as u16 % 16,
     };
     Station {
-        resources: (0..32).map(resource).collect(),
-        devices: (0..32).map(device).collect(),
+        resources: (0..limit).map(resource).collect(),
+        devices: (0..limit).map(device).collect(),
     }
 }

@@ -1,22 +1,24 @@
 //! Sleep entries of small stations, and devices armed for another sleep state.
 
+use reference::Version;
+
 use super::bring_up::{at, chain, each_reported_on_the_bench};
-use super::image;
+use crate::image::image;
 use crate::station::{Record, Resource, Station, SHAPES};
 
 /// One device, all of whose resources are on: each shape of masks, each `_SxD`,
 /// each state, armed or not, and each set of its needs that cannot be on in Sx.
 /// The last operand is x.
-pub fn each_device(mut each: impl FnMut(&[u8], &[u8], u32)) {
+pub fn each_device(version: Version, mut each: impl FnMut(&[u8], &[u8], u32)) {
     for x in 1..=4 {
         for (shape, sxd) in SHAPES.into_iter().flat_map(|shape| {
             let each_sxd = [0, 1, 2, 3, 255].into_iter();
             each_sxd.map(move |sxd| (shape, sxd))
         }) {
             for lost in 0..1 << 4 {
-                let table = station(x, lost, 5, vec![waker(shape, x, sxd)]);
+                let table = station(x, lost, 5, vec![waker(shape, x, sxd)]).table(version);
                 for entry in entries(x) {
-                    each(&table, &image(&[entry], 0x1f), x.into());
+                    each(&table, &image(version, &[entry], 0x1f), x.into());
                 }
             }
         }
@@ -47,21 +49,21 @@ fn waker((ps, pr): (u8, u8), x: u8, sxd: u8) -> Record {
     record
 }
 
-/// The table of so many resources, of which these cannot be on in Sx.
-fn station(x: u8, lost: u32, resource_count: u16, devices: Vec<Record>) -> Vec<u8> {
+/// So many resources, of which these cannot be on in Sx.
+fn station(x: u8, lost: u64, resource_count: u16, devices: Vec<Record>) -> Station {
     let resource = |r: u16| Resource {
         level: if lost >> r & 1 != 0 { x - 1 } else { x },
         order: r % 2,
     };
     let resources = (0..resource_count).map(resource).collect();
-    Station { resources, devices }.table()
+    Station { resources, devices }
 }
 
 /// Three devices in D0, each below any of those before it or none, each with and
 /// without D3cold: every set of states that the needs of each of them leave to it
 /// in S2. The last operand is x.
-pub fn each_three_devices(mut each: impl FnMut(&[u8], &[u8], u32)) {
-    let state = image(&[], 0xfff);
+pub fn each_three_devices(version: Version, mut each: impl FnMut(&[u8], &[u8], u32)) {
+    let state = image(version, &[], 0xfff);
     for parents in [[255, 255], [255, 0], [255, 1], [0, 255], [0, 0], [0, 1]] {
         for cold in 0..1 << 3 {
             let device = |d: u8| Record {
@@ -76,7 +78,8 @@ pub fn each_three_devices(mut each: impl FnMut(&[u8], &[u8], u32)) {
             let needs = devices.iter().flat_map(|device| device.sets);
             let used = needs.fold(0, |all, set| all | set);
             for lost in (0..1 << 12).filter(|lost| lost & !used == 0) {
-                each(&station(2, lost, 12, devices.clone()), &state, 2);
+                let table = station(2, lost, 12, devices.clone()).table(version);
+                each(&table, &state, 2);
             }
         }
     }
@@ -97,23 +100,23 @@ fn with_own_resources(d: u8, has_d3cold: bool) -> Record {
 
 /// The bench station in each state, also in those that are not consistent, with
 /// each set of resources on. The last operand is x, also one below and above 1 to 4.
-pub fn each_on_the_bench(mut each: impl FnMut(&[u8], &[u8], u32)) {
-    each_reported_on_the_bench(|table, state| {
+pub fn each_on_the_bench(version: Version, mut each: impl FnMut(&[u8], &[u8], u32)) {
+    each_reported_on_the_bench(version, |table, state| {
         (0..=5).for_each(|x| each(table, state, x));
     });
 }
 
-/// 32 devices, each below the one before, of which each in turn is armed for a
-/// sleep state other than x, and the others for x or not at all. The last
-/// operands are x and the number of the device.
-pub fn each_armed_for_another(mut each: impl FnMut(&[u8], &[u8], u32, usize)) {
-    let table = chain().table();
+/// The devices of a [`chain`], of which each in turn is armed for a sleep state
+/// other than x, and the others for x or not at all. The last operands are x and
+/// the number of the device.
+pub fn each_armed_for_another(version: Version, mut each: impl FnMut(&[u8], &[u8], u32, usize)) {
+    let table = chain(version).table(version);
     for (x, s) in (1..=3).flat_map(|x| (0..=3).map(move |s| (x, s))) {
-        for d in (0..32).filter(|_| s != x) {
+        for d in (0..version.limit()).filter(|_| s != x) {
             for others in [at(0), [0, 1, x, 3]] {
-                let mut entries = [others; 32];
+                let mut entries = vec![others; version.limit()];
                 entries[d] = [0, 1, s, 3];
-                each(&table, &image(&entries, u32::MAX), x.into(), d);
+                each(&table, &image(version, &entries, u64::MAX), x.into(), d);
             }
         }
     }

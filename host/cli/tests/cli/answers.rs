@@ -93,6 +93,7 @@ fn answers_10_to_18_are_for_requests() {
         desk.write("state", &state);
     };
     refuses("move 3 D0", 10, "place 0");
+    refuses("disarm 4294967295", 10, "place 0");
     refuses("move 1 D1", 11, "place 0");
     refuses("move 0 D3hot", 14, "device 1");
     refuses("arm 1 S4 D2", 16, "place 0");
@@ -107,6 +108,21 @@ fn answers_10_to_18_are_for_requests() {
     table[8 + 4 * 2] = 2;
     desk.write("table", &table);
     refuses("arm 1 S3 D2", 17, "place 0");
+}
+
+#[test]
+fn a_device_that_is_not_there_is_named() {
+    let desk = Desk::new("answers_no_device");
+    for line in [
+        "plan table state arm 3 S3 D2",
+        "check table state disarm 3 table",
+        "trace table state move 3 D0",
+    ] {
+        assert_eq!(
+            desk.run(line).refused(10),
+            "Answer 10, place 0: the request names device 3, and the table has 3, numbered from 0.\n"
+        );
+    }
 }
 
 #[test]

@@ -1,7 +1,7 @@
 //! The bench station at power-on, and other stations with any resources on.
 
-use cases::sweep::image;
-use cases::{draw_state, Rng, Station};
+use cases::{draw_state, image, on_set, Rng, Station};
+use reference::Version;
 
 use crate::desk::{is_well_formed, Desk};
 
@@ -9,9 +9,9 @@ use crate::desk::{is_well_formed, Desk};
 const ASLEEP: [[u8; 4]; 3] = [[0; 4], [3, 0, 0, 0], [4, 0, 0, 0]];
 
 /// A desk whose state has these entries and these resources on.
-fn desk(name: &str, entries: [[u8; 4]; 3], on: u32) -> Desk {
+fn desk(name: &str, entries: [[u8; 4]; 3], on: u64) -> Desk {
     let desk = Desk::new(name);
-    desk.write("state", &image(&entries, on));
+    desk.write("state", &image(Version::One, &entries, on));
     desk
 }
 
@@ -39,10 +39,10 @@ fn state_and_list_are_written() {
     desk.run("bring-up table state -o after --list calls")
         .done();
     assert_eq!(desk.read("calls"), [1, 0, 0, 0, 2, 1, 0, 0, 2, 2, 0, 0]);
-    assert_eq!(desk.read("after"), image(&ASLEEP, 0b001));
-    assert_eq!(desk.read("state"), image(&ASLEEP, 0b110));
+    assert_eq!(desk.read("after"), image(Version::One, &ASLEEP, 0b001));
+    assert_eq!(desk.read("state"), image(Version::One, &ASLEEP, 0b110));
     desk.run("bring-up table state -o state").done();
-    assert_eq!(desk.read("state"), image(&ASLEEP, 0b001));
+    assert_eq!(desk.read("state"), image(Version::One, &ASLEEP, 0b001));
 }
 
 #[test]
@@ -71,7 +71,8 @@ fn stations_are_brought_up() {
     let mut rng = Rng::new(21);
     let mut brought_up = 0;
     while brought_up < 60 {
-        let table = Station::random(&mut rng).table();
+        let version = rng.pick(&Version::ALL);
+        let table = Station::random(&mut rng, version).table(version);
         // What is needed and nothing else is on in a drawn state.
         let Some(needed) = draw_state(&mut rng, &table) else {
             continue;
@@ -87,8 +88,8 @@ fn stations_are_brought_up() {
         };
         run("bring-up table state -o after --list calls");
         assert_eq!(desk.read("after"), needed);
-        let set: u32 = on.iter().map(|r| 1 << r).sum();
-        let needed = u32::from_le_bytes(*needed.last_chunk().unwrap());
+        let set: u64 = on.iter().map(|r| 1 << r).sum();
+        let needed = on_set(version, &needed);
         assert_eq!(
             desk.read("calls").len(),
             4 * (set ^ needed).count_ones() as usize
@@ -191,7 +192,10 @@ fn each_refusal_has_its_reason() {
     let (mut accepted, mut refused) = (0, 0);
     for camera in not_armed.chain(armed) {
         for bus in [[0; 4], [3, 0, 0, 0]] {
-            desk.write("state", &image(&[bus, camera, [4, 0, 0, 0]], 0));
+            desk.write(
+                "state",
+                &image(Version::One, &[bus, camera, [4, 0, 0, 0]], 0),
+            );
             let run = desk.run("bring-up table state");
             if run.status == 0 {
                 accepted += 1;
@@ -246,7 +250,10 @@ fn where_more_is_wrong_bring_up_is_not_named() {
         refusal_of_requests(&desk),
         "Answer 8, device 0: the state is not consistent: this device needs what is off: r0.\n"
     );
-    desk.write("state", &image(&[[0; 4], [1, 1, 3, 2], [0; 4]], 0b001));
+    desk.write(
+        "state",
+        &image(Version::One, &[[0; 4], [1, 1, 3, 2], [0; 4]], 0b001),
+    );
     assert_eq!(
         refusal_of_requests(&desk),
         "Answer 8, device 1: the state is not consistent: \
@@ -267,7 +274,7 @@ fn a_list_that_conforms_passes() {
     let line = "check-bring-up table state calls --on r0,r1,r2";
     let text = desk.run(line).done();
     assert!(text.contains("The list of 0 calls conforms"));
-    assert_eq!(desk.read("state"), image(&[[0; 4]; 3], 0b010));
+    assert_eq!(desk.read("state"), image(Version::One, &[[0; 4]; 3], 0b010));
 }
 
 /// The lines after the answer of a refused list for the camera and lamp asleep with
@@ -355,7 +362,7 @@ fn wrong_usage_is_explained() {
             "check-bring-up table state state --on r31",
             "--on names resource 31, and the table has 3, numbered from 0\n",
         ),
-        ("bring-up table state --on r32", "\"r32\" is no resource"),
+        ("bring-up table state --on r64", "\"r64\" is no resource"),
         ("bring-up table state --on bus", "\"bus\" is no resource"),
         ("bring-up table state --on r0,,r1", "\"\" is no resource"),
         ("bring-up table state --on r0,r0", "\"r0\" is listed twice"),

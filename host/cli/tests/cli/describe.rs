@@ -42,7 +42,7 @@ fn a_description_goes_to_a_file() {
     let text = desk.run("describe table -o text").done();
     assert_eq!(
         text,
-        "Answer 0, place 0: done.\nTable of 140 bytes: 3 resources, 3 devices\n"
+        "Answer 0, place 0: done.\nTable of version 1, 140 bytes: 3 resources, 3 devices\n"
     );
     assert_eq!(desk.read("text"), BENCH.as_bytes());
 }

@@ -6,6 +6,7 @@ use std::path::{Path, PathBuf};
 use std::process::Command;
 
 use cases::sweep::bench_station;
+use reference::Version;
 
 /// A directory of its own for each test.
 pub struct Desk {
@@ -27,7 +28,7 @@ impl Desk {
         let _ = fs::remove_dir_all(&directory);
         fs::create_dir_all(&directory).expect("a directory for the test");
         let desk = Self { directory };
-        desk.write("table", &bench_station().table());
+        desk.write("table", &bench_station().table(Version::One));
         let mut state = [0; 132];
         state[128] = 0b111;
         desk.write("state", &state);
@@ -53,6 +54,10 @@ impl Desk {
 
     pub fn has(&self, name: &str) -> bool {
         self.directory.join(name).exists()
+    }
+
+    pub fn remove(&self, name: &str) {
+        fs::remove_file(self.directory.join(name)).expect("a file of the test");
     }
 
     /// The names of all files.
@@ -136,4 +141,53 @@ pub fn is_well_formed(drawing: &str) {
         }
     }
     assert_eq!(open, [""; 0]);
+}
+
+/// The value of an attribute in a tag of a drawing.
+fn attribute<'a>(tag: &'a str, name: &str) -> &'a str {
+    let (_, rest) = tag
+        .split_once(&format!(" {name}=\""))
+        .expect("an attribute");
+    rest.split('"').next().unwrap_or(rest)
+}
+
+/// The letters of a text in a drawing and where it stands: left, top, right and
+/// bottom. A letter is about 0.55 of its size wide.
+fn placed<'a>(tag: &'a str, letters: &'a str) -> (&'a str, [f64; 4]) {
+    let number = |name| attribute(tag, name).parse::<f64>().expect("a number");
+    let class = attribute(tag, "class");
+    let size = match class {
+        "title" => 17.0,
+        _ if class.contains("small") => 11.0,
+        _ => 13.0,
+    };
+    let width = 0.55 * size * letters.chars().count() as f64;
+    let left = match class.contains("middle") {
+        true => number("x") - width / 2.0,
+        false => number("x"),
+    };
+    let bottom = number("y") + 0.2 * size;
+    (letters, [left, bottom - size, left + width, bottom])
+}
+
+/// Checks that no text of a drawing covers another, and that all are within it.
+pub fn texts_are_apart(drawing: &str) {
+    let tags = drawing.split("<text").skip(1);
+    let texts: Vec<_> = tags
+        .map(|text| {
+            let (tag, rest) = text.split_once('>').expect("a tag ends");
+            placed(tag, rest.split('<').next().unwrap_or(rest))
+        })
+        .collect();
+    let (svg, _) = drawing.split_once('>').expect("a tag ends");
+    let size = |name| attribute(svg, name).parse::<f64>().expect("a number");
+    let (width, height) = (size("width"), size("height"));
+    for (i, (letters, [left, top, right, bottom])) in texts.iter().enumerate() {
+        let inside = *left >= 0.0 && *right <= width && *top >= 0.0 && *bottom <= height;
+        assert!(inside, "{letters} is outside");
+        for (others, [x1, y1, x2, y2]) in &texts[i + 1..] {
+            let apart = right <= x1 || x2 <= left || bottom <= y1 || y2 <= top;
+            assert!(apart, "{letters} and {others} cover each other");
+        }
+    }
 }

@@ -4,7 +4,7 @@ use crate::desk::Desk;
 fn the_bench_station_is_shown() {
     let text = Desk::new("show_bench").run("show table").done();
     for line in [
-        "Table of 140 bytes: 3 resources, 3 devices",
+        "Table of version 1, 140 bytes: 3 resources, 3 devices",
         "r0        S3                     1",
         "r1        S0                     2",
         "Device 0, no parent",
@@ -39,7 +39,10 @@ fn an_empty_table_is_shown() {
     let desk = Desk::new("show_empty");
     desk.write("table", b"PWT\0\x01\0\0\0");
     let text = desk.run("show table").done();
-    assert_eq!(text, "Table of 8 bytes: 0 resources, 0 devices\n");
+    assert_eq!(
+        text,
+        "Table of version 1, 8 bytes: 0 resources, 0 devices\n"
+    );
 }
 
 #[test]

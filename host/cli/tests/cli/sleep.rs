@@ -1,7 +1,7 @@
 //! The bench station and others before the system enters a sleep state.
 
-use cases::sweep::image;
-use cases::{arm_for, draw_state, Rng, Station};
+use cases::{arm_for, draw_state, image, Rng, Station};
+use reference::Version;
 
 use crate::desk::{is_well_formed, Desk};
 
@@ -13,9 +13,9 @@ const ARMED: [[u8; 4]; 3] = [[0; 4], [0, 1, 3, 2], [0; 4]];
 const PREPARED: [[u8; 4]; 3] = [[0; 4], [2, 1, 3, 2], [3, 0, 0, 0]];
 
 /// A desk whose state has these entries and these resources on.
-fn desk(name: &str, entries: [[u8; 4]; 3], on: u32) -> Desk {
+fn desk(name: &str, entries: [[u8; 4]; 3], on: u64) -> Desk {
     let desk = Desk::new(name);
-    desk.write("state", &image(&entries, on));
+    desk.write("state", &image(Version::One, &entries, on));
     desk
 }
 
@@ -67,10 +67,10 @@ fn state_and_list_are_written() {
     desk.run("plan table state sleep S3 -o after --list calls")
         .done();
     assert_eq!(desk.read("calls"), [3, 1, 2, 0, 2, 1, 0, 0]);
-    assert_eq!(desk.read("after"), image(&PREPARED, 0b101));
-    assert_eq!(desk.read("state"), image(&ARMED, 0b111));
+    assert_eq!(desk.read("after"), image(Version::One, &PREPARED, 0b101));
+    assert_eq!(desk.read("state"), image(Version::One, &ARMED, 0b111));
     desk.run("plan table state sleep S3 -o state").done();
-    assert_eq!(desk.read("state"), image(&PREPARED, 0b101));
+    assert_eq!(desk.read("state"), image(Version::One, &PREPARED, 0b101));
 }
 
 #[test]
@@ -84,7 +84,7 @@ fn where_no_device_moves_what_is_not_needed_goes_off() {
          On afterwards: r0 r2\n"
     ));
     assert_eq!(desk.read("calls"), [2, 1, 0, 0]);
-    assert_eq!(desk.read("state"), image(&PREPARED, 0b101));
+    assert_eq!(desk.read("state"), image(Version::One, &PREPARED, 0b101));
     let text = desk.run(line).done();
     assert!(text.ends_with("\nno device moves, no calls\nOn afterwards: r0 r2\n"));
     assert_eq!(desk.read("calls"), []);
@@ -111,7 +111,8 @@ fn moves(text: &str) -> Vec<(&str, &str, usize)> {
 /// sleep state that is given.
 fn draw_armed(desk: &Desk, rng: &mut Rng) -> u8 {
     loop {
-        let table = Station::random(rng).table();
+        let version = rng.pick(&Version::ALL);
+        let table = Station::random(rng, version).table(version);
         if let Some(mut state) = draw_state(rng, &table) {
             let x = rng.byte_within(1, 4);
             arm_for(rng, &table, &mut state, x);

@@ -1,10 +1,12 @@
 //! Tables and texts of many stations, described and written back.
 
-use cases::{Record, Resource, Rng, Station, SHAPES};
+use cases::{first_resources, Record, Resource, Rng, Station, SHAPES};
+use reference::Version;
 
 use crate::desk::Desk;
 
 const EXAMPLE: &str = include_str!("../../../../examples/station.txt");
+const LINE: &str = include_str!("../../../../examples/double-camera.txt");
 
 /// Describes a table and writes the text back: the bytes are the same. So is the
 /// text of what was written. It is given.
@@ -59,12 +61,22 @@ fn station(resources: usize, devices: Vec<Record>) -> Station {
 #[test]
 fn stations_of_every_size_go_both_ways() {
     let desk = Desk::new("stations_sizes");
-    for resources in [0, 1, 31, 32] {
-        for devices in [0, 1, 32] {
+    for version in Version::ALL {
+        let limit = version.limit();
+        for (resources, devices) in [
+            (0, 0),
+            (0, 1),
+            (0, limit),
+            (1, 0),
+            (limit - 1, 1),
+            (limit, 0),
+            (limit, limit),
+        ] {
             let devices = vec![Record::default(); devices];
-            let table = station(resources, devices).table();
+            let table = station(resources, devices).table(version);
             let text = goes_both_ways(&desk, &table);
             assert_eq!(text.matches("\nresource ").count(), resources);
+            assert!(text.contains(&format!("\nversion {}\n", version.number())));
         }
     }
 }
@@ -72,23 +84,34 @@ fn stations_of_every_size_go_both_ways() {
 #[test]
 fn sets_that_are_there_go_both_ways() {
     let desk = Desk::new("stations_sets");
-    let mut devices = Vec::new();
-    for (ps, pr) in SHAPES {
-        for set in [0, 0x8000_0001] {
+    for version in Version::ALL {
+        let (limit, last) = (version.limit(), version.limit() - 1);
+        let all = first_resources(limit);
+        for devices in devices_with_sets(1 | 1 << last, all).chunks(limit) {
+            let station = station(limit, devices.to_vec());
+            let text = goes_both_ways(&desk, &station.table(version));
+            let both = format!("\n  _PR0 r0 r{last}\n");
+            assert!(text.contains("\n  _PR0\n") && text.contains(&both));
+        }
+    }
+}
+
+/// Devices of every shape, whose sets are empty or this one, and those of `_PRW`
+/// what is left of all.
+fn devices_with_sets(set: u64, all: u64) -> Vec<Record> {
+    let devices = SHAPES.into_iter().flat_map(|(ps, pr)| {
+        [0, set].map(|set| {
             let there = |x: u8| if pr >> x & 1 != 0 { set } else { 0 };
-            devices.push(Record {
+            Record {
                 ps,
                 pr,
                 flags: 3,
-                sets: [there(0), there(1), there(2), there(3), !set],
+                sets: [there(0), there(1), there(2), there(3), all & !set],
                 ..Record::default()
-            });
-        }
-    }
-    for devices in devices.chunks(32) {
-        let text = goes_both_ways(&desk, &station(32, devices.to_vec()).table());
-        assert!(text.contains("\n  _PR0\n") && text.contains("\n  _PR0 r0 r31\n"));
-    }
+            }
+        })
+    });
+    devices.collect()
 }
 
 #[test]
@@ -108,7 +131,9 @@ fn sleep_states_go_both_ways() {
         })
         .collect();
     assert_eq!(devices.len(), 24);
-    let text = goes_both_ways(&desk, &station(0, devices).table());
+    let station = station(0, devices);
+    goes_both_ways(&desk, &station.table(Version::Two));
+    let text = goes_both_ways(&desk, &station.table(Version::One));
     for line in ["_S1D D0", "_S4D D3hot", "_S0W D0", "_S4W D3cold", "_PRW S4"] {
         assert!(text.contains(&format!("\n  {line}\n")), "{line}");
     }
@@ -118,8 +143,11 @@ fn sleep_states_go_both_ways() {
 fn random_stations_go_both_ways() {
     let desk = Desk::new("stations_random");
     let mut rng = Rng::new(11);
-    for _ in 0..100 {
-        goes_both_ways(&desk, &Station::random(&mut rng).table());
+    for _ in 0..50 {
+        for version in Version::ALL {
+            let station = Station::random(&mut rng, version);
+            goes_both_ways(&desk, &station.table(version));
+        }
     }
 }
 
@@ -151,8 +179,8 @@ fn respelt(rng: &mut Rng, text: &str) -> String {
 fn names_spacing_and_comments_do_not_matter() {
     let desk = Desk::new("stations_respelt");
     let mut rng = Rng::new(12);
-    for _ in 0..60 {
-        let table = Station::random(&mut rng).table();
+    for version in [Version::One, Version::Two].repeat(30) {
+        let table = Station::random(&mut rng, version).table(version);
         desk.write("table", &table);
         let text = desk.run("describe table").done();
         let text = respelt(&mut rng, &text);
@@ -192,8 +220,8 @@ fn damaged_texts_are_answered() {
     let desk = Desk::new("stations_damaged");
     let mut rng = Rng::new(13);
     let mut statuses = [0; 3];
-    for _ in 0..400 {
-        let mut text = EXAMPLE.as_bytes().to_vec();
+    for example in [EXAMPLE, LINE].repeat(200) {
+        let mut text = example.as_bytes().to_vec();
         for _ in 0..=rng.below(3) {
             damage(&mut rng, &mut text);
         }

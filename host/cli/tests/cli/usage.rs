@@ -1,9 +1,10 @@
 use crate::desk::Desk;
 
-const SUBCOMMANDS: [&str; 10] = [
+const SUBCOMMANDS: [&str; 11] = [
     "show",
     "describe",
     "write",
+    "convert",
     "fresh",
     "plan",
     "check",

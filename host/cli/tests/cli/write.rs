@@ -1,6 +1,7 @@
 use std::collections::BTreeSet;
 
 use cases::{Record, Resource, Station};
+use reference::Version;
 
 use crate::desk::Desk;
 
@@ -15,7 +16,7 @@ fn the_example_is_the_bench_station() {
     let text = desk.run("write text -o new").done();
     assert_eq!(
         text,
-        "Answer 0, place 0: done.\nTable of 140 bytes: 3 resources, 3 devices\n"
+        "Answer 0, place 0: done.\nTable of version 1, 140 bytes: 3 resources, 3 devices\n"
     );
     assert_eq!(desk.read("new"), BENCH);
 }
@@ -137,7 +138,10 @@ device c
 #[test]
 fn each_word_has_its_field() {
     let desk = Desk::new("write_fields");
-    assert_eq!(written(&desk, DISTINCT), distinct_station().table());
+    assert_eq!(
+        written(&desk, DISTINCT),
+        distinct_station().table(Version::One)
+    );
 }
 
 /// The lines of a device, and resources and devices, may stand in any order.
@@ -385,28 +389,32 @@ const BAD_TEXTS: [(&[u8], &str, &str); 15] = [
     (
         b"",
         "1:1",
-        "a station begins with the line version 1; only comments may stand before it",
+        "a station begins with the line version 1 or version 2; only comments may stand before it",
     ),
     (
         b"# nothing\n",
         "1:1",
-        "a station begins with the line version 1; only comments may stand before it",
+        "a station begins with the line version 1 or version 2; only comments may stand before it",
     ),
     (
         b"\n resource r0 level S0 order 0\nversion 1",
         "2:2",
-        "a station begins with the line version 1; only comments may stand before it",
+        "a station begins with the line version 1 or version 2; only comments may stand before it",
     ),
     (b"version", "1:8", "the version is missing here"),
-    (b"version 1.0", "1:9", "\"1.0\" is no version; write 1"),
+    (b"version 1.0", "1:9", "\"1.0\" is no version; write 1 or 2"),
     (
         b"version 4294967296",
         "1:9",
-        "\"4294967296\" is no version; write 1",
+        "\"4294967296\" is no version; write 1 or 2",
     ),
-    (b"version 01", "1:9", "\"01\" is no version; write 1"),
-    (b"version +1", "1:9", "\"+1\" is no version; write 1"),
-    (b"version 1\r", "1:9", "\"1\\r\" is no version; write 1"),
+    (b"version 01", "1:9", "\"01\" is no version; write 1 or 2"),
+    (b"version +1", "1:9", "\"+1\" is no version; write 1 or 2"),
+    (
+        b"version 1\r",
+        "1:9",
+        "\"1\\r\" is no version; write 1 or 2",
+    ),
     (b"version 1 2", "1:11", "unexpected word \"2\""),
     (
         b"version 1\nparent d0",
@@ -499,8 +507,9 @@ fn the_page_shows_a_refusal_of_the_example() {
 }
 
 /// Texts of refused stations, the answer, and the part that it is about.
-const REFUSED: [(&str, u8, &str, &str); 14] = [
+const REFUSED: [(&str, u8, &str, &str); 15] = [
     ("version 0", 1, "place 0", "1:9: the version is 0"),
+    ("version 3", 1, "place 0", "1:9: the version is 3"),
     (
         "# a\n version 65537",
         1,
@@ -586,7 +595,7 @@ const REFUSED: [(&str, u8, &str, &str); 14] = [
 /// What is said of a text with this answer.
 fn sentence(number: u8) -> &'static str {
     match number {
-        1 => "the version of the table is not 1.",
+        1 => "the version of the table is neither 1 nor 2.",
         2 => "there are more than 32 resources or more than 32 devices.",
         5 => "a line of this device has a value that is not allowed.",
         6 => {
@@ -618,7 +627,7 @@ fn refused_stations_are_named_with_their_lines() {
 
 /// A text with so many resources and devices. The last device lists all
 /// resources, and its parent is the device before it.
-fn many(resources: usize, devices: usize) -> String {
+pub fn many(resources: usize, devices: usize) -> String {
     let mut text = String::from("version 1\n");
     for r in 0..resources {
         text += &format!("resource r{r} level S0 order {r}\n");
@@ -640,7 +649,12 @@ fn too_many_records_are_counted() {
         (65, 2, "34:10"),
         (300, 300, "34:10"),
     ] {
-        let part = format!("{position}: the text has {resources} resources and {devices} devices");
+        let hint = match resources.max(devices) {
+            ..=64 => "; with --version 2 there is room for 64 of each",
+            _ => "",
+        };
+        let part =
+            format!("{position}: the text has {resources} resources and {devices} devices{hint}");
         refused(&desk, &many(resources, devices), 2, "place 0", &part);
     }
     let table = written(&desk, &many(32, 32));
@@ -687,6 +701,19 @@ fn wrong_usage_and_files_are_explained() {
         ("write", "FILE is missing"),
         ("write text", "-o TABLE is missing"),
         ("write text -o", "-o needs a file"),
+        ("write text -o new --version", "--version needs 1 or 2"),
+        (
+            "write text --version 3 -o new",
+            "--version is 1 or 2, not \"3\"",
+        ),
+        (
+            "write text --version two -o new",
+            "--version is 1 or 2, not \"two\"",
+        ),
+        (
+            "write text --version 1 --version 2 -o new",
+            "--version is given twice",
+        ),
         ("write text more -o new", "unexpected operand more"),
         ("write text -o text", "two purposes"),
         ("write text -o ./text", "two purposes"),

@@ -2,13 +2,20 @@
 
 #![allow(dead_code)] // Each test file uses a part.
 
-use cases::{Resource, Station};
+use cases::{image, Case, Resource, Station, Versions};
 use reference::{
-    check, check_words, demand3, effect, fresh, plan, plan_words, Answer, Request, PLAN_BYTES,
-    PLAN_WORDS, STATE_BYTES,
+    bring_up, check, check_bring_up, check_words, demand3, effect, fresh, plan, plan_words, write,
+    Answer, Request, Version,
 };
 
-pub use cases::{sweep::image as state, Record};
+pub use cases::Record;
+
+/// The sizes of version 1.
+pub const STATE_BYTES: usize = 132;
+pub const PLAN_WORDS: usize = 33;
+pub const PLAN_BYTES: usize = 132;
+pub const SLEEP_PLAN_WORDS: usize = 1_056;
+pub const SLEEP_PLAN_BYTES: usize = 4_224;
 
 pub const D0: u32 = 0;
 pub const D1: u32 = 1;
@@ -16,14 +23,41 @@ pub const D2: u32 = 2;
 pub const D3HOT: u32 = 3;
 pub const D3COLD: u32 = 4;
 
-/// A table of resources (level, order) and devices.
-pub fn table(resources: &[(u8, u16)], devices: &[Record]) -> Vec<u8> {
+/// A station of resources (level, order) and devices.
+pub fn station(resources: &[(u8, u16)], devices: &[Record]) -> Station {
     let resource = |&(level, order)| Resource { level, order };
-    let station = Station {
+    Station {
         resources: resources.iter().map(resource).collect(),
         devices: devices.to_vec(),
-    };
-    station.table()
+    }
+}
+
+/// A table of version 1.
+pub fn table(resources: &[(u8, u16)], devices: &[Record]) -> Vec<u8> {
+    station(resources, devices).table(Version::One)
+}
+
+/// A state image of version 1.
+pub fn state(entries: &[[u8; 4]], on: u64) -> Vec<u8> {
+    image(Version::One, entries, on)
+}
+
+/// The functions that are compared in both versions.
+const VERSIONS: Versions = Versions {
+    write: |version, lists, table| write(version, &lists.resources, &lists.devices, table).pack(),
+    fresh: |table, state| fresh(table, state).pack(),
+    plan: |table, state, request, buffer| plan(table, state, request, buffer).pack(),
+    check: |table, state, request, list| check(table, state, request, list).pack(),
+    bring_up: |table, state, buffer| bring_up(table, state, buffer).pack(),
+    check_bring_up: |table, state, list| check_bring_up(table, state, list).pack(),
+};
+
+/// The station of a case, which has at most 32 of each, gets the same answers,
+/// calls and states as version 1 and as version 2.
+pub fn agrees_with_version_2(case: &Case) {
+    if let Err(what) = VERSIONS.agree(case) {
+        panic!("{what}\n{case:?}");
+    }
 }
 
 /// The table of the bench station.
@@ -31,7 +65,8 @@ pub fn bench() -> Vec<u8> {
     include_bytes!("../../../../examples/station.pwt").to_vec()
 }
 
-/// A table with its present state.
+/// A table of version 1 with its present state. What is asked of it is asked of
+/// the same station as version 2 too.
 #[derive(Clone)]
 pub struct Desk {
     pub table: Vec<u8>,
@@ -56,7 +91,7 @@ impl Desk {
         request: Request,
         calls: &[[u8; 4]],
         entries: &[[u8; 4]],
-        on: u32,
+        on: u64,
     ) -> &mut Self {
         let before = self.state.clone();
         let mut buffer = [0x5a; PLAN_BYTES + 5];
@@ -68,6 +103,7 @@ impl Desk {
         assert_eq!(self.state, state(entries, on), "{request:?}");
 
         self.words_agree(&before, request, &list);
+        self.version_2_agrees(&before, request, &list);
         let passed = check(&self.table, &before, request, &list);
         assert_eq!(passed, Answer::done(0), "{request:?}");
         demand3(&self.table, &before, request, &list).unwrap();
@@ -92,6 +128,17 @@ impl Desk {
         assert_eq!(passed, Answer::done(0));
     }
 
+    /// The same station as version 2 gets the same from the state before.
+    fn version_2_agrees(&self, before: &[u8], request: Request, list: &[u8]) {
+        agrees_with_version_2(&Case {
+            table: self.table.clone(),
+            state: before.to_vec(),
+            request,
+            list: list.to_vec(),
+            ..Case::default()
+        });
+    }
+
     /// A request that planner and checker refuse, and that writes nothing.
     pub fn refuses(&mut self, request: Request, number: u8, place: u64) -> &mut Self {
         let before = self.state.clone();
@@ -106,6 +153,7 @@ impl Desk {
         assert_eq!(buffer, [0x5a; PLAN_BYTES]);
         assert_eq!(check(&self.table, &before, request, &[]), refusal);
         assert_eq!(effect(&self.table, &before, request), Err(refusal));
+        self.version_2_agrees(&before, request, &[]);
         self
     }
 

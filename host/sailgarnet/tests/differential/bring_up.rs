@@ -3,19 +3,22 @@
 
 use cases::sweep::{self, bring_up};
 use cases::{
-    draw_state, filled_station, put_fault, report_any_on, turn_on_all_needed, vary_bring_up_list,
-    workloads, Case, Rng,
+    draw_state, filled_station, image, put_fault, report_any_on, turn_on_all_needed,
+    vary_bring_up_list, workloads, Case, Rng, RECORDS,
 };
+use reference::Version;
 
 use super::Comparison;
 
 #[test]
 fn each_reported_state_agrees() {
     let mut comparison = Comparison::new();
-    bring_up::each_reported(|table, state| {
-        let case = Case::of_bring_up(table, state);
-        comparison.run_bring_up(&case, |_| "reported state".into());
-    });
+    for version in Version::ALL {
+        bring_up::each_reported(version, |table, state| {
+            let case = Case::of_bring_up(table, state);
+            comparison.run_bring_up(&case, |_| "reported state".into());
+        });
+    }
     comparison.must_give(&[0, 8], &[0, 8]);
     comparison.report("bring-up with each set on, small stations");
 }
@@ -29,17 +32,19 @@ fn each_list_of_a_small_station_agrees() {
         case.bring_up_list = list.to_vec();
         comparison.run_bring_up(case, |_| "list for a small station".into());
     };
-    bring_up::each_on_and_needed(&[1, 2, 1], |table, state| {
-        let mut case = Case::of_bring_up(table, state);
-        bring_up::each_short_list(|list| run(&mut case, list));
-    });
-    bring_up::each_on_and_needed(&[1, 2, 1, 2, 1], |table, state| {
-        let mut case = Case::of_bring_up(table, state);
-        let mut list = case.bring_up_list.clone();
-        bring_up::each_sequence(&list, |list| run(&mut case, list));
-        turn_on_all_needed(table, state, &mut list);
-        run(&mut case, &list);
-    });
+    for version in Version::ALL {
+        bring_up::each_on_and_needed(version, &[1, 2, 1], |table, state| {
+            let mut case = Case::of_bring_up(table, state);
+            bring_up::each_short_list(|list| run(&mut case, list));
+        });
+        bring_up::each_on_and_needed(version, &[1, 2, 1, 2, 1], |table, state| {
+            let mut case = Case::of_bring_up(table, state);
+            let mut list = case.bring_up_list.clone();
+            bring_up::each_sequence(&list, |list| run(&mut case, list));
+            turn_on_all_needed(table, state, &mut list);
+            run(&mut case, &list);
+        });
+    }
     comparison.must_give(&[0], &[0, 19]);
     comparison.report("bring-up with each set on and each needed set, each list");
 }
@@ -49,13 +54,17 @@ fn each_list_of_a_small_station_agrees() {
 #[test]
 fn each_changed_list_agrees() {
     let mut comparison = Comparison::new();
-    let table = one_device_each_of_32();
-    let needed = 0x3333_5555;
-    let state = sweep::image(&bring_up::needing(needed, 32), !needed);
+    let needed = 0x6666_cccc_3333_5555;
+    let with_both = Version::ALL.map(|version| {
+        let entries = bring_up::needing(needed, version.limit());
+        let state = image(version, &entries, !needed);
+        Case::of_bring_up(&one_device_for_each_resource(version), &state)
+    });
     let measured = workloads().into_iter().filter(|w| w.bring_up == Some(0));
     let cases = measured.map(|workload| workload.case);
-    for mut case in cases.chain([Case::of_bring_up(&table, &state)]) {
-        sweep::each_list(&case.bring_up_list.clone(), |list| {
+    for mut case in cases.chain(with_both) {
+        let version = Version::of_table(&case.table).expect("accepted");
+        sweep::each_list(version, &case.bring_up_list.clone(), |list| {
             case.bring_up_list = list.to_vec();
             comparison.run_bring_up(&case, |_| "changed list".into());
         });
@@ -69,12 +78,14 @@ fn each_changed_list_agrees() {
 fn each_fault_and_each_two_faults_agree() {
     let mut comparison = Comparison::new();
     let mut rng = Rng::new(1);
-    bring_up::each_fault(|table, state, d| {
-        let mut case = Case::of_bring_up(table, state);
-        comparison.run_bring_up(&case, |_| format!("a fault of device {d}"));
-        put_fault(&mut rng, table, &mut case.reported);
-        comparison.run_bring_up(&case, |_| format!("a fault of device {d} and another"));
-    });
+    for version in Version::ALL {
+        bring_up::each_fault(version, |table, state, d| {
+            let mut case = Case::of_bring_up(table, state);
+            comparison.run_bring_up(&case, |_| format!("a fault of device {d}"));
+            put_fault(&mut rng, table, &mut case.reported);
+            comparison.run_bring_up(&case, |_| format!("a fault of device {d} and another"));
+        });
+    }
     comparison.must_give(&[8], &[8]);
     comparison.must_reach_places(&[8]);
     comparison.report("bring-up with each fault of each device, and with two");
@@ -83,13 +94,15 @@ fn each_fault_and_each_two_faults_agree() {
 #[test]
 fn each_field_of_the_largest_table_agrees() {
     let mut comparison = Comparison::new();
-    let table = filled_station().table();
-    let mut case = Case::of_bring_up(&table, &sweep::image(&[], 0));
-    sweep::each_wild_byte(&table, |bytes| {
-        case.table.copy_from_slice(bytes);
-        comparison.run_bring_up(&case, |_| "damaged largest table".into());
-    });
-    comparison.must_reach_places(&[4, 5, 6]);
+    for version in Version::ALL {
+        let table = filled_station(version).table(version);
+        let mut case = Case::of_bring_up(&table, &image(version, &[], 0));
+        sweep::each_wild_byte(&table, |bytes| {
+            case.table.copy_from_slice(bytes);
+            comparison.run_bring_up(&case, |_| "damaged largest table".into());
+        });
+    }
+    comparison.must_reach_places(RECORDS);
     comparison.report("bring-up, each byte of the largest table with several values");
 }
 
@@ -98,16 +111,18 @@ fn each_field_of_the_largest_table_agrees() {
 fn random_states_of_large_stations_agree() {
     let mut comparison = Comparison::new();
     let mut rng = Rng::new(2);
-    let full = workloads().into_iter().find(|w| w.name == "full, 32 ONs");
-    // The drawn states of the first two need few different sets, those of the
-    // third any.
-    let tables = [
-        full.expect("measured").case.table,
-        bring_up::chain().table(),
-        one_device_each_of_32(),
-    ];
-    for _ in 0..20_000 {
-        let table = &tables[rng.below(3)];
+    // The drawn states of the measured tables and of the chains need few different
+    // sets, those of the others any.
+    let is_full = |name: &str| name.ends_with("ONs") && name.contains("full");
+    let measured = workloads().into_iter().filter(|w| is_full(w.name));
+    let mut tables: Vec<Vec<u8>> = measured.map(|workload| workload.case.table).collect();
+    for version in Version::ALL {
+        tables.push(bring_up::chain(version).table(version));
+        tables.push(one_device_for_each_resource(version));
+    }
+    assert_eq!(tables.len(), 6);
+    for _ in 0..40_000 {
+        let table = &tables[rng.below(tables.len())];
         let Some(mut state) = draw_state(&mut rng, table) else {
             continue;
         };
@@ -121,25 +136,33 @@ fn random_states_of_large_stations_agree() {
     comparison.report("bring-up of random states, large stations");
 }
 
-/// The table of 32 devices, each with a resource of its own.
-fn one_device_each_of_32() -> Vec<u8> {
-    let orders: Vec<u16> = (0..32).map(|r| 7 * r % 16).collect();
-    bring_up::one_device_each(&orders).table()
+/// As many devices as a version has, each with a resource of its own.
+fn one_device_for_each_resource(version: Version) -> Vec<u8> {
+    let orders: Vec<u16> = (0..version.limit()).map(|r| 7 * r as u16 % 16).collect();
+    bring_up::one_device_each(&orders).table(version)
 }
 
 impl Comparison {
-    /// Fails unless bring-up and its checker gave exactly these answers.
+    /// Fails unless bring-up and its checker gave exactly these answers, in each
+    /// version.
     fn must_give(&self, bring_up: &[u8], checker: &[u8]) {
-        self.coverage.bring_up.must_be("bring-up", bring_up, 1);
-        let counts = &self.coverage.bring_up_checker;
-        counts.must_be("bring-up checker", checker, 1);
+        for version in Version::ALL {
+            let counts = self.coverage.of(version);
+            counts.bring_up.must_be("bring-up", bring_up, 1);
+            let counts = &counts.bring_up_checker;
+            counts.must_be("bring-up checker", checker, 1);
+        }
     }
 
-    /// Fails unless both gave each of these answers at every place.
+    /// Fails unless both gave each of these answers at every place of each version.
     fn must_reach_places(&self, answers: &[u8]) {
-        let coverage = &self.coverage;
-        coverage.bring_up.must_reach_places("bring-up", answers);
-        let counts = &coverage.bring_up_checker;
-        counts.must_reach_places("bring-up checker", answers);
+        for version in Version::ALL {
+            let (counts, places) = (self.coverage.of(version), 0..version.limit());
+            counts
+                .bring_up
+                .must_reach("bring-up", answers, places.clone());
+            let counts = &counts.bring_up_checker;
+            counts.must_reach("bring-up checker", answers, places);
+        }
     }
 }

@@ -1,6 +1,8 @@
 //! One case on the library and on the reference.
 
-use cases::{inverse_holds, BringUp, Case, Coverage, Description, Guarded, Sleep, SLEEP};
+use cases::{
+    inverse_holds, BringUp, Case, Compared, Coverage, Description, Guarded, Sleep, Versions, SLEEP,
+};
 use reference::{demand3, Answer};
 use sailgarnet::Request;
 
@@ -19,6 +21,16 @@ const SLEEP_ENTRY: Sleep = Sleep {
         sailgarnet::plan(table, state, library_request(request), plan).pack()
     },
     check: BRING_UP.check,
+};
+
+/// The library's functions that are compared in both versions.
+pub const VERSIONS: Versions = Versions {
+    write: library_write,
+    fresh: |table, state| sailgarnet::fresh(table, state).pack(),
+    plan: SLEEP_ENTRY.plan,
+    check: BRING_UP.check,
+    bring_up: BRING_UP.bring_up,
+    check_bring_up: BRING_UP.check_bring_up,
 };
 
 /// The buffers of one case, between guard bytes.
@@ -88,8 +100,8 @@ impl Lent {
     }
 
     /// Runs both on a case, counts the answers, and says what differs or what
-    /// does not hold.
-    pub fn compare(&mut self, case: &Case, coverage: &mut Coverage) -> Result<(), String> {
+    /// does not hold; otherwise, what of it was run in both versions.
+    pub fn compare(&mut self, case: &Case, coverage: &mut Coverage) -> Result<Compared, String> {
         self.set(case);
         let fresh = self.compare_fresh(case)?;
         let write = self.compare_write(case)?;
@@ -97,10 +109,12 @@ impl Lent {
         self.compare_both_of_request(case, coverage)?;
         self.compare_both_of_bring_up(case, coverage)?;
         self.unwritten(case)?;
-        coverage.fresh.add(fresh);
-        coverage.writer.add(write);
-        coverage.describer.add(describe);
-        inverse_holds(case, library_write, library_describe)
+        let counts = coverage.of_table(&case.table);
+        counts.fresh.add(fresh);
+        counts.describer.add(describe);
+        coverage.of_number(case.version).writer.add(write);
+        inverse_holds(case, library_write, library_describe)?;
+        VERSIONS.agree(case)
     }
 
     /// As [`Self::compare`], for planner and checker alone.
@@ -121,8 +135,9 @@ impl Lent {
         let check = self.compare_check(case)?;
         let plan = self.compare_plan(case)?;
         self.unwritten_by_request(case)?;
-        coverage.checker.add(check);
-        coverage.add_planned(case.request, plan);
+        let counts = coverage.of_table(&case.table);
+        counts.checker.add(check);
+        counts.add_planned(case.request, plan);
         if case.request.kind == SLEEP {
             return SLEEP_ENTRY.holds(case);
         }
@@ -150,8 +165,9 @@ impl Lent {
     ) -> Result<(), String> {
         let check = self.compare_check_bring_up(case)?;
         let bring_up = self.compare_bring_up(case)?;
-        coverage.bring_up_checker.add(check);
-        coverage.bring_up.add(bring_up);
+        let counts = coverage.of_table(&case.table);
+        counts.bring_up_checker.add(check);
+        counts.bring_up.add(bring_up);
         BRING_UP.holds(case)
     }
 

@@ -1,18 +1,21 @@
 //! Descriptions gone through completely: versions, numbers of records, lengths,
 //! rooms and fields, on the bench station and on the largest one.
 
-use cases::{filled_station, sweep, Case, Description, Record, Station, VERSIONS, WRITER_PLACES};
+use cases::{
+    filled_station, first_resources, sweep, Case, Description, Record, Station, RECORDS, VERSIONS,
+};
+use reference::Version;
 
 use super::{Comparison, Part};
 
-/// Numbers of records around the limit of 32 and around the range of a byte.
-const COUNTS: [usize; 9] = [0, 1, 31, 32, 33, 64, 255, 256, 300];
+/// Numbers of records around the limits of 32 and 64 and around the range of a byte.
+const COUNTS: [usize; 13] = [0, 1, 31, 32, 33, 34, 63, 64, 65, 66, 255, 256, 300];
 
 /// So many records, those of the largest station over and over. Every set has
 /// every resource.
 fn station(resource_count: usize, device_count: usize) -> Station {
-    let Station { resources, devices } = filled_station();
-    let all = ((1u64 << resource_count.min(32)) - 1) as u32;
+    let Station { resources, devices } = filled_station(Version::Two);
+    let all = first_resources(resource_count.min(64));
     let device = |device| Record {
         sets: [all; 5],
         ..device
@@ -29,10 +32,10 @@ fn station(resource_count: usize, device_count: usize) -> Station {
 }
 
 /// Runs a description with each room around what it needs.
-fn each_room(comparison: &mut Comparison, description: Description) {
-    let needed = description.table_length();
+fn each_room(comparison: &mut Comparison, version: Version, description: Description) {
+    let needed = description.table_length(version);
     let mut case = Case {
-        version: 1,
+        version: version.number().into(),
         description,
         ..Case::default()
     };
@@ -54,12 +57,13 @@ fn each_number_of_records_and_each_room_agree() {
                 cut.resources
                     .truncate(resources.saturating_sub(resources_cut));
                 cut.devices.truncate(devices.saturating_sub(devices_cut));
-                each_room(&mut comparison, cut);
+                for version in Version::ALL {
+                    each_room(&mut comparison, version, cut.clone());
+                }
             }
         }
     }
-    let writer = &comparison.coverage.writer;
-    writer.must_be("writer", &[0, 2, 4, 5, 9], 1);
+    comparison.must_answer_writer(&[0, 2, 4, 5, 9]);
     comparison.report("each number of records, whole and cut short, with each room");
 }
 
@@ -68,9 +72,10 @@ fn each_number_of_records_and_each_room_agree() {
 #[test]
 fn each_version_with_each_other_fault_agrees() {
     type Fault = fn(&mut Case);
-    let faults: [Fault; 8] = [
+    let faults: [Fault; 9] = [
         |case| case.description.resources.resize(129, 0),
-        |case| case.description.devices.resize(54 * 32 + 1, 0),
+        |case| case.description.resources.resize(257, 0),
+        |case| case.description.devices.resize(54 * 64 + 1, 0),
         |case| case.written.truncate(139),
         |case| case.description.resources[4] = 5,
         |case| case.description.resources.truncate(11),
@@ -81,9 +86,9 @@ fn each_version_with_each_other_fault_agrees() {
     let mut comparison = Comparison::new();
     for version in VERSIONS {
         for chosen in 0..1 << faults.len() {
-            let mut case = Case::of_station(&sweep::bench_station());
+            let mut case = Case::of_station(Version::One, &sweep::bench_station());
             case.version = version;
-            case.written.resize(1500, 0x5a);
+            case.written.resize(5000, 0x5a);
             for (i, fault) in faults.iter().enumerate() {
                 if chosen >> i & 1 != 0 {
                     fault(&mut case);
@@ -92,8 +97,9 @@ fn each_version_with_each_other_fault_agrees() {
             comparison.run(&case, |_| "several faults".into());
         }
     }
-    let writer = &comparison.coverage.writer;
-    writer.must_be("writer", &[0, 1, 2, 4, 5, 6, 9], 1);
+    comparison.must_answer_writer(&[0, 2, 4, 5, 6, 9]);
+    let others = &comparison.coverage.of_no_version().writer;
+    others.must_be("writer", &[1], 1);
     comparison.report("each version with each other fault of the writer");
 }
 
@@ -112,8 +118,9 @@ const LENT_TO_DESCRIBER: [(Part, usize); 2] = [
 #[test]
 fn each_field_of_the_largest_description_agrees() {
     let mut comparison = Comparison::new();
-    for (list, _) in LENT_TO_WRITER {
-        let mut case = Case::of_station(&filled_station());
+    let lists = |version| LENT_TO_WRITER.map(|(list, _)| (version, list));
+    for (version, list) in Version::ALL.into_iter().flat_map(lists) {
+        let mut case = Case::of_station(version, &filled_station(version));
         let good = list(&mut case).clone();
         let mut run = |bytes: &[u8]| {
             list(&mut case).copy_from_slice(bytes);
@@ -122,8 +129,10 @@ fn each_field_of_the_largest_description_agrees() {
         sweep::each_wild_byte(&good, &mut run);
         sweep::each_bit(&good, &mut run);
     }
-    let writer = &comparison.coverage.writer;
-    writer.must_reach_places("writer", WRITER_PLACES);
+    for version in Version::ALL {
+        let writer = &comparison.coverage.of(version).writer;
+        writer.must_reach("writer", RECORDS, 0..version.limit());
+    }
     comparison.report("each byte with several values, each bit, largest description");
 }
 
@@ -132,39 +141,42 @@ fn each_field_of_the_largest_description_agrees() {
 #[test]
 fn each_two_bad_records_agree() {
     let mut comparison = Comparison::new();
-    let good = Case::of_station(&filled_station());
     // A level above 4, and of a device a deepest sleep state above 4, or _PS0 without _PS3.
     let resource: &[(usize, u8)] = &[(0, 5)];
     let device: &[(usize, u8)] = &[(53, 5), (1, 1)];
-    for ((list, record), faults) in LENT_TO_WRITER.into_iter().zip([resource, device]) {
-        for (first, second) in (0..32).flat_map(|b| (0..b).map(move |a| (a, b))) {
-            for (one, other) in faults
-                .iter()
-                .flat_map(|a| faults.iter().map(move |b| (a, b)))
-            {
-                let mut case = good.clone();
-                list(&mut case)[record * first + one.0] = one.1;
-                list(&mut case)[record * second + other.0] = other.1;
-                comparison.run(&case, |_| format!("bad records {first} and {second}"));
+    for version in Version::ALL {
+        let good = Case::of_station(version, &filled_station(version));
+        for ((list, record), faults) in LENT_TO_WRITER.into_iter().zip([resource, device]) {
+            for (first, second) in (0..version.limit()).flat_map(|b| (0..b).map(move |a| (a, b))) {
+                for (one, other) in faults
+                    .iter()
+                    .flat_map(|a| faults.iter().map(move |b| (a, b)))
+                {
+                    let mut case = good.clone();
+                    list(&mut case)[record * first + one.0] = one.1;
+                    list(&mut case)[record * second + other.0] = other.1;
+                    comparison.run(&case, |_| format!("bad records {first} and {second}"));
+                }
             }
         }
     }
-    let writer = &comparison.coverage.writer;
-    writer.must_be("writer", &[4, 5, 6], 1);
+    comparison.must_answer_writer(&[4, 5, 6]);
     comparison.report("each two records bad, largest description");
 }
 
 #[test]
 fn each_record_limit_of_the_largest_station_agrees() {
     let mut comparison = Comparison::new();
-    for (list, record) in LENT_TO_WRITER.into_iter().chain(LENT_TO_DESCRIBER) {
-        let mut case = Case::of_station(&filled_station());
-        case.written.resize(1600, 0x5a);
-        let good = list(&mut case).clone();
-        sweep::each_record_limit(&good, record, |bytes| {
-            *list(&mut case) = bytes.to_vec();
-            comparison.run(&case, |_| "largest station, a list cut".into());
-        });
+    for version in Version::ALL {
+        for (list, record) in LENT_TO_WRITER.into_iter().chain(LENT_TO_DESCRIBER) {
+            let mut case = Case::of_station(version, &filled_station(version));
+            case.written.resize(5000, 0x5a);
+            let good = list(&mut case).clone();
+            sweep::each_record_limit(&good, record, |bytes| {
+                *list(&mut case) = bytes.to_vec();
+                comparison.run(&case, |_| "largest station, a list cut".into());
+            });
+        }
     }
     comparison.report("lengths at each record's limit, lists of the largest station");
 }
@@ -174,11 +186,12 @@ fn each_record_limit_of_the_largest_station_agrees() {
 #[test]
 fn each_set_bit_agrees() {
     let mut comparison = Comparison::new();
-    for resource_count in 0..=32 {
+    let counts = |version: Version| (0..=version.limit()).map(move |r| (version, r));
+    for (version, resource_count) in Version::ALL.into_iter().flat_map(counts) {
         let station = station(resource_count, 3);
-        let all = u64::from(station.devices[0].sets[0]);
+        let all = station.devices[0].sets[0];
         for start in (0..3).flat_map(|d| (0..5).map(move |i| 54 * d + 4 + 8 * i)) {
-            let mut case = Case::of_station(&station);
+            let mut case = Case::of_station(version, &station);
             for bit in (0..64).map(|bit| 1 << bit) {
                 for bits in [bit, all | bit] {
                     let set = &mut case.description.devices[start..start + 8];
@@ -188,7 +201,16 @@ fn each_set_bit_agrees() {
             }
         }
     }
-    let writer = &comparison.coverage.writer;
-    writer.must_be("writer", &[0, 5], 1);
+    comparison.must_answer_writer(&[0, 5]);
     comparison.report("each bit of each set, for each number of resources");
+}
+
+impl Comparison {
+    /// Fails unless the writer gave exactly these answers, in each version.
+    fn must_answer_writer(&self, answers: &[u8]) {
+        for version in Version::ALL {
+            let writer = &self.coverage.of(version).writer;
+            writer.must_be("writer", answers, 1);
+        }
+    }
 }

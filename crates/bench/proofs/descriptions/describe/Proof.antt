@@ -5,10 +5,10 @@ use Rattle.bench.proofs.descriptions.describe.Statement.{statement}
 use Rattle.bench.proofs.descriptions.describe.Tie as tie
 
 slice-aggregate-describe-in : tie.Need-slice-aggregate-describe-in
-slice-aggregate-describe-in c = part-long _ 255 _ (search needs) (search needs)
+slice-aggregate-describe-in c = part-long _ 4428 _ (search needs) (search needs)
 
 slice-aggregate-describe-in-2 : tie.Need-slice-aggregate-describe-in-2
-slice-aggregate-describe-in-2 c = part-long _ 255 _ (search needs) (search needs)
+slice-aggregate-describe-in-2 c = part-long _ 4428 _ (search needs) (search needs)
 
 returns : tie.Need-returns
 returns c = cc

@@ -8,5 +8,5 @@ returns : tie.Need-returns
 returns c = (simp length-set (search needs), cc)
 
 pub changed-spec : {M : Type 1} → statement M
-changed-spec = tie.close (tie.spec (λ c. search needs) (λ c κs. search needs) (λ c κs. search needs) (λ c. search needs)
-    (λ c κs. search needs) (λ c. search needs) returns)
+changed-spec = tie.close (tie.spec (λ c. search needs) (λ c. search needs) (λ c κs. search needs) (λ c. search needs) (λ c κs. search needs)
+    (λ c. search needs) returns)

@@ -5,10 +5,10 @@ use Rattle.bench.proofs.looks.damaged_table.Statement.{statement}
 use Rattle.bench.proofs.looks.damaged_table.Tie as tie
 
 slice-aggregate-fresh : tie.Need-slice-aggregate-fresh
-slice-aggregate-fresh c = part-long _ 1782 _ (search needs) (search needs)
+slice-aggregate-fresh c = part-long _ 4428 _ (search needs) (search needs)
 
 slice-aggregate-fresh-2 : tie.Need-slice-aggregate-fresh-2
-slice-aggregate-fresh-2 c = part-long _ 255 _ (search needs) (search needs)
+slice-aggregate-fresh-2 c = part-long _ 265 _ (search needs) (search needs)
 
 returns : tie.Need-returns
 returns c = cc

@@ -5,7 +5,7 @@ use Rattle.bench.proofs.looks.list.Statement.{statement}
 use Rattle.bench.proofs.looks.list.Tie as tie
 
 slice-aggregate-check : tie.Need-slice-aggregate-check
-slice-aggregate-check c = part-long _ 1782 _ (search needs) (search needs)
+slice-aggregate-check c = part-long _ 4428 _ (search needs) (search needs)
 
 returns : tie.Need-returns
 returns c = cc

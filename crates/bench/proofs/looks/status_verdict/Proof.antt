@@ -5,11 +5,11 @@ use Rattle.bench.proofs.looks.status_verdict.Statement.{statement}
 use Rattle.bench.proofs.looks.status_verdict.Tie as tie
 
 slice-aggregate-verdict : tie.Need-slice-aggregate-verdict
-slice-aggregate-verdict c = part-long _ 132 _ (search needs) (search needs)
+slice-aggregate-verdict c = part-long _ 265 _ (search needs) (search needs)
 
 returns : tie.Need-returns
 returns c = cc
 
 pub status-verdict-spec : {M : Type 1} → statement M
-status-verdict-spec = tie.close (tie.spec (λ c κs. search needs) (λ c κs. search needs) (λ c κs. search needs) (λ c. search needs)
+status-verdict-spec = tie.close (tie.spec (λ c κs. search needs) (λ c κs. search needs) (λ c. search needs)
     slice-aggregate-verdict (λ c κs. search needs) returns)

@@ -5,13 +5,13 @@ use Rattle.bench.proofs.looks.words_verdict.Statement.{statement}
 use Rattle.bench.proofs.looks.words_verdict.Tie as tie
 
 slice-aggregate-read-words : tie.Need-slice-aggregate-read-words
-slice-aggregate-read-words c = part-long _ 1782 _ (search needs) (search needs)
+slice-aggregate-read-words c = part-long _ 4428 _ (search needs) (search needs)
 
 read-words-requires : tie.Need-read-words-requires
-read-words-requires c κs = (words-fit _ 1782 _ (search needs) (search needs), search needs)
+read-words-requires c κs = (words-fit _ 4428 _ (search needs) (search needs), search needs)
 
 slice-aggregate-check-words : tie.Need-slice-aggregate-check-words
-slice-aggregate-check-words c = part-long _ 445 _ (search needs) (search needs)
+slice-aggregate-check-words c = part-long _ 1107 _ (search needs) (search needs)
 
 returns : tie.Need-returns
 returns c = search (needs, words-are)

@@ -10,7 +10,7 @@ write-switches-requires c κs =
     let removed = c .before in
     let added = removed .before in
     let start = added .before .before .before .before .before .before .before .before in
-    (start .pre .0 .sized, switches-room _ _ _ _ _ _ _ (start .pre .0) (added .minus .ensures) (removed .minus2 .ensures) (start .pre .1))
+    (start .pre .0 .sized, switches-room _ _ _ _ _ _ _ (start .pre .0) (added .difference .ensures) (removed .difference2 .ensures) (start .pre .1))
 
 returns : tie.Need-returns
 returns c =
@@ -20,7 +20,7 @@ returns c =
     let added = removed .before in
     let target = added .before in
     let read = target .before .before in
-    up-written _ _ _ _ _ _ (read .on-set .ensures) (target .needed .ensures) (added .minus .ensures) (removed .minus2 .ensures)
+    up-written _ _ _ _ _ _ (read .on-set .ensures) (target .needed .ensures) (added .difference .ensures) (removed .difference2 .ensures)
     _ _ _ _ (written .write-switches .ensures .0) (written .write-switches .ensures .1) (stored .set-on .ensures)
 
 pub write-bring-up-spec : {M : Type 1} → statement M
@@ -29,8 +29,8 @@ write-bring-up-spec =
     (tie.spec
     (λ c κs. search needs)
     (λ c κs. search (needs, switch-laws))
-    (λ c κs. search needs)
-    (λ c κs. search needs)
+    (λ c κs. search (needs, switch-laws))
+    (λ c κs. search (needs, switch-laws))
     write-switches-requires
     (λ c κs. search needs)
     (λ c. search needs)

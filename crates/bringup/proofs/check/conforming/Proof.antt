@@ -10,7 +10,7 @@ conforming-spec =
     (tie.spec
     (λ c κs. search needs)
     (λ c κs. search (needs, switch-laws))
-    (λ c κs. search needs)
-    (λ c κs. search needs)
+    (λ c κs. search (needs, switch-laws))
+    (λ c κs. search (needs, switch-laws))
     (λ c κs. search (needs, switch-laws))
     (λ c. search (needs, switch-laws)))

@@ -1,4 +1,5 @@
 use Rattle.planner.proofs.OneMove.{one-move, chosen-needed}
+use Rattle.table.proofs.Readers.{record-at}
 use borrow.Author.Needs.{needs}
 use Rattle.planner.proofs.moves.chosen_needs.Statement.{statement}
 use Rattle.planner.proofs.moves.chosen_needs.Tie as tie
@@ -10,4 +11,6 @@ chosen-needs-spec =
     (λ c κs. search (needs, one-move))
     (λ c. search needs)
     (λ c κs. search (needs, one-move))
+    (λ c κs. search (needs, one-move))
+    (λ c κs. search (needs, one-move, record-at))
     (λ c. search (needs, chosen-needed)))

@@ -1,7 +1,7 @@
 -- A device that stays leaves all as it is; another has the list of its request. The values are too many for a search: each is named by the
 -- call that gave it, from the last one back.
 use denote.Ref.{now}
-use Rattle.planner.proofs.OneMove.{one-move, turn-long, turn-limit, move-asked, switched-first, move-switches, move-some}
+use Rattle.planner.proofs.OneMove.{one-move, turn-sized, turn-long, turn-limit, move-asked, switched-first, move-sets, move-switches, move-some}
 use borrow.Author.Needs.{needs}
 use Rattle.planner.proofs.moves.write_move.Statement.{statement}
 use Rattle.planner.proofs.moves.write_move.Tie as tie
@@ -14,6 +14,17 @@ own-call-requires c κs =
     let start = test .before .before .before .before .before .before in
     let asked = move-asked _ _ _ _ _ (test .stays .ensures) (left .if1 .left) _ (a .wide .ensures .0) (start .pre .0) in
     (asked .ready .sized, asked .device, asked .first, asked .second)
+
+switching-requires : tie.Need-switching-requires
+switching-requires c κs =
+    let own = c .before .before in
+    let read = own .before in
+    let a = read .before .before in
+    let left = a .before .before in
+    let test = left .before in
+    let start = test .before .before .before .before .before .before in
+    move-sets _ _ (now (start .args .chosen)) _ _ (test .stays .ensures) (left .if1 .left) _ (a .wide .ensures .0) _ _ (start .pre .0)
+    (c .on-set .ensures) (start .pre .2)
 
 write-own-first-requires : tie.Need-write-own-first-requires
 write-own-first-requires c κs =
@@ -37,7 +48,7 @@ set-state-requires c κs =
     let on = c .before .before .before .before .before .before in
     let test = on .before .before .before .before .before .before .before .before in
     let turn = test .before .before .before .before .before .before .pre .0 in
-    (turn-long _ _ _ _ turn, turn-limit _ _ _ _ turn)
+    (turn-sized _ _ _ _ turn, turn-long _ _ _ _ turn, turn-limit _ _ _ _ turn)
 
 returns-2 : tie.Need-returns-2
 returns-2 c =
@@ -68,7 +79,7 @@ write-move-spec =
     (λ c κs. search (needs, one-move))
     own-call-requires
     (λ c κs. search (needs, one-move))
-    (λ c κs. search needs)
+    switching-requires
     write-own-first-requires
     set-state-requires
     (λ c. search needs)

@@ -1,10 +1,10 @@
 -- A refusal leaves state and plan; otherwise the calls that bring the devices to the least choice, and the state after them, are written.
 -- Where the values are too many for a search, each is named by the call that gave it, from the last one back.
 use mathlib.Core.Path.{refl}
-use Rattle.table.proofs.Verdicts.{table-passed}
+use Rattle.table.proofs.Verdicts.{table-passed, sized-passed}
 use Rattle.switching.proofs.Answered.{parts}
 use Rattle.sleep.proofs.Verdicts.{sleep-table}
-use Rattle.planner.proofs.Choices.{states-32, choice-given, sleep-room, sleep-words-refused, sleep-words-planned}
+use Rattle.planner.proofs.Choices.{states-64, choice-given, sleep-room, sleep-words-refused, sleep-words-planned}
 use borrow.Author.Needs.{needs}
 use Rattle.planner.proofs.plan.sleep_words.Statement.{statement}
 use Rattle.planner.proofs.plan.sleep_words.Tie as tie
@@ -14,21 +14,20 @@ returns c =
     let answer = c .before in
     let asked = answer .before in
     let stop = sleep-table _ _ _ _ _ _ (asked .check-table .ensures) (answer .passes .ensures) (c .if1 .taken) in
-    parts (sleep-words-refused _ _ _ _ (search needs) _ (asked .before .room .ensures .0) _ _ (answer .passes .ensures) stop
-    (c .if1 .taken))
+    parts (sleep-words-refused _ _ _ _ (search needs) _ refl _ _ (answer .passes .ensures) stop (c .if1 .taken))
 
 past-table-requires : tie.Need-past-table-requires
 past-table-requires c κs =
-    let left = c .before .before in
+    let left = c .before .before .before in
     let answer = left .before in
     let good = table-passed _ _ _ (answer .before .check-table .ensures) (answer .passes .ensures) (left .if1 .left) in
-    (search needs, good, search (needs, states-32, good))
+    (search needs, good, search (needs, states-64, good))
 
 returns-2 : tie.Need-returns-2
 returns-2 c =
     let answer = c .before in
     let asked = answer .before .before in
-    let room = asked .before .before .before .before .before .before in
+    let room = asked .before .before .before in
     parts (sleep-words-refused _ _ _ _ (search needs) _ (room .room .ensures .0) _ _ (answer .passes2 .ensures)
     (asked .past-table .ensures .0) (c .if2 .taken))
 
@@ -37,15 +36,14 @@ write-choice-requires c κs =
     let left = c .before .before .before in
     let answer = left .before in
     let asked = answer .before .before in
-    let made = asked .before .before .before in
+    let room = asked .before .before .before in
+    let made = room .before in
     let checked = made .before in
-    let table = checked .before in
-    let room = table .before in
-    let good = table-passed _ _ _ (table .check-table .ensures) (checked .passes .ensures) (made .if1 .left) in
+    let good = table-passed _ _ _ (checked .before .check-table .ensures) (checked .passes .ensures) (made .if1 .left) in
     let e = asked .past-table .ensures in
     let f = answer .passes2 .ensures in (
       choice-given _ _ _ _ _ _ (room .room .ensures .0) _ _ f _ (e .0) (e .1) (left .if2 .left)
-          (search (needs, states-32, good)),
+          (search (needs, states-64, good)),
       sleep-room _ _ _ _ _ _ (room .room .ensures .0) _ _ f _ (e .0) (e .1) (left .if2 .left) _ refl,
     )
 
@@ -55,9 +53,10 @@ returns-3 c =
     let left = written .before .before .before .before in
     let answer = left .before in
     let asked = answer .before .before in
-    let room = asked .before .before .before .before .before .before in
+    let room = asked .before .before .before in
     let e = asked .past-table .ensures in
-    parts (sleep-words-planned _ _ _ _ (search needs) _ (room .room .ensures .0) _ _ (answer .passes2 .ensures) (e .0) (left .if2 .left) _ _
+    let start = asked .before .before .before .before .before .before .before .before .before .before in
+    parts (sleep-words-planned _ _ _ _ (start .pre) _ (room .room .ensures .0) _ _ (answer .passes2 .ensures) (e .0) (left .if2 .left) _ _
     (e .1) _ _ _ (written .write-choice .ensures))
 
 pub sleep-words-spec : {M : Type 1} → statement M
@@ -66,8 +65,8 @@ sleep-words-spec =
     (tie.spec
     (λ c κs. search needs)
     (λ c κs. search needs)
-    (λ c κs. search needs)
     returns
+    (λ c κs. search (needs, sized-passed))
     (λ c. search needs)
     past-table-requires
     (λ c κs. search needs)

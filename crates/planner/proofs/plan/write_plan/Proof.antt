@@ -8,26 +8,20 @@ use Rattle.planner.proofs.plan.write_plan.Tie as tie
 returns : tie.Need-returns
 returns c =
     let stored = c .before .before in
-    let written = stored .before .before .before .before in
-    let made = written .before .before in
-    let loaded = made .before .before in
-    let changed = loaded .before .before in
+    let written = stored .before .before .before .before .before in
+    let changed = written .before .before in
     let read = changed .before .before in
-    let start = read .before .before .before .before .before in
-    plan-written _ _ _ _ _ _ _ _ (stored .store .ensures) _ _ (made .changed-state .ensures) (loaded .load .ensures)
-    _ (changed .change .ensures .0) (read .on-set .ensures) (written .write-calls .ensures .0) (written .write-calls .ensures .1)
-    (start .pre .0)
+    plan-written _ _ _ _ _ _ _ _ (stored .set-entry .ensures) _ (changed .change .ensures .0) (read .on-set .ensures)
+    (written .write-calls .ensures .0) (written .write-calls .ensures .1)
 
 pub write-plan-spec : {M : Type 1} → statement M
 write-plan-spec =
     tie.close
     (tie.spec
-    (λ c κs. search needs)
+    (λ c κs. search (needs, writing))
     (λ c κs. search (needs, writing))
     (λ c κs. search (needs, writing))
     (λ c. search needs)
-    (λ c κs. search (needs, writing))
-    (λ c κs. search (needs, writing))
     (λ c κs. search (needs, writing))
     (λ c. search needs)
     (λ c. search needs)

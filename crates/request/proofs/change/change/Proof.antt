@@ -14,5 +14,5 @@ change-spec =
     (λ c κs. search needs)
     (λ c κs. search needs)
     (λ c κs. search needs)
-    (λ c κs. search needs)
+    (λ c κs. search (needs, changes))
     (λ c. search (needs, changes)))

@@ -1,10 +1,11 @@
 -- A refusal leaves state and plan; otherwise the calls, as bytes, and the state of the request are written. Where the values are too many
 -- for a search, each is named by the call that gave it, from the last one back.
 use borrow.Author.Needs.{needs}
+use Rattle.table.proofs.Verdicts.{sized-done}
 use Rattle.request.proofs.Changes.{permitted-by}
 use Rattle.switching.proofs.Answered.{parts}
 use Rattle.planner.proofs.Whole.{room-bytes, bytes-refused, bytes-planned}
-use Rattle.planner.proofs.Room.{room-words, request-room, words-33, bytes-132}
+use Rattle.planner.proofs.Room.{room-words, request-room, words-65, bytes-room}
 use Rattle.sailgarnet.proofs.buffers.request_bytes.Statement.{statement}
 use Rattle.sailgarnet.proofs.buffers.request_bytes.Tie as tie
 
@@ -37,7 +38,7 @@ write-words-requires c κs =
     let g = permitted-by _ _ _ _ _ _ e f (left .if1 .left) in
     let fits = room-bytes _ _ _ _ _ (room .room .ensures .0) _ _ f e (left .if1 .left) in
     let short = request-room _ _ _ g in
-    (words-33 _ _ _ short _ _ _ _ w (search needs), bytes-132 _ _ _ short _ _ _ _ w _ fits)
+    (words-65 _ _ _ short _ _ _ _ w (search needs), bytes-room _ _ _ short _ _ _ _ w _ fits)
 
 returns-2 : tie.Need-returns-2
 returns-2 c =
@@ -54,7 +55,7 @@ pub request-bytes-spec : {M : Type 1} → statement M
 request-bytes-spec =
     tie.close
     (tie.spec
-    (λ c κs. search needs)
+    (λ c κs. search (needs, sized-done))
     (λ c. search needs)
     (λ c κs. search needs)
     (λ c κs. search needs)

@@ -2,8 +2,9 @@
 -- written. Where the values are too many for a search, each is named by the call that gave it, from the last one back.
 use mathlib.Core.Path.{refl}
 use borrow.Author.Needs.{needs}
+use Rattle.table.proofs.Verdicts.{sized-done}
 use Rattle.switching.proofs.Answered.{parts}
-use Rattle.planner.proofs.Choices.{states-32, choice-given, sleep-room-bytes, sleep-bytes-refused, sleep-bytes-planned}
+use Rattle.planner.proofs.Choices.{states-64, choice-given, sleep-room-bytes, sleep-bytes-refused, sleep-bytes-planned}
 use Rattle.sailgarnet.proofs.buffers.sleep_bytes.Statement.{statement}
 use Rattle.sailgarnet.proofs.buffers.sleep_bytes.Tie as tie
 
@@ -23,7 +24,7 @@ write-choice-requires c κs =
     let room = asked .before .before .before in
     let e = asked .past-table .ensures in
     let f = answer .passes .ensures in (
-      choice-given _ _ _ _ _ _ (room .room .ensures .0) _ _ f _ (e .0) (e .1) (left .if1 .left) (search (needs, states-32)),
+      choice-given _ _ _ _ _ _ (room .room .ensures .0) _ _ f _ (e .0) (e .1) (left .if1 .left) (search (needs, states-64)),
       sleep-room-bytes _ _ _ _ _ _ (room .room .ensures .0) _ _ f _ (e .0) (e .1) (left .if1 .left) _ refl,
     )
 
@@ -42,10 +43,10 @@ pub sleep-bytes-spec : {M : Type 1} → statement M
 sleep-bytes-spec =
     tie.close
     (tie.spec
-    (λ c κs. search needs)
+    (λ c κs. search (needs, sized-done))
     (λ c. search needs)
     (λ c. search needs)
-    (λ c κs. (search needs, search needs, search (needs, states-32)))
+    (λ c κs. (search needs, search needs, search (needs, states-64)))
     (λ c κs. search needs)
     (λ c. search needs)
     returns

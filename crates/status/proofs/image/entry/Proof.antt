@@ -1,6 +1,6 @@
 -- The four bytes are read as the definition reads them.
 use borrow.Author.Needs.{needs}
-use Rattle.status.proofs.Held.{held}
+use Rattle.status.proofs.Held.{in-place}
 use Rattle.status.proofs.image.entry.Statement.{statement}
 use Rattle.status.proofs.image.entry.Tie as tie
 
@@ -16,4 +16,4 @@ entry-spec =
     (λ c. search needs)
     (λ c. search needs)
     (λ c. search needs)
-    (λ c. search (needs, held)))
+    (λ c. search (needs, in-place)))

@@ -5,17 +5,18 @@ use borrow.Author.Needs.{needs}
 use Rattle.rules.specs.Station.{station}
 use Rattle.rules.specs.Status.{entries}
 use Rattle.status.specs.Needs.{neededFrom}
+use Rattle.status.proofs.Walk.{Walking, walks}
 use Rattle.status.proofs.NeededLaws.{turns}
 use Rattle.status.proofs.needed.needed_from.Statement.{statement}
 use Rattle.status.proofs.needed.needed_from.Tie as tie
 
 abbrev Inv-loop : tie.InvT-loop
-Inv-loop table devices set from end all₀ i₀ all i =
-    neededFrom (station table) (entries table devices) all i (end - i) ≡ neededFrom (station table)
-    (entries table devices) set from (end - from)
+Inv-loop table devices set from end w size at₀ all₀ i₀ at all i =
+    Walking table w size at i × (neededFrom (station table) (entries table devices) all i (end - i) ≡ neededFrom (station table)
+    (entries table devices) set from (end - from))
 
 abbrev μ-loop : tie.MeasureT-loop
-μ-loop table devices set from end all₀ i₀ all i = end - i
+μ-loop table devices set from end w size at₀ all₀ i₀ at all i = end - i
 
 pub needed-from-spec : {M : Type 1} → statement M
 needed-from-spec =
@@ -23,11 +24,15 @@ needed-from-spec =
     (tie.spec
     Inv-loop
     μ-loop
-    (λ c. search needs)
     (λ c κs. search needs)
     (λ c κs. search needs)
     (λ c κs. search needs)
+    (λ c. search (needs, walks))
+    (λ c κs. search needs)
+    (λ c κs. search (needs, walks))
+    (λ c κs. search needs)
     (λ c. search needs)
+    (λ c. search (needs, walks))
     (λ c. search needs)
-    (λ c. search (needs, turns))
+    (λ c. search (needs, turns, walks))
     (λ c. search (needs, turns)))

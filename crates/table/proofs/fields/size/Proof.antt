@@ -1,5 +1,6 @@
--- The width is 8, or it is 4.
-use Rattle.table.proofs.Readers.{field-laws}
+-- All records have fewer bytes than a number can hold.
+use Rattle.table.proofs.Readers.{records-few}
+use native.Mathlib.Omega.{arith}
 use borrow.Author.Needs.{needs}
 use Rattle.table.proofs.fields.size.Statement.{statement}
 use Rattle.table.proofs.fields.size.Tie as tie
@@ -7,5 +8,11 @@ use Rattle.table.proofs.fields.size.Tie as tie
 pub size-spec : {M : Type 1} → statement M
 size-spec =
     tie.close
-    (tie.spec (λ c. search needs) (λ c. search needs) (λ c. search needs) (λ c. search needs) (λ c. search (needs, field-laws))
-    (λ c. search needs) (λ c. search needs) (λ c. search (needs, field-laws)))
+    (tie.spec
+    (λ c. search needs)
+    (λ c. search needs)
+    (λ c. search needs)
+    (λ c. search needs)
+    (λ c. record { fits = omega (arith, records-few (c .args .w) (c .args .devices) (search needs) (search needs)) })
+    (λ c. record { fits = omega (arith, records-few (c .args .w) (c .args .devices) (search needs) (search needs)) })
+    (λ c. search needs))
