@@ -1,10 +1,8 @@
 // For which sleep state and from which device state a device may wake the system.
 ghost use mathlib.Core.Path.{_≡_};
-ghost use mathlib.Core.Bool.{_||_, not, true};
+ghost use mathlib.Core.Bool.{_||_, not};
 ghost use Prim.Native.Nat.{_+_, _%_, _<_};
 ghost use lib.Dec.{leb, ltb};
-ghost use Rattle.sets.specs.Sets.{member};
-ghost use Rattle.rules.specs.Index.{least};
 ghost use Rattle.rules.specs.Station.{countR, station};
 ghost use Rattle.rules.specs.Power.{poweredIn, wakeFrom, wakePowered, wakeRange, wakeState, wakePair};
 ghost use Rattle.table.specs.Layout.{WellSized, RecordAt};
@@ -31,14 +29,6 @@ pub fn powered(table: &[u8], r: usize, x: u8) -> bool
     true
 }
 
-// The lowest member of a set that has one, found by the machine and not by a loop.
-fn lowest(set: u64) -> u32
-    requires { ⌜ 0 < set ⌝ }
-    ensures { λ r. ⌜ (r ≡ least (member set) 64) × (member set r ≡ true) × (r < 64) ⌝ }
-{
-    u64::trailing_zeros(set)
-}
-
 // Every resource of a set has systemlevel x or more: from one member to the next, so that a small set takes few turns.
 pub fn powered_in(table: &[u8], set: u64, x: u8) -> bool
     requires { ⌜ WellSized (now table) ⌝ }
@@ -46,7 +36,7 @@ pub fn powered_in(table: &[u8], set: u64, x: u8) -> bool
 {
     let mut rest = set;
     while 0 < rest {
-        let r = lowest(rest);
+        let r = sets::lowest(rest);
         rest = sets::without(rest, r);
         if !powered(table, r as usize, x) {
             return false;

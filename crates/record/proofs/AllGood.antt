@@ -221,7 +221,7 @@ zeros w t at (suc k) i =
     rw (zeros w t at k (suc i), next) (sym (sum-zero 256 byte (readLE k t (at + 14 + 5 * w + i + 1)) (omega arith)))
 
 pub zeros-test : (w : ℕ) (t : List ℕ) (at n m : ℕ) → n ≡ readLE w t (at + 14 + 5 * w) → m ≡ readLE 2 t (at + 14 + 6 * w)
-    → eqb n 0 && eqb m 0 ≡ allGood (zeroFields w t at)
+    → eqb (bitOr n m) 0 ≡ allGood (zeroFields w t at)
 unfolding zeroFields
 zeros-test w t at n m f g =
     let start = at + 14 + 5 * w in
@@ -230,7 +230,7 @@ zeros-test w t at n m f g =
     let c : 2 + w ≡ w + 2 = omega arith in
     let split = read-split w 2 t start in
     let apart = sum-zero (256 ^ w) (readLE w t start) (readLE 2 t (start + w)) (bytes-pos w) in
-    rw (c, zeros w t at (w + 2) 0, i, split, apart, j, f, g) refl
+    or-none n m ∙ rw (c, zeros w t at (w + 2) 0, i, split, apart, j, f, g) refl
 
 -- ---- a record as the check of a run asks: values, zeros where there are any, objects
 module _ (zeros : Bool) (w resources : ℕ) (t : List ℕ) (d at : ℕ) (v : Bool)

@@ -1,11 +1,11 @@
 -- Each rule of a device as a test of its fields: what the checks of one record cite. What the code asks of another function, a field, a bit
 -- or a test, comes as that function's answer, with what it says.
-use mathlib.Core.Path.{_≡_, refl, sym}
-use mathlib.Core.Bool.{Bool, not, _&&_, _||_, or-false}
+use mathlib.Core.Path.{_≡_, refl, sym, _∙_}
+use mathlib.Core.Bool.{Bool, not, _&&_, _||_, or-true, or-false}
 use mathlib.Core.List.{List}
-use Prim.Native.Nat.{ℕ, _%_, _^_, _≤_, _<_}
+use Prim.Native.Nat.{ℕ, _+_, _%_, _^_, _≤_, _<_}
 use native.Mathlib.Omega.{arith}
-use borrow.Author.Tests.{eqb-true, eq-eqb, ne-eqb, le-leb, lt-leb}
+use borrow.Author.Tests.{eqb-true, eqb-false, eq-eqb, ne-eqb, ltb-true, ltb-false, le-leb, lt-leb}
 use lib.Dec.{eqb, leb, ltb}
 use Rattle.sets.specs.Sets.{member}
 use Rattle.sets.proofs.Laws.{decide}
@@ -22,9 +22,24 @@ unfolding resourceGood
 resource-test t at v e = rw e refl
 
 module _ (v : Device) where
-  pub parent-test : (d p : ℕ) → p ≡ v .parent → ltb p d || eqb p 255 ≡ parentGood d v
+  pub parent-test : (d p n : ℕ) → p ≡ v .parent → n ≡ p → n < 256 → d < 256 → leb ((n + 1) % 256) d ≡ parentGood d v
   unfolding parentGood
-  parent-test d p e = rw e refl
+  parent-test d p n e f h k =
+      rw (← e, ← f)
+      (decide (eqb n 255)
+      (λ g. let wraps : (n + 1) % 256 ≡ 0 = omega (arith, eqb-true n 255 g) in
+      rw (g, wraps) (le-leb 0 d (omega arith) ∙ sym (or-true (ltb n d))))
+      (λ g. let below = eqb-false n 255 g in
+      let next : (n + 1) % 256 ≡ n + 1 = omega (arith, not-255 n h below) in
+      rw (g, next) (above n d ∙ sym (or-false (ltb n d)))))
+    where
+      above : (n d : ℕ) → leb (n + 1) d ≡ ltb n d
+      above n d =
+          decide (ltb n d) (λ e. le-leb (n + 1) d (omega (arith, ltb-true n d e)) ∙ sym e)
+          (λ e. lt-leb (n + 1) d (omega (arith, ltb-false n d e)) ∙ sym e)
+
+      not-255 : (n : ℕ) → n < 256 → (n ≡ 255 → ⊥) → n < 255
+      not-255 n h other = decide (ltb n 255) (ltb-true n 255) (λ e. absurd (other (omega (arith, ltb-false n 255 e))))
 
   pub wake-present : (k flags : ℕ) (b : Bool) → k ≡ 4 → flags ≡ v .flags → b ≡ member flags 0 → b ≡ present v k
   unfolding present

@@ -7,13 +7,13 @@ ghost use Rattle.sets.specs.Sets.{member};
 ghost use Rattle.rules.specs.Station.{Wide, limit, fieldsSize, deviceAt};
 ghost use Rattle.rules.specs.Table.{parentGood, present, setGood, sxdGood, sxwGood, deepestGood, objectsGood};
 
-// A parent is lower than its child; 255 for none.
+// A parent is lower than its child; 255 for none. One comparison for both: the next number after 255 is 0 in a byte.
 pub fn parent_good(table: &[u8], at: usize, w: usize, d: usize) -> bool
     requires { ⌜ Wide w × (at + fieldsSize w ≤ length (now table)) × (d < 256) ⌝ }
     ensures { λ b. ⌜ b ≡ parentGood d (deviceAt w (now (table .entry)) at) ⌝ }
 {
     let parent = crate::read::parent(table, at, w);
-    (parent < d as u8) | (parent == 255)
+    (words::wide(parent) + 1) % 256 <= d as u32
 }
 
 // Bit x of a mask.

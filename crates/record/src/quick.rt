@@ -117,7 +117,7 @@ pub fn zeros_good(table: &[u8], at: usize, w: usize) -> bool
 {
     let zeros = crate::word::read(table, at + 14 + 5 * w, w);
     let rest = words::read16(table, at + 14 + 6 * w);
-    (zeros == 0) & (rest == 0)
+    (zeros | (rest as u64)) == 0
 }
 
 // Whether the objects agree. Where the states with `_PS` are those with `_PR`, D0 and D3hot among them, only `_DSW` is left to ask;

@@ -1,3 +1,4 @@
 pub mod Bits
+pub mod Ends
 pub mod Laws
 pub mod Machine

@@ -4,7 +4,7 @@ pub mod narrow;
 ghost use mathlib.Core.Path.{_≡_};
 ghost use Prim.Native.Nat.{_<_, _≤_, _^_};
 ghost use lib.Dec.{ltb};
-ghost use Rattle.sets.specs.Sets.{member, union, minus, single, firstN, subset};
+ghost use Rattle.sets.specs.Sets.{member, union, minus, single, firstN, subset, Lowest, Highest};
 
 // What is in a or in b.
 pub fn union(a: u64, b: u64) -> u64
@@ -80,4 +80,20 @@ pub fn fits(s: u64, n: u32) -> bool
         return (s >> n) == 0;
     }
     true
+}
+
+// The lowest member of a set that has one, found by the machine and not by a loop.
+pub fn lowest(s: u64) -> u32
+    requires { ⌜ 0 < s ⌝ }
+    ensures { λ r. ⌜ Lowest s r × (r < 64) ⌝ }
+{
+    u64::trailing_zeros(s)
+}
+
+// The highest member, found in the same way.
+pub fn highest(s: u64) -> u32
+    requires { ⌜ 0 < s ⌝ }
+    ensures { λ r. ⌜ Highest s r × (r < 64) ⌝ }
+{
+    63 - u64::leading_zeros(s)
 }

@@ -6,10 +6,10 @@ use rules::Switching;
 ghost use mathlib.Core.Path.{_≡_};
 ghost use mathlib.Core.List.{map};
 ghost use mathlib.Core.Bool.{false};
-ghost use Prim.Native.Nat.{_+_, _≤_};
+ghost use Prim.Native.Nat.{_+_, _^_, _<_, _≤_};
 ghost use lib.ListN.{length};
 ghost use Rattle.words.specs.Words.{put};
-ghost use Rattle.rules.specs.Station.{width, station};
+ghost use Rattle.rules.specs.Station.{width, countR, station};
 ghost use Rattle.rules.specs.Calls.{wordOf, listOf, switchingWords};
 ghost use Rattle.rules.specs.Outcomes.{listRoom};
 ghost use Rattle.table.specs.Layout.{WellSized};
@@ -42,7 +42,8 @@ fn write_own(own: OptionalCall, plan: &mut [u32], at: usize) -> usize
 
 // The words that turn one set on, then those that turn another off. The answer is the place after the last.
 pub fn write_switches(table: &[u8], added: u64, removed: u64, plan: &mut [u32], at: usize) -> usize
-    requires { ⌜ WellSized (now table) × (at + length (phaseWords (station (now table)) added removed) ≤ length (now plan)) ⌝ }
+    requires { ⌜ WellSized (now table) × (added < 2 ^ countR (now table)) × (removed < 2 ^ countR (now table))
+        × (at + length (phaseWords (station (now table)) added removed) ≤ length (now plan)) ⌝ }
     ensures { λ r. ⌜ (r ≡ at + length (phaseWords (station (now (table .entry))) added removed))
         × (now (plan .exit) ≡ put (now (plan .entry)) at (phaseWords (station (now (table .entry))) added removed)) ⌝ }
 {

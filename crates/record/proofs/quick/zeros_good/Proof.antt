@@ -9,4 +9,4 @@ zeros-good-spec =
     tie.close
     (tie.spec (λ c. search needs) (λ c. search needs) (λ c. search needs)
     (λ c κs. search needs) (λ c. search needs) (λ c. search needs) (λ c. search needs) (λ c κs. search needs)
-    (λ c. search (needs, quick-tests)))
+    (λ c. search needs) (λ c. search (needs, quick-tests)))
