@@ -33,7 +33,7 @@ use Rattle.switching.proofs.Answered.{front-bytes}
 use Rattle.sleep.specs.Chosen.{statesIn}
 use Rattle.planner.specs.Moves.{moveList, stateMoved, Turn, WrittenFrom}
 use Rattle.planner.proofs.Whole.{list-is}
-use Rattle.planner.proofs.Room.{words-65, request-room}
+use Rattle.planner.proofs.Room.{words-inside, request-room}
 
 -- ---- what a turn has shown
 module _ (t b chosen : List ℕ) (d : ℕ) (g : Turn t b chosen d) where
@@ -149,8 +149,8 @@ module _ (list after : List ℕ) (n : ℕ) (b′ calls calls′ : List ℕ) (w :
 -- what is copied is in the buffer, and as much as the plan has room for
 module _ (t b chosen : List ℕ) (d n : ℕ) (after b′ calls calls′ : List ℕ) (g : Turn t b chosen d)
     (w : WrittenPlan (moveList t b (statesIn chosen) d) after calls n b′ calls′) where
-  pub copied-inside : length calls ≡ 65 → n ≤ length calls′
-  copied-inside l = words-65 t _ _ (move-short t b chosen d g) n b′ calls calls′ w l
+  pub copied-inside : listRoom (width t) ≤ length calls → n ≤ length calls′
+  copied-inside l = words-inside t _ _ (move-short t b chosen d g) n b′ calls calls′ w l
 
   pub copied-room : (at m : ℕ) → at + length (moveList t b (statesIn chosen) d) ≤ m → at + n ≤ m
   copied-room at m h = omega (arith, w .count)

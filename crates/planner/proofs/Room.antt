@@ -26,10 +26,13 @@ room-words t words h = omega (arith, room-65 t)
 
 module _ (t list after : List ℕ) (short : length list ≤ listRoom (width t)) (n : ℕ) (b′ words words′ : List ℕ)
     (w : WrittenPlan list after words n b′ words′) where
+  pub words-inside : listRoom (width t) ≤ length words → n ≤ length words′
+  words-inside h =
+      let same = ap length (w .words) ∙ length-put words 0 list (omega arith) in
+      omega (arith, same, w .count)
+
   pub words-65 : length words ≡ 65 → n ≤ length words′
-  words-65 l =
-      let same = ap length (w .words) ∙ length-put words 0 list (omega (arith, room-65 t)) in
-      omega (arith, same, w .count, room-65 t)
+  words-65 l = words-inside (room-words t words l)
 
   pub bytes-room : (m : ℕ) → 4 * listRoom (width t) ≤ m → 4 * (0 + n) ≤ m
   bytes-room m h = omega (arith, w .count)

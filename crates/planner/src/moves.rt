@@ -5,6 +5,7 @@ use rules::Request;
 ghost use mathlib.Core.Path.{_≡_};
 ghost use Prim.Native.Nat.{_+_, _*_, _≤_};
 ghost use lib.ListN.{length};
+ghost use Rattle.words.specs.Words.{put};
 ghost use Rattle.rules.specs.Station.{width, limit, station};
 ghost use Rattle.rules.specs.Power.{needs};
 ghost use Rattle.rules.specs.Status.{entries};
@@ -84,19 +85,21 @@ fn move_words(
     chosen: &[u8],
     d: usize,
     needed: u64,
+    calls: &mut [u32],
     plan: &mut [u32],
     at: usize,
 ) -> usize
-    requires { ⌜ Turn (now table) (now state) (now chosen) d
+    requires { ⌜ Turn (now table) (now state) (now chosen) d × (listRoom (width (now table)) ≤ length (now calls))
         × (needed ≡ endSet (station (now table)) (entries (now table) (now state)) (moveTo d (statesIn (now chosen) d)))
         × (at + length (moveList (now table) (now state) (statesIn (now chosen)) d) ≤ length (now plan)) ⌝ }
     ensures { λ r. ⌜ WrittenFrom 1 (λ ws. ws) (moveList (now (table .entry)) (now (state .entry)) (statesIn (now (chosen .entry))) d)
         (stateMoved (now (table .entry)) (now (state .entry)) (statesIn (now (chosen .entry))) d)
-        (now (plan .entry)) at r (now (state .exit)) (now (plan .exit)) ⌝ }
+        (now (plan .entry)) at r (now (state .exit)) (now (plan .exit))
+        × (now (calls .exit) ≡ put (now (calls .entry)) 0
+        (moveList (now (table .entry)) (now (state .entry)) (statesIn (now (chosen .entry))) d)) ⌝ }
 {
-    let mut calls = [0u32; 65];
-    let n = write_move(table, state, chosen, d, needed, &mut calls);
-    words::copy_words(&calls, n, plan, at);
+    let n = write_move(table, state, chosen, d, needed, calls);
+    words::copy_words(calls, n, plan, at);
     n
 }
 
@@ -112,6 +115,7 @@ fn write_moves(table: &[u8], state: &mut [u8], chosen: &[u8], plan: &mut [u32]) 
         (allMoves (now (table .entry)) (now (state .entry)) (statesIn (now (chosen .entry)))))
         (now (plan .entry)) 0 r (now (state .exit)) (now (plan .exit)) ⌝ }
 {
+    let mut calls = [0u32; 65];
     let mut below = [0u64; 64];
     status::needed::needed_below(table, state, &mut below);
     let mut above: u64 = 0;
@@ -121,7 +125,7 @@ fn write_moves(table: &[u8], state: &mut [u8], chosen: &[u8], plan: &mut [u32]) 
         i -= 1;
         above = sets::union(chosen_needs(table, state, chosen, i), above);
         let needed = sets::union(below[i], above);
-        n += move_words(table, state, chosen, i, needed, plan, n);
+        n += move_words(table, state, chosen, i, needed, &mut calls, plan, n);
     }
     n
 }

@@ -3,7 +3,7 @@
 ghost use mathlib.Core.Path.{_≡_};
 ghost use Prim.Native.Nat.{_+_, _*_, _≤_};
 ghost use lib.ListN.{length};
-ghost use Rattle.words.specs.Words.{wordBytes};
+ghost use Rattle.words.specs.Words.{put, wordBytes};
 ghost use Rattle.rules.specs.Station.{width, limit, station};
 ghost use Rattle.rules.specs.Status.{entries};
 ghost use Rattle.rules.specs.Calls.{endSet};
@@ -22,19 +22,21 @@ fn move_bytes(
     chosen: &[u8],
     d: usize,
     needed: u64,
+    calls: &mut [u32],
     plan: &mut [u8],
     at: usize,
 ) -> usize
-    requires { ⌜ Turn (now table) (now state) (now chosen) d
+    requires { ⌜ Turn (now table) (now state) (now chosen) d × (listRoom (width (now table)) ≤ length (now calls))
         × (needed ≡ endSet (station (now table)) (entries (now table) (now state)) (moveTo d (statesIn (now chosen) d)))
         × (4 * (at + length (moveList (now table) (now state) (statesIn (now chosen)) d)) ≤ length (now plan)) ⌝ }
     ensures { λ r. ⌜ WrittenFrom 4 wordBytes (moveList (now (table .entry)) (now (state .entry)) (statesIn (now (chosen .entry))) d)
         (stateMoved (now (table .entry)) (now (state .entry)) (statesIn (now (chosen .entry))) d)
-        (now (plan .entry)) at r (now (state .exit)) (now (plan .exit)) ⌝ }
+        (now (plan .entry)) at r (now (state .exit)) (now (plan .exit))
+        × (now (calls .exit) ≡ put (now (calls .entry)) 0
+        (moveList (now (table .entry)) (now (state .entry)) (statesIn (now (chosen .entry))) d)) ⌝ }
 {
-    let mut calls = [0u32; 65];
-    let n = planner::moves::write_move(table, state, chosen, d, needed, &mut calls);
-    words::write_words(&calls, n, plan, at);
+    let n = planner::moves::write_move(table, state, chosen, d, needed, calls);
+    words::write_words(calls, n, plan, at);
     n
 }
 
@@ -49,6 +51,7 @@ fn write_moves(table: &[u8], state: &mut [u8], chosen: &[u8], plan: &mut [u8]) -
         (allMoves (now (table .entry)) (now (state .entry)) (statesIn (now (chosen .entry)))))
         (now (plan .entry)) 0 r (now (state .exit)) (now (plan .exit)) ⌝ }
 {
+    let mut calls = [0u32; 65];
     let mut below = [0u64; 64];
     status::needed::needed_below(table, state, &mut below);
     let mut above: u64 = 0;
@@ -58,7 +61,7 @@ fn write_moves(table: &[u8], state: &mut [u8], chosen: &[u8], plan: &mut [u8]) -
         i -= 1;
         above = sets::union(planner::moves::chosen_needs(table, state, chosen, i), above);
         let needed = sets::union(below[i], above);
-        n += move_bytes(table, state, chosen, i, needed, plan, n);
+        n += move_bytes(table, state, chosen, i, needed, &mut calls, plan, n);
     }
     n
 }

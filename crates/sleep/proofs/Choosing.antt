@@ -1,14 +1,16 @@
 -- Which states a device may take, the least of them, and answers 10 and 20: a law for each way out of the code that tests them.
 use mathlib.Core.Path.{_≡_, refl, sym, ap, _∙_}
-use mathlib.Core.Bool.{Bool, true, false, not, _&&_, and-true, and-false}
+use mathlib.Core.Bool.{Bool, true, false, not, _&&_, and-true, and-false, and-comm}
 use mathlib.Core.Logic.{⊎-elim}
 use mathlib.Core.List.{List}
 use Prim.Native.Nat.{ℕ, _+_, _*_, _-_, _≤_, _<_}
+use native.Mathlib.Nat.{eq-or-lt-of-le}
 use native.Mathlib.Omega.{arith}
-use borrow.Author.Tests.{eqb-true, eq-eqb, ne-eqb, ltb-true, le-leb, lt-leb, not-true, not-false}
+use borrow.Author.Tests.{eqb-true, eq-eqb, ne-eqb, ltb-true, leb-true, le-leb, lt-leb, not-true, not-false}
 use lib.Dec.{eqb, leb, ltb}
 use lib.ListN.{length, set}
 use Rattle.words.specs.Words.{put}
+use Rattle.sets.proofs.Laws.{decide}
 use Rattle.rules.specs.declared.Entry.{Entry}
 use Rattle.rules.specs.declared.Request.{Request}
 use Rattle.rules.specs.Station.{Station, countD, stationOf, station}
@@ -18,11 +20,11 @@ use Rattle.rules.specs.Status.{entryAt, entries, underParent}
 use Rattle.rules.specs.Request.{inState}
 use Rattle.rules.specs.Sleep.{sleepFormGood, armedForOther, sxdAllows, wakeDIfArmed, mayTake, mayTakeUnder, leastState, leastChoice, stays}
 use Rattle.rules.specs.Index.{every, leastFrom, least, each}
-use Rattle.rules.proofs.Index.{starts, found, next, done}
+use Rattle.rules.proofs.Index.{starts, found, next, done, no-hit}
 use Rattle.laws.proofs.Tests.{or-cases}
-use Rattle.laws.proofs.Every.{everyFrom, every-starts, every-next, every-stops, every-done}
+use Rattle.laws.proofs.Every.{everyFrom, every-starts, every-next, every-stops, every-done, least-part}
 use Rattle.laws.proofs.Choice.{least-by}
-use Rattle.table.specs.Layout.{WellSized}
+use Rattle.table.proofs.Readers.{record-at}
 use Rattle.status.specs.Ready.{Ready}
 use Rattle.status.proofs.Keeps.{entry-ready}
 use Rattle.status.proofs.Filled.{filled-none, filled-next, filled-at}
@@ -68,57 +70,37 @@ module _ (e : Entry) (x : ℕ) where
 
 pub ruleset entry-alone = (other-unarmed, other-armed, any-unarmed, wake-d-armed)
 
--- ---- `_SxD`; v is its value
-module _ (s : Station) (x d y v : ℕ) (q : v ≡ s .device d .sxd x) where
-  pub sxd-none : v ≡ 255 → true ≡ sxdAllows s x d y
-  unfolding sxdAllows
-  sxd-none e = rw (← q, eq-eqb v 255 e) refl
+-- ---- the shallowest state that is left: which states y are not shallower than it
+module _ (a b : ℕ) where
+  pub deeper-second : a < b → (y : ℕ) → leb b y ≡ leb a y && leb b y
+  deeper-second h y =
+      decide (leb b y) (λ e. rw (e, le-leb a y (omega (arith, leb-true b y e))) refl) (λ e. rw e (sym (and-false (leb a y))))
 
-  pub sxd-some : (v ≡ 255 → ⊥) → leb v y ≡ sxdAllows s x d y
+  pub deeper-first : b ≤ a → (y : ℕ) → leb a y ≡ leb a y && leb b y
+  deeper-first h y =
+      decide (leb a y) (λ e. rw (e, le-leb b y (omega (arith, leb-true a y e))) refl) (λ e. rw e refl)
+
+pub ruleset deeper-laws = (deeper-second, deeper-first)
+
+-- by `_SxD`, whose value is v
+module _ (s : Station) (x d v : ℕ) (q : v ≡ s .device d .sxd x) where
+  pub sxd-none : v ≡ 255 → (y : ℕ) → leb 0 y ≡ sxdAllows s x d y
   unfolding sxdAllows
-  sxd-some n = rw (← q, ne-eqb v 255 n) refl
+  sxd-none e y = rw (← q, eq-eqb v 255 e) (le-leb 0 y (omega arith))
+
+  pub sxd-some : (v ≡ 255 → ⊥) → (y : ℕ) → leb v y ≡ sxdAllows s x d y
+  unfolding sxdAllows
+  sxd-some n y = rw (← q, ne-eqb v 255 n) refl
 
 pub ruleset sxd-laws = (sxd-none, sxd-some)
 
--- ---- whether a device may take a state; w, l, k are what the tests of wake D, `_SxD` and support returned
-module _ (s : Station) (x d : ℕ) (e : Entry) (y : ℕ) where
-  pub take-shallower : y < e .state → false ≡ mayTake s x d e y
-  unfolding mayTake
-  take-shallower h = rw (lt-leb (e .state) y h, and-false (supported s d y)) refl
-
-  module _ (w : Bool) (i : w ≡ wakeDIfArmed e y) where
-    pub take-wake : not w ≡ true → false ≡ mayTake s x d e y
-    unfolding mayTake
-    take-wake n =
-        rw (← i, not-true w n)
-        (sym (and-false (supported s d y && leb (e .state) y && sxdAllows s x d y && poweredIn s x (needs s d (inState e y)))))
-
-    module _ (l : Bool) (j : l ≡ sxdAllows s x d y) where
-      pub take-sxd : not l ≡ true → false ≡ mayTake s x d e y
-      unfolding mayTake
-      take-sxd n = rw (← j, not-true l n, and-false (supported s d y && leb (e .state) y)) refl
-
-      module _ (k : Bool) (o : k ≡ supported s d y) where
-        pub take-unsupported : not k ≡ true → false ≡ mayTake s x d e y
-        unfolding mayTake
-        take-unsupported n = rw (← o, not-true k n) refl
-
-        -- the rest is whether what it needs is powered
-        pub take-powered : e .state ≤ y → not w ≡ false → not l ≡ false → not k ≡ false → (set : ℕ) (r : Bool)
-            → set ≡ needs s d (inState e y) → r ≡ poweredIn s x set → r ≡ mayTake s x d e y
-        unfolding mayTake
-        take-powered h nw nl nk set r a p =
-            p ∙ rw (a, ← o, ← j, ← i, le-leb (e .state) y h, not-false w nw, not-false l nl, not-false k nk) (sym (and-true _))
-
-pub ruleset taking = (take-shallower, take-wake, take-sxd, take-unsupported, take-powered)
-
--- ---- the parent, whose number is p
+-- by the parent, whose number is p
 module _ (t : List ℕ) (d p : ℕ) (q : p ≡ station t .device d .parent) where
-  pub under-none : (chosen : List ℕ) (y : ℕ) → p ≡ 255 → true ≡ underParent (station t) (statesIn chosen) d y
-  under-none chosen y e = rw (← q, eq-eqb p 255 e) refl
+  pub under-none : (chosen : List ℕ) → p ≡ 255 → (y : ℕ) → leb 0 y ≡ underParent (station t) (statesIn chosen) d y
+  under-none chosen e y = rw (← q, eq-eqb p 255 e) (le-leb 0 y (omega arith))
 
-  pub under-some : (chosen : List ℕ) (y : ℕ) → (p ≡ 255 → ⊥) → leb (statesIn chosen p) y ≡ underParent (station t) (statesIn chosen) d y
-  under-some chosen y n = rw (← q, ne-eqb p 255 n) refl
+  pub under-some : (chosen : List ℕ) → (p ≡ 255 → ⊥) → (y : ℕ) → leb (statesIn chosen p) y ≡ underParent (station t) (statesIn chosen) d y
+  under-some chosen n y = rw (← q, ne-eqb p 255 n) refl
 
   -- it is lower than its child
   pub parent-inside : (n : ℕ) → parentGood d (station t .device d) ≡ true → d < countD t → countD t ≤ n → (p ≡ 255 → ⊥) → p < n
@@ -129,15 +111,25 @@ module _ (t : List ℕ) (d p : ℕ) (q : p ≡ station t .device d .parent) wher
 
 pub ruleset under-laws = (under-none, under-some, parent-inside)
 
--- both, where u is what the test of the parent returned
-module _ (s : Station) (states : ℕ → ℕ) (x d : ℕ) (e : Entry) (y : ℕ) (u : Bool) (i : u ≡ underParent s states d y) where
-  pub both-not : not u ≡ true → false ≡ mayTake s x d e y && underParent s states d y
-  both-not n = rw (← i, not-true u n) (sym (and-false (mayTake s x d e y)))
+-- ---- whether a device may take such a state; w, k are what the tests of wake D and support returned
+module _ (s : Station) (x d : ℕ) (e : Entry) (y : ℕ) where
+  abbrev passed : Bool
+  passed = supported s d y && poweredIn s x (needs s d (inState e y)) && wakeDIfArmed e y
 
-  pub both-rest : not u ≡ false → (r : Bool) → r ≡ mayTake s x d e y → r ≡ mayTake s x d e y && underParent s states d y
-  both-rest n r j = j ∙ rw (← i, not-false u n) (sym (and-true (mayTake s x d e y)))
+  module _ (w : Bool) (i : w ≡ wakeDIfArmed e y) where
+    pub take-wake : not w ≡ true → false ≡ passed
+    take-wake n = rw (← i, not-true w n) (sym (and-false (supported s d y && poweredIn s x (needs s d (inState e y)))))
 
-pub ruleset both-laws = (both-not, both-rest)
+    module _ (k : Bool) (o : k ≡ supported s d y) where
+      pub take-unsupported : not k ≡ true → false ≡ passed
+      take-unsupported n = rw (← o, not-true k n) refl
+
+      -- the rest is whether what it needs is powered
+      pub take-powered : not w ≡ false → not k ≡ false → (set : ℕ) (r : Bool)
+          → set ≡ needs s d (inState e y) → r ≡ poweredIn s x set → r ≡ passed
+      take-powered nw nk set r a p = p ∙ rw (a, ← o, ← i, not-false w nw, not-false k nk) (sym (and-true _))
+
+pub ruleset taking = (take-wake, take-unsupported, take-powered)
 
 -- ---- a device that stays
 pub stays-is : (t b chosen : List ℕ) (d : ℕ) (e : Entry) → Ready t b → d < countD t → e ≡ entryAt b (4 * d)
@@ -177,37 +169,63 @@ module _ (t b : List ℕ) (x i n v : ℕ) (r : Ready t b) (inv : leastFrom (othe
 
 pub ruleset others = (other-starts, other-found, other-next, done)
 
--- what the test asks
+-- what the functions ask that the search for a device's state calls
 pub parent-ready : (t b : List ℕ) (d : ℕ) → Ready t b → d < countD t → parentGood d (station t .device d) ≡ true
 parent-ready t b d r h = r .parents d h
 
-pub sized-ready : (t b : List ℕ) → Ready t b → WellSized t
-sized-ready t b r = r .sized
+pub ruleset asking = (parent-ready, record-at)
 
-pub ruleset asking = (parent-ready, sized-ready)
+-- ---- the least number that passes a test, where none below y does: y, if it passes or is the end
+abbrev pub NoneBelow : (ℕ → Bool) → ℕ → Type 0
+NoneBelow f y = (k : ℕ) → k < y → f k ≡ false
 
--- ---- the loop over the states; e is the entry of the device, and c whether it may take state y
-module _ (t b chosen : List ℕ) (x d : ℕ) (r : Ready t b) (k : d < countD t) where
+least-is : (f : ℕ → Bool) (n y : ℕ) → y ≤ n → (y < n → f y ≡ true) → NoneBelow f y → y ≡ least f n
+least-is f n y h e none = sym (no-hit f 0 y (λ j a b. none j (omega arith)) ∙ omega arith) ∙ least-part f f y n (λ i l. refl) h e
+
+-- ---- the loop over the states
+-- the three tests that the shallowest state stands for, brought together before the other three
+regroup : (s l x p w u : Bool) → s && l && x && p && w && u ≡ (l && x && u) && (s && p && w)
+regroup true true true p w u = and-comm (p && w) u
+regroup true true false p w u = refl
+regroup true false x p w u = refl
+regroup false l x p w u = sym (and-false (l && x && u))
+
+module _ (t b chosen : List ℕ) (x d : ℕ) where
   abbrev taken : ℕ → Bool
   taken = mayTakeUnder (station t) (entries t b) x (statesIn chosen) d
 
-  pub state-starts : leastFrom taken 0 (5 - 0) ≡ leastState (station t) (entries t b) x (statesIn chosen) d
+  abbrev leastTaken : ℕ
+  leastTaken = leastState (station t) (entries t b) x (statesIn chosen) d
+
+  pub state-done : (y : ℕ) → 5 ≤ y → NoneBelow taken y → 5 ≡ leastTaken
   unfolding leastState
-  state-starts = starts taken 5
+  state-done y h none = least-is taken 5 5 (omega arith) (λ l. absurd (omega arith)) (λ k l. none k (omega arith))
 
-  module _ (y v : ℕ) (inv : leastFrom taken y (5 - y) ≡ v) (h : y < 5) (e : Entry) (read : e ≡ entryAt b (4 * d)) (c : Bool)
-      (test : c ≡ mayTake (station t) x d e y && underParent (station t) (statesIn chosen) d y) where
-    may-is : c ≡ taken y
-    unfolding mayTakeUnder
-    may-is = test ∙ rw (entry-ready t b d e r k read) refl
+  -- e is the entry of the device, v the shallowest state that is left, and c whether it may take state y
+  module _ (r : Ready t b) (k : d < countD t) (e : Entry) (read : e ≡ entryAt b (4 * d)) (v : ℕ)
+      (left : (y : ℕ) → leb v y ≡ leb (e .state) y && sxdAllows (station t) x d y && underParent (station t) (statesIn chosen) d y) where
+    taken-is : (y : ℕ) → taken y ≡ leb v y && passed (station t) x d e y
+    unfolding mayTakeUnder mayTake
+    taken-is y =
+        rw (← entry-ready t b d e r k read, left y)
+        (regroup (supported (station t) d y) (leb (e .state) y) (sxdAllows (station t) x d y)
+        (poweredIn (station t) x (needs (station t) d (inState e y))) (wakeDIfArmed e y) (underParent (station t) (statesIn chosen) d y))
 
-    pub state-found : c ≡ true → y ≡ v
-    state-found z = found taken y 5 v c inv h may-is z
+    pub state-starts : NoneBelow taken v
+    state-starts y h = taken-is y ∙ rw (lt-leb v y h) refl
 
-    pub state-next : c ≡ false → leastFrom taken (y + 1) (5 - (y + 1)) ≡ v
-    state-next z = next taken y 5 v c inv h may-is z
+    module _ (y : ℕ) (low : v ≤ y) (none : NoneBelow taken y) (c : Bool) (test : c ≡ passed (station t) x d e y) where
+      may-is : taken y ≡ c
+      may-is = taken-is y ∙ rw (le-leb v y low) (sym test)
 
-pub ruleset states = (state-starts, state-found, state-next, done)
+      pub state-found : y < 5 → c ≡ true → y ≡ leastTaken
+      unfolding leastState
+      state-found h z = least-is taken 5 y (omega arith) (λ l. may-is ∙ z) none
+
+      pub state-next : c ≡ false → NoneBelow taken (y + 1)
+      state-next z j h = ⊎-elim (λ q. rw q (may-is ∙ z)) (λ m. none j m) (eq-or-lt-of-le {n = j} {m = y} (omega arith))
+
+pub ruleset states = (state-starts, state-found, state-next, state-done)
 
 -- ---- the loop that chooses; y is the least state of device i, and the devices below it have theirs
 pub choose-next : (t b chosen₀ chosen : List ℕ) (x i n y : ℕ) → Ready t b → n ≡ countD t → i < n → n ≤ length chosen₀

@@ -2,28 +2,65 @@
 use rules::Entry;
 ghost use mathlib.Core.Path.{_≡_};
 ghost use mathlib.Core.Bool.{true, _&&_};
-ghost use Prim.Native.Nat.{_<_, _≤_};
-ghost use lib.Dec.{ltb};
+ghost use Prim.Native.Nat.{ℕ, _<_, _≤_};
+ghost use lib.Dec.{leb, ltb};
 ghost use lib.ListN.{length};
 ghost use Rattle.rules.specs.Index.{every};
 ghost use Rattle.rules.specs.Station.{countD, station};
 ghost use Rattle.rules.specs.Table.{parentGood};
+ghost use Rattle.rules.specs.Power.{supported, needs, poweredIn};
 ghost use Rattle.rules.specs.Status.{entries, underParent};
-ghost use Rattle.rules.specs.Sleep.{sxdAllows, wakeDIfArmed, mayTake, leastState, stays};
-ghost use Rattle.table.specs.Layout.{WellSized};
+ghost use Rattle.rules.specs.Request.{inState};
+ghost use Rattle.rules.specs.Sleep.{sxdAllows, wakeDIfArmed, leastState, stays};
+ghost use Rattle.table.specs.Layout.{WellSized, RecordAt};
 ghost use Rattle.status.specs.Ready.{Ready};
 ghost use Rattle.sleep.specs.Chosen.{statesIn, leastEach};
 
-// State y is not shallower than `_SxD`, where that is present.
-fn sxd_allows(table: &[u8], x: u8, d: usize, y: u8) -> bool
-    requires { ⌜ WellSized (now table) × (d < countD (now table)) × (x < 5) ⌝ }
-    ensures { λ r. ⌜ r ≡ sxdAllows (station (now (table .entry))) x d y ⌝ }
+// The deeper of two states.
+fn deeper(a: u8, b: u8) -> u8
+    ensures { λ r. ⌜ ((y : ℕ) → leb r y ≡ leb a y && leb b y) ⌝ }
 {
-    let least = table::fields::sxd(table, d, x as usize);
-    if least == 255 {
-        return true;
+    if a < b {
+        return b;
     }
-    least <= y
+    a
+}
+
+// The shallowest state that `_SxD` allows: D0 without it.
+fn shallowest_of_sxd(table: &[u8], x: u8, d: usize, at: usize, w: usize) -> u8
+    requires { ⌜ RecordAt (now table) d at w × (x < 5) ⌝ }
+    ensures { λ r. ⌜ ((y : ℕ) → leb r y ≡ sxdAllows (station (now (table .entry))) x d y) ⌝ }
+{
+    let least = record::read::sxd(table, at, w, x as usize);
+    if least == 255 {
+        return 0;
+    }
+    least
+}
+
+// The shallowest state that device d's parent in `chosen` allows: D0 without a parent.
+fn shallowest_of_parent(table: &[u8], chosen: &[u8], d: usize, at: usize, w: usize) -> u8
+    requires { ⌜ RecordAt (now table) d at w × (countD (now table) ≤ length (now chosen))
+        × (parentGood d (station (now table) .device d) ≡ true) ⌝ }
+    ensures { λ r. ⌜ ((y : ℕ) → leb r y ≡ underParent (station (now (table .entry))) (statesIn (now (chosen .entry))) d y) ⌝ }
+{
+    let p = record::read::parent(table, at, w);
+    if p == 255 {
+        return 0;
+    }
+    chosen[p as usize]
+}
+
+// The shallowest state that is left to device d by its present one, `_SxD` and its parent's in `chosen`.
+fn shallowest(table: &[u8], chosen: &[u8], x: u8, d: usize, at: usize, w: usize, state: u8) -> u8
+    requires { ⌜ RecordAt (now table) d at w × (countD (now table) ≤ length (now chosen))
+        × (parentGood d (station (now table) .device d) ≡ true) × (x < 5) ⌝ }
+    ensures { λ r. ⌜ ((y : ℕ) → leb r y ≡ leb state y && sxdAllows (station (now (table .entry))) x d y
+        && underParent (station (now (table .entry))) (statesIn (now (chosen .entry))) d y) ⌝ }
+{
+    let sxd = shallowest_of_sxd(table, x, d, at, w);
+    let parent = shallowest_of_parent(table, chosen, d, at, w);
+    deeper(deeper(state, sxd), parent)
 }
 
 // State y is wake D, if the device is armed.
@@ -36,22 +73,16 @@ fn wake_d_if_armed(e: Entry, y: u8) -> bool
     y == e.wake
 }
 
-// Device d, whose entry is e, may take state y. What takes least time is tested first.
-fn may_take(table: &[u8], x: u8, d: usize, e: Entry, y: u8) -> bool
-    requires { ⌜ WellSized (now table) × (d < countD (now table)) × (x < 5) ⌝ }
-    ensures { λ r. ⌜ r ≡ mayTake (station (now (table .entry))) x d e y ⌝ }
+// Device d, whose entry is e, may take state y, which is not shallower than the `shallowest` one. What takes least time is tested
+// first.
+fn may_take(table: &[u8], x: u8, d: usize, at: usize, w: usize, e: Entry, y: u8) -> bool
+    requires { ⌜ RecordAt (now table) d at w ⌝ }
+    ensures { λ r. ⌜ r ≡ supported (station (now (table .entry))) d y
+        && poweredIn (station (now (table .entry))) x (needs (station (now (table .entry))) d (inState e y)) && wakeDIfArmed e y ⌝ }
 {
-    if y < e.state {
-        return false;
-    }
     if !wake_d_if_armed(e, y) {
         return false;
     }
-    if !sxd_allows(table, x, d, y) {
-        return false;
-    }
-    let at = table::fields::start(table, d);
-    let w = table::fields::width(table);
     if !power::supported(table, d, at, w, y) {
         return false;
     }
@@ -64,47 +95,24 @@ fn may_take(table: &[u8], x: u8, d: usize, e: Entry, y: u8) -> bool
     power::wake::powered_in(table, power::needs(table, d, at, w, taken), x)
 }
 
-// Device d's parent, if there is one, has in `chosen` a state that is not deeper than y.
-fn under_parent(table: &[u8], chosen: &[u8], d: usize, y: u8) -> bool
-    requires { ⌜ WellSized (now table) × (d < countD (now table)) × (countD (now table) ≤ length (now chosen))
-        × (parentGood d (station (now table) .device d) ≡ true) ⌝ }
-    ensures { λ r. ⌜ r ≡ underParent (station (now (table .entry))) (statesIn (now (chosen .entry))) d y ⌝ }
-{
-    let p = table::fields::parent(table, d);
-    if p == 255 {
-        return true;
-    }
-    chosen[p as usize] <= y
-}
-
-// Device d, whose entry is e, may take state y, and y is not shallower than its parent's in `chosen`.
-fn may_take_under(table: &[u8], chosen: &[u8], x: u8, d: usize, e: Entry, y: u8) -> bool
-    requires { ⌜ WellSized (now table) × (d < countD (now table)) × (countD (now table) ≤ length (now chosen))
-        × (parentGood d (station (now table) .device d) ≡ true) × (x < 5) ⌝ }
-    ensures { λ r. ⌜ r ≡ mayTake (station (now (table .entry))) x d e y
-        && underParent (station (now (table .entry))) (statesIn (now (chosen .entry))) d y ⌝ }
-{
-    if !under_parent(table, chosen, d, y) {
-        return false;
-    }
-    may_take(table, x, d, e, y)
-}
-
-// The least state that device d may take under its parent's in `chosen`; 5 if there is none.
+// The least state that device d may take under its parent's in `chosen`; 5 if there is none. The loop starts at the shallowest one that
+// is left, which is worked out once, so that no turn asks again for the present state, `_SxD` and the parent's.
 fn least_state(table: &[u8], devices: &[u8], chosen: &[u8], x: u8, d: usize) -> u8
     requires { ⌜ Ready (now table) (now devices) × (d < countD (now table)) × (countD (now table) ≤ length (now chosen)) × (x < 5) ⌝ }
     ensures { λ r. ⌜ r ≡ leastState (station (now (table .entry))) (entries (now (table .entry)) (now (devices .entry))) x
         (statesIn (now (chosen .entry))) d ⌝ }
 {
+    let at = table::fields::start(table, d);
+    let w = table::fields::width(table);
     let e = status::image::entry(devices, d);
-    let mut y = 0;
+    let mut y = shallowest(table, chosen, x, d, at, w, e.state);
     while y < 5 {
-        if may_take_under(table, chosen, x, d, e, y) {
+        if may_take(table, x, d, at, w, e, y) {
             return y;
         }
         y += 1;
     }
-    y
+    5
 }
 
 // The least choice, from the lowest device on: a parent's state is there before its children's.

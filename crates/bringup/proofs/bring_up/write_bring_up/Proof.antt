@@ -1,5 +1,5 @@
 -- What is to be switched, its calls and the new on-set, each from the one before.
-use Rattle.bringup.proofs.Whole.{switch-laws, switches-room, up-written}
+use Rattle.bringup.proofs.Whole.{switch-laws, added-small, removed-small, switches-room, up-written}
 use borrow.Author.Needs.{needs}
 use Rattle.bringup.proofs.bring_up.write_bring_up.Statement.{statement}
 use Rattle.bringup.proofs.bring_up.write_bring_up.Tie as tie
@@ -9,8 +9,19 @@ write-switches-requires : tie.Need-write-switches-requires
 write-switches-requires c κs =
     let removed = c .before in
     let added = removed .before in
+    let target = added .before in
+    let read = target .before .before in
     let start = added .before .before .before .before .before .before .before .before in
-    (start .pre .0 .sized, switches-room _ _ _ _ _ _ _ (start .pre .0) (added .difference .ensures) (removed .difference2 .ensures) (start .pre .1))
+    let given = start .pre .0 in
+    let on-is = read .on-set .ensures in
+    let target-is = target .needed .ensures in
+    let u = added .difference .ensures in
+    let v = removed .difference2 .ensures in (
+      given .sized,
+      added-small _ _ given _ _ _ 0 on-is target-is u,
+      removed-small _ _ given _ _ 0 _ on-is target-is v,
+      switches-room _ _ _ _ _ _ _ given u v (start .pre .1),
+    )
 
 returns : tie.Need-returns
 returns c =

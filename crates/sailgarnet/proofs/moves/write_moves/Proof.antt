@@ -9,17 +9,18 @@ use Rattle.rules.specs.Status.{entries}
 use Rattle.status.specs.Needs.{neededFrom}
 use Rattle.planner.proofs.Turns.{Underway, turn-now, needed-now, above-now, bytes-sum, bytes-room, bytes-next, by-bytes}
 use Rattle.planner.proofs.Choices.{looking}
+use Rattle.planner.proofs.Room.{room-words}
 use borrow.Author.Needs.{needs}
 use Rattle.sailgarnet.proofs.moves.write_moves.Statement.{statement}
 use Rattle.sailgarnet.proofs.moves.write_moves.Tie as tie
 
 abbrev Inv-loop : tie.InvT-loop
-Inv-loop table state₀ chosen plan₀ below above₀ n₀ i₀ state plan above n i =
+Inv-loop table state₀ chosen plan₀ calls₀ below above₀ n₀ i₀ state plan calls above n i =
     (i ≤ countD table) × (i ≤ 64) × (length state ≡ length state₀) × Underway 4 wordBytes table state₀ chosen plan₀ i n state plan
-    × (above ≡ neededFrom (station table) (entries table state) 0 i (countD table - i))
+    × (above ≡ neededFrom (station table) (entries table state) 0 i (countD table - i)) × (length calls ≡ 65)
 
 abbrev μ-loop : tie.MeasureT-loop
-μ-loop table state₀ chosen plan₀ below above₀ n₀ i₀ state plan above n i = i
+μ-loop table state₀ chosen plan₀ calls₀ below above₀ n₀ i₀ state plan calls above n i = i
 
 chosen-needs-requires : tie.Need-chosen-needs-requires Inv-loop μ-loop
 chosen-needs-requires c κs =
@@ -31,7 +32,7 @@ chosen-needs-requires c κs =
 
 move-bytes-requires : tie.Need-move-bytes-requires Inv-loop μ-loop
 move-bytes-requires c κs =
-    let united = c .before .before in
+    let united = c .before .before .before in
     let added = united .before in
     let own = added .before in
     let test = own .before .before in
@@ -41,6 +42,7 @@ move-bytes-requires c κs =
     let inv = turn .loop .inv in
     let h = test .loop-test .taken in (
       turn-now _ _ _ (given .0) _ _ h (inv .0) (inv .3 .moving),
+      room-words _ (turn .loop .calls) (inv .5),
       needed-now _ _ _ (given .0) _ _ h (inv .0) (inv .3 .moving) _ _ _ (own .chosen-needs .ensures) (inv .4) (added .union .ensures) _ _ _
           (sets .needed-below .ensures) (united .union2 .ensures),
       bytes-room _ _ _ _ (given .0) _ _ _ _ (inv .3) h (inv .0) (given .1),
@@ -48,19 +50,19 @@ move-bytes-requires c κs =
 
 add-n : tie.Need-add-n Inv-loop μ-loop
 add-n c =
-    let written = c .before .before .before .before in
-    let own = written .before .before .before .before .before in
+    let written = c .before .before .before .before .before in
+    let own = written .before .before .before .before .before .before in
     let test = own .before .before in
     let turn = test .before in
     let sets = turn .before .before .before in
     let given = sets .before .before .before .before .before .before .before .pre in
     let inv = turn .loop .inv in
-    bytes-sum _ _ _ _ (given .0) _ _ _ _ (inv .3) (test .loop-test .taken) (inv .0) _ _ _ (written .move-bytes .ensures)
+    bytes-sum _ _ _ _ (given .0) _ _ _ _ (inv .3) (test .loop-test .taken) (inv .0) _ _ _ (written .move-bytes .ensures .0)
 
 loop-again : tie.Need-loop-again Inv-loop μ-loop
 loop-again c =
-    let written = c .before .before .before .before in
-    let added = written .before .before .before .before in
+    let written = c .before .before .before .before .before in
+    let added = written .before .before .before .before .before in
     let own = added .before in
     let test = own .before .before in
     let turn = test .before in
@@ -71,9 +73,10 @@ loop-again c =
       search needs,
       search needs,
       search needs,
-      bytes-next _ _ _ _ (given .0) _ _ _ _ (inv .3) h (inv .0) (given .1) _ _ _ (written .move-bytes .ensures),
+      bytes-next _ _ _ _ (given .0) _ _ _ _ (inv .3) h (inv .0) (given .1) _ _ _ (written .move-bytes .ensures .0),
       above-now _ _ _ (given .0) _ _ h (inv .0) (inv .3 .moving) _ _ _ (own .chosen-needs .ensures) (inv .4) (added .union .ensures) _
-          (written .move-bytes .ensures .state),
+          (written .move-bytes .ensures .0 .state),
+      search needs,
     )
 
 pub write-moves-spec : {M : Type 1} → statement M
@@ -92,6 +95,7 @@ write-moves-spec =
     (λ c. search needs)
     (λ c. search needs)
     (λ c κs. search needs)
+    (λ c. search needs)
     move-bytes-requires
     add-n
     (λ c. search needs)
