@@ -13,7 +13,7 @@ use lib.ListN.{getD}
 use Rattle.sets.proofs.Laws.{decide}
 use Rattle.rules.specs.Index.{eachFrom}
 use Rattle.rules.specs.Station.{Device, recordSize, deviceAt}
-use Rattle.rules.specs.Table.{Field, field, firstBad, resourceFields, parentGood, setGood, sxdGood, sxwGood, deepestGood, headFields}
+use Rattle.rules.specs.Table.{Field, field, firstBad, parentGood, setGood, sxdGood, sxwGood, deepestGood, headFields}
 use Rattle.rules.specs.Table.{setFields, sxdFields, sxwFields, deepestFields, valueFields, zeroFields, deviceFields}
 use Rattle.laws.specs.Carried.{All}
 use Rattle.laws.proofs.All.{all-each}
@@ -63,17 +63,6 @@ module _ (end : ℕ) where
 
 pub ruleset bad-loop = (bad-here, good-here, none-left)
 
--- ---- a resource's two fields
-module _ (t : List ℕ) (at : ℕ) where
-  pub level-bad : 4 < getD t at 0 → 0 ≡ firstBad 4 (resourceFields t at)
-  level-bad h = sym (field-bad 4 _ _ (lt-leb _ _ h))
-
-  pub second-bad : getD t at 0 ≤ 4 → (getD t (at + 1) 0 ≡ 0 → ⊥) → 1 ≡ firstBad 4 (resourceFields t at)
-  second-bad h n = sym (field-good 4 _ _ (le-leb _ _ h) ∙ field-bad 4 _ _ (ne-eqb _ _ n))
-
-  pub resource-fine : getD t at 0 ≤ 4 → getD t (at + 1) 0 ≡ 0 → 4 ≡ firstBad 4 (resourceFields t at)
-  resource-fine h e = sym (field-good 4 _ _ (le-leb _ _ h) ∙ field-good 4 _ _ (eq-eqb _ _ e) ∙ none-bad 4)
-
 -- ---- bytes 0 to 3 of a device's record
 module _ (end d : ℕ) (v : Device) (b : Bool) (e : b ≡ parentGood d v) where
   pub parent-bad : not b ≡ true → 0 ≡ firstBad end (headFields d v)
@@ -105,7 +94,7 @@ module _ (end d : ℕ) (v : Device) (b : Bool) (e : b ≡ parentGood d v) where
         pub head-fine : (n : ℕ) → n ≡ end → flags < 4 → n ≡ firstBad end (headFields d v)
         head-fine n i h = i ∙ sym (field-good end _ _ (lt-ltb _ _ (rw z at h)) ∙ none-bad end) ∙ past-masks
 
-pub ruleset bad-first = (level-bad, second-bad, resource-fine, parent-bad, ps-bad, pr-bad, flags-bad, head-fine)
+pub ruleset bad-first = (parent-bad, ps-bad, pr-bad, flags-bad, head-fine)
 
 -- ---- the fields that a loop goes through
 abbrev pub setField : ℕ → ℕ → Device → ℕ → Field

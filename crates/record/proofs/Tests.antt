@@ -3,23 +3,37 @@
 use mathlib.Core.Path.{_≡_, refl, sym, _∙_}
 use mathlib.Core.Bool.{Bool, not, _&&_, _||_, or-true, or-false}
 use mathlib.Core.List.{List}
-use Prim.Native.Nat.{ℕ, _+_, _%_, _^_, _≤_, _<_}
+use Prim.Native.Nat.{ℕ, zero, suc, _+_, _%_, _^_, _≤_, _<_}
 use native.Mathlib.Omega.{arith}
-use borrow.Author.Tests.{eqb-true, eqb-false, eq-eqb, ne-eqb, ltb-true, ltb-false, le-leb, lt-leb}
+use borrow.Author.Tests.{eqb-true, eqb-false, eq-eqb, ne-eqb, ltb-true, ltb-false, leb-true, leb-false, le-leb, lt-leb}
 use lib.Dec.{eqb, leb, ltb}
+use lib.ListN.{getD}
+use Rattle.words.specs.Words.{readLE}
 use Rattle.sets.specs.Sets.{member}
 use Rattle.sets.proofs.Laws.{decide}
 use Rattle.rules.specs.Station.{Device}
-use Rattle.rules.specs.Table.{firstBad, resourceFields, resourceGood, parentGood, present, setGood, sxdGood, sxwGood, deepestGood}
+use Rattle.rules.specs.Table.{firstBad, resourceGood, parentGood, present, setGood, sxdGood, sxwGood, deepestGood}
 use Rattle.rules.specs.Table.{objectsGood}
 
 -- a byte as a wider number has the byte's bits
 pub bit-is : (mask n x : ℕ) (b : Bool) → n ≡ mask → b ≡ member n x → b ≡ member mask x
 bit-is mask n x b e f = rw e at f
 
-pub resource-test : (t : List ℕ) (at v : ℕ) → v ≡ firstBad 4 (resourceFields t at) → eqb v 4 ≡ resourceGood t at
-unfolding resourceGood
-resource-test t at v e = rw e refl
+-- the two bytes of a resource that are tested, as one number
+pub resource-test : (t : List ℕ) (at v : ℕ) → v ≡ readLE 2 t at → leb v 4 ≡ resourceGood t at
+unfolding resourceGood readLE firstBad
+resource-test t at v e =
+    let a = getD t at 0 in
+    let b = getD t (at + 1) 0 in
+    decide (leb a 4)
+    (λ f. decide (eqb b 0)
+    (λ g. rw (f, g) (le-leb v 4 (omega (arith, e, leb-true a 4 f, eqb-true b 0 g))))
+    (λ g. rw (f, g) (lt-leb v 4 (omega (arith, e, some b (eqb-false b 0 g))))))
+    (λ f. rw f (lt-leb v 4 (omega (arith, e, leb-false a 4 f))))
+  where
+    some : (b : ℕ) → (b ≡ 0 → ⊥) → 0 < b
+    some zero z = absurd (z refl)
+    some (suc b) z = omega arith
 
 module _ (v : Device) where
   pub parent-test : (d p n : ℕ) → p ≡ v .parent → n ≡ p → n < 256 → d < 256 → leb ((n + 1) % 256) d ≡ parentGood d v

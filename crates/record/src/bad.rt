@@ -3,29 +3,15 @@ ghost use mathlib.Core.Path.{_≡_};
 ghost use Prim.Native.Nat.{_+_, _*_, _<_, _≤_};
 ghost use lib.ListN.{length};
 ghost use Rattle.rules.specs.Station.{Wide, limit, recordSize, fieldsSize, deviceAt};
-ghost use Rattle.rules.specs.Table.{firstBad, resourceFields, resourceGood, headFields, setFields, sxdFields, sxwFields};
+ghost use Rattle.rules.specs.Table.{firstBad, resourceGood, headFields, setFields, sxdFields, sxwFields};
 ghost use Rattle.rules.specs.Table.{deepestFields, valueFields, zeroFields, deviceFields};
 
-// Where a resource's first bad field starts, 4 if none is bad.
-fn bad_resource(table: &[u8], at: usize) -> usize
-    requires { ⌜ at + 4 ≤ length (now table) ⌝ }
-    ensures { λ r. ⌜ r ≡ firstBad 4 (resourceFields (now (table .entry)) at) ⌝ }
-{
-    if table[at] > 4 {
-        return 0;
-    }
-    if table[at + 1] != 0 {
-        return 1;
-    }
-    4
-}
-
-// Whether every field of a resource is good.
+// Whether every field of a resource is good: its level and the zero after it read as one number, which is then at most 4.
 pub fn resource_good(table: &[u8], at: usize) -> bool
     requires { ⌜ at + 4 ≤ length (now table) ⌝ }
     ensures { λ b. ⌜ b ≡ resourceGood (now (table .entry)) at ⌝ }
 {
-    bad_resource(table, at) == 4
+    words::read16(table, at) <= 4
 }
 
 // Where the first bad field of a device's bytes 0 to 3 starts, the record's size if none is bad; so the four after it, of other values.

@@ -23,11 +23,10 @@ pub fn lowest_resource(bytes: &[u8], first: usize, n: usize) -> usize
 {
     let mut i = 0;
     while i < n {
-        let r = i;
-        i += 1;
-        if resource_bad(bytes, first + 4 * r) {
-            return r;
+        if resource_bad(bytes, first + 4 * i) {
+            return i;
         }
+        i += 1;
     }
     i
 }

@@ -1,12 +1,13 @@
 -- The values of a state image, as the code that tests them has them.
 use mathlib.Core.Path.{_≡_, refl, sym, ap, _∙_}
 use mathlib.Core.Bool.{Bool, true, false, not, _&&_, _||_, and-assoc}
+use mathlib.Core.Bool as bool
 use mathlib.Core.List.{List}
-use Prim.Native.Nat.{ℕ, _+_, _*_, _^_, _≤_, _<_}
+use Prim.Native.Nat.{ℕ, zero, suc, _+_, _*_, _^_, _≤_, _<_}
 use native.Mathlib.Nat.{add-assoc}
 use native.Mathlib.Omega.{arith}
-use borrow.Author.Tests.{ltb-true, lt-ltb, le-ltb, le-leb, eqb-true, eq-eqb, not-true, not-false}
-use lib.Dec.{eqb, ltb}
+use borrow.Author.Tests.{ltb-true, lt-ltb, le-ltb, leb-true, le-leb, eqb-true, eqb-false, eq-eqb, not-true, not-false}
+use lib.Dec.{eqb, leb, ltb}
 use Rattle.sets.specs.Sets.{union}
 use Rattle.sets.proofs.Laws.{decide, union-none}
 use Rattle.words.specs.Words.{readLE}
@@ -14,6 +15,7 @@ use Rattle.words.proofs.Twice.{read-split}
 use Rattle.rules.specs.declared.Entry.{Entry}
 use Rattle.rules.specs.Index.{every}
 use Rattle.rules.specs.Station.{width, limit, countR, countD, stationOf, station}
+use Rattle.rules.specs.Power.{isArmed}
 use Rattle.rules.specs.Status.{entryAt, entries, entryGood, entryZero, entriesGood, onGood}
 use Rattle.rules.proofs.Index.{every-at, every-of}
 use Rattle.record.proofs.AllGood.{sum-zero}
@@ -35,6 +37,37 @@ module _ (e : Entry) where
       let sleep : e .sleep ≡ 0 = omega arith in
       let wake : e .wake ≡ 0 = omega arith in
       rw (armed, sleep, wake, le-leb (e .state) 4 (omega arith)) refl
+
+  -- armed, an entry has its numbers tested alone
+  pub armed-told : eqb (e .armed) 1 && leb (e .state) 4 && leb (e .sleep) 4 && leb (e .wake) 4 ≡ isArmed e && entryGood e
+  unfolding entryGood
+  armed-told =
+      decide (eqb (e .armed) 1)
+      (λ a. rw (a, le-leb (e .armed) 1 (omega (arith, eqb-true (e .armed) 1 a)), bool.and-true (leb (e .state) 4))
+      (sym (bool.and-true _)))
+      (λ a. rw a refl)
+
+  -- not armed, a good entry is a number of at most 4
+  good-low : eqb (e .armed) 1 ≡ false → entryGood e ≡ true → valueOf e ≤ 4
+  unfolding entryGood
+  good-low a g =
+      let all = both-true (leb (e .state) 4 && leb (e .armed) 1 && leb (e .sleep) 4 && leb (e .wake) 4)
+      (eqb (e .armed) 1 || eqb (e .sleep) 0 && eqb (e .wake) 0) g in
+      let pair = both-true (eqb (e .sleep) 0) (eqb (e .wake) 0) (rw a at (all .1)) in
+      let three = both-true (leb (e .state) 4 && leb (e .armed) 1 && leb (e .sleep) 4) (leb (e .wake) 4) (all .0) in
+      let two = both-true (leb (e .state) 4 && leb (e .armed) 1) (leb (e .sleep) 4) (three .0) in
+      let one = both-true (leb (e .state) 4) (leb (e .armed) 1) (two .0) in
+      let unarmed : e .armed ≡ 0 = other-zero (e .armed) (leb-true (e .armed) 1 (one .1)) (eqb-false (e .armed) 1 a) in
+      omega (arith, unarmed, leb-true (e .state) 4 (one .0), eqb-true (e .sleep) 0 (pair .0), eqb-true (e .wake) 0 (pair .1))
+    where
+      other-zero : (n : ℕ) → n ≤ 1 → (n ≡ 1 → ⊥) → n ≡ 0
+      other-zero zero h z = refl
+      other-zero (suc n) h z = absurd (z (omega arith))
+
+  high-armed : 4 < valueOf e → entryGood e ≡ isArmed e && entryGood e
+  high-armed h =
+      decide (eqb (e .armed) 1) (λ a. rw a refl)
+      (λ a. rw a (decide (entryGood e) (λ g. let low = good-low a g in absurd (omega (arith, low))) (λ g. g)))
 
   none-zero : valueOf e ≡ 0 → entryZero e ≡ true
   unfolding entryZero
@@ -65,14 +98,17 @@ module _ (b : List ℕ) (k w : ℕ) (q : w ≡ readLE 4 b (4 * k)) where
   pub word-good : w ≤ 4 → true ≡ entryGood (entryAt b (4 * k))
   word-good l = sym (low-good here (omega (arith, value-is)))
 
+  pub entry-told : 4 < w → (e : Entry) (g : Bool) → e ≡ entryAt b (4 * k) → g ≡ isArmed e && entryGood e
+      → g ≡ entryGood (entryAt b (4 * k))
+  entry-told l e g read told =
+      told ∙ ap (λ (u : Entry). isArmed u && entryGood u) read ∙ sym (high-armed here (omega (arith, value-is)))
+
   pub word-zero : eqb w 0 ≡ entryZero (entryAt b (4 * k))
   word-zero =
       same-test (eqb w 0) (entryZero here)
       (λ e. none-zero here (omega (arith, value-is, eqb-true w 0 e)))
       (λ e. eq-eqb w 0 (omega (arith, value-is, zero-none here e)))
 
-pub entry-told : (b : List ℕ) (k : ℕ) (e : Entry) (g : Bool) → e ≡ entryAt b (4 * k) → g ≡ entryGood e → g ≡ entryGood (entryAt b (4 * k))
-entry-told b k e g read q = rw (← read) q
 
 -- ---- the loop over the entries from n on
 

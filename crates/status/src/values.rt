@@ -1,23 +1,23 @@
 // Whether the values of a state image are in range, answer 7, apart from its length.
 ghost use mathlib.Core.Path.{_≡_};
-ghost use mathlib.Core.Bool.{_||_};
+ghost use mathlib.Core.Bool.{_&&_, _||_};
 ghost use Prim.Native.Nat.{_+_, _*_, _<_, _≤_};
 ghost use lib.Dec.{ltb};
 ghost use lib.ListN.{length};
 ghost use Rattle.rules.specs.Index.{every};
 ghost use Rattle.rules.specs.Station.{width, limit, station};
+ghost use Rattle.rules.specs.Power.{isArmed};
 ghost use Rattle.rules.specs.Status.{entryAt, entriesSize, entries, entryGood, entryZero, entriesGood, onGood};
 ghost use Rattle.table.specs.Layout.{WellSized};
 
-// Each number in its range, and no wake pair unless armed.
-pub fn entry_good(e: rules::Entry) -> bool
-    ensures { λ r. ⌜ r ≡ entryGood e ⌝ }
+// The entry is armed, and each number is in its range.
+fn armed_good(e: rules::Entry) -> bool
+    ensures { λ r. ⌜ r ≡ isArmed e && entryGood e ⌝ }
 {
-    let no_pair = (e.sleep == 0) & (e.wake == 0);
-    (e.state <= 4) & (e.armed <= 1) & (e.sleep <= 4) & (e.wake <= 4) & ((e.armed == 1) | no_pair)
+    (e.armed == 1) & (e.state <= 4) & (e.sleep <= 4) & (e.wake <= 4)
 }
 
-// Entry k is good. Read as one number, an entry that is not armed is good when that is at most 4; only the others are taken apart.
+// Entry k is good. Read as one number, an entry that is not armed is good when that is at most 4; any other must be armed.
 fn place_good(devices: &[u8], k: usize) -> bool
     requires { ⌜ 4 * k + 4 ≤ length (now devices) ⌝ }
     ensures { λ r. ⌜ r ≡ entryGood (entryAt (now (devices .entry)) (4 * k)) ⌝ }
@@ -25,7 +25,7 @@ fn place_good(devices: &[u8], k: usize) -> bool
     if words::read32(devices, 4 * k) <= 4 {
         return true;
     }
-    entry_good(crate::image::entry(devices, k))
+    armed_good(crate::image::entry(devices, k))
 }
 
 // Each of the first n entries is good.

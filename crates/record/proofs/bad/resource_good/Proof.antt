@@ -1,4 +1,4 @@
--- No field is bad exactly if the first bad one is past the end.
+-- Both fields are good exactly if the number that they make is at most 4.
 use Rattle.record.proofs.Tests.{record-tests}
 use borrow.Author.Needs.{needs}
 use Rattle.record.proofs.bad.resource_good.Statement.{statement}
