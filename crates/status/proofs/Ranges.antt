@@ -109,7 +109,6 @@ module _ (b : List ℕ) (k w : ℕ) (q : w ≡ readLE 4 b (4 * k)) where
       (λ e. none-zero here (omega (arith, value-is, eqb-true w 0 e)))
       (λ e. eq-eqb w 0 (omega (arith, value-is, zero-none here e)))
 
-
 -- ---- the loop over the entries from n on
 
 module _ (b : List ℕ) (n : ℕ) where
