@@ -3,7 +3,7 @@ use mathlib.Core.Path.{_≡_, refl, sym, _∙_}
 use mathlib.Core.Bool.{Bool, true, false, not, _||_, true≢false}
 use Prim.Native.Nat.{ℕ, _≤_, _<_}
 use native.Mathlib.Omega.{arith}
-use borrow.Author.Tests.{eqb-true, eqb-false, ltb-true, ltb-false, lt-ltb, not-true, not-false}
+use borrow.Author.Tests.{eqb-true, eqb-false, ltb-true, lt-ltb, not-true, not-false}
 use lib.Dec.{eqb, ltb}
 use Rattle.sets.specs.Sets.{member, minus, single, Lowest}
 use Rattle.sets.proofs.Laws.{decide, member-none, minus-single-same, minus-single-other, minus-single-lt}

@@ -73,9 +73,8 @@ fn wake_d_if_armed(e: Entry, y: u8) -> bool
     y == e.wake
 }
 
-// Device d, whose entry is e, may take state y, which is not shallower than the `shallowest` one. What takes least time is tested
-// first.
-fn may_take(table: &[u8], x: u8, d: usize, at: usize, w: usize, e: Entry, y: u8) -> bool
+// Whether the other rules let device d, whose entry is e, take state y: support, power and wake D. What takes least time is tested first.
+fn other_rules_allow(table: &[u8], x: u8, d: usize, at: usize, w: usize, e: Entry, y: u8) -> bool
     requires { ⌜ RecordAt (now table) d at w ⌝ }
     ensures { λ r. ⌜ r ≡ supported (station (now (table .entry))) d y
         && poweredIn (station (now (table .entry))) x (needs (station (now (table .entry))) d (inState e y)) && wakeDIfArmed e y ⌝ }
@@ -107,7 +106,7 @@ fn least_state(table: &[u8], devices: &[u8], chosen: &[u8], x: u8, d: usize) -> 
     let e = status::image::entry(devices, d);
     let mut y = shallowest(table, chosen, x, d, at, w, e.state);
     while y < 5 {
-        if may_take(table, x, d, at, w, e, y) {
+        if other_rules_allow(table, x, d, at, w, e, y) {
             return y;
         }
         y += 1;

@@ -2,7 +2,7 @@
 use mathlib.Core.Path.{_≡_, refl, sym, _∙_}
 use mathlib.Core.Bool.{Bool, true, false, not, cond}
 use mathlib.Core.List.{List, [], _∷_}
-use Prim.Native.Nat.{ℕ, _≤_}
+use Prim.Native.Nat.{ℕ}
 use native.Mathlib.Omega.{arith}
 use borrow.Author.Tests.{eq-eqb, ne-eqb, not-true, not-false}
 use lib.Dec.{eqb, ltb}
@@ -24,7 +24,7 @@ use Rattle.laws.proofs.Accepted.{accepted}
 use Rattle.laws.proofs.States.{GoodValues, values-of}
 use Rattle.table.proofs.Verdicts.{sized-done, sized-told, accepted-is, table-passed}
 use Rattle.status.proofs.Keeps.{with-power, without-power}
-use Rattle.status.specs.Ready.{Ready, statusWith, consistencyWith}
+use Rattle.status.specs.Ready.{Ready, statusWith, consistencyVerdictWith}
 
 -- ---- the image; n is the size that it has, good and fits are what the tests of the entries and of the on-set returned
 module _ (t b : List ℕ) (n : ℕ) (z : n ≡ imageSize (width t)) where
@@ -83,7 +83,7 @@ module _ (t b : List ℕ) (g : Bool) (i : g ≡ imageGood t b) where
           good = values .entries;
         }
 
-    pub state-is : (on : ℕ) (v : Verdict) → on ≡ status t b .on → v ≡ consistencyWith true (station t) (statusWith t b on)
+    pub state-is : (on : ℕ) (v : Verdict) → on ≡ status t b .on → v ≡ consistencyVerdictWith true (station t) (statusWith t b on)
         → v ≡ stateVerdict t b
     unfolding stateVerdict valuesVerdict statusOf consistencyVerdict
     state-is on v r c =
@@ -91,7 +91,7 @@ module _ (t b : List ℕ) (g : Bool) (i : g ≡ imageGood t b) where
         (c ∙ with-power (station t) (statusWith t b on) ∙ sym (lowest-last _ (station t .devices) (Refused Inconsistent) (refused-stops Inconsistent)))
 
     -- whatever is on
-    pub but-power-is : (on : ℕ) (v : Verdict) → v ≡ consistencyWith false (station t) (statusWith t b on) → v ≡ stateButPowerVerdict t b
+    pub but-power-is : (on : ℕ) (v : Verdict) → v ≡ consistencyVerdictWith false (station t) (statusWith t b on) → v ≡ stateButPowerVerdict t b
     unfolding stateButPowerVerdict valuesVerdict statusOf butPowerVerdict
     but-power-is on v c =
         rw (← i, not-false g n, unless-of true BadState 0 refl, first-pass (Done 0) _ (Done 0) (done-passes 0))

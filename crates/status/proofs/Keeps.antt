@@ -21,7 +21,7 @@ use Rattle.rules.specs.Status.{powered, consistent, consistencyVerdict}
 use Rattle.rules.proofs.Index.{every-at}
 use Rattle.laws.proofs.Tests.{both-true, or-cases}
 use Rattle.rules.specs.BringUp.{butPowerVerdict}
-use Rattle.status.specs.Ready.{Ready, statusWith, consistentWith, consistencyWith}
+use Rattle.status.specs.Ready.{Ready, statusWith, consistentWith, consistencyVerdictWith}
 use Rattle.status.proofs.Held.{entry-in, entry-is}
 use Rattle.status.proofs.Loops.{Looking, lowest-found, lowest-all}
 
@@ -151,23 +151,23 @@ pub ruleset keep-laws = (
 
 -- ---- all devices
 module _ (power : Bool) (s : Station) (st : Status) (n i : ℕ) (look : Looking (consistentWith power s st) n i) (all : n ≡ s .devices) where
-  pub inconsistent : (b : Bool) → i < n → b ≡ consistentWith power s st i → not b ≡ true → Refused Inconsistent i ≡ consistencyWith power s st
-  unfolding consistencyWith
+  pub inconsistent : (b : Bool) → i < n → b ≡ consistentWith power s st i → not b ≡ true → Refused Inconsistent i ≡ consistencyVerdictWith power s st
+  unfolding consistencyVerdictWith
   inconsistent b h e t = lowest-found (consistentWith power s st) n i b (Refused Inconsistent) look h e t
       ∙ ap (λ (k : ℕ). lowest (λ j. not (consistentWith power s st j)) k (Refused Inconsistent)) all
 
-  pub consistent-all : n ≤ i → Done 0 ≡ consistencyWith power s st
-  unfolding consistencyWith
+  pub consistent-all : n ≤ i → Done 0 ≡ consistencyVerdictWith power s st
+  unfolding consistencyVerdictWith
   consistent-all h = lowest-all (consistentWith power s st) n i (Refused Inconsistent) look h
       ∙ ap (λ (k : ℕ). lowest (λ j. not (consistentWith power s st j)) k (Refused Inconsistent)) all
 
 -- with a look at power it is answer 8, and without one answer 8 of bring-up
-pub with-power : (s : Station) (st : Status) → consistencyWith true s st ≡ consistencyVerdict s st
-unfolding consistencyWith consistencyVerdict consistentWith consistent
+pub with-power : (s : Station) (st : Status) → consistencyVerdictWith true s st ≡ consistencyVerdict s st
+unfolding consistencyVerdictWith consistencyVerdict consistentWith consistent
 with-power s st = refl
 
-pub without-power : (s : Station) (st : Status) → consistencyWith false s st ≡ butPowerVerdict s (st .entries)
-unfolding consistencyWith butPowerVerdict consistentWith
+pub without-power : (s : Station) (st : Status) → consistencyVerdictWith false s st ≡ butPowerVerdict s (st .entries)
+unfolding consistencyVerdictWith butPowerVerdict consistentWith
 without-power s st =
     ap (λ (f : ℕ → Bool). lowest f (s .devices) (Refused Inconsistent)) (fun-ext λ d. ap not (and-true (consistentButPower s (st .entries) d)))
 

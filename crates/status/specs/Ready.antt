@@ -31,8 +31,8 @@ unfoldable pub consistentWith : Bool → Station → Status → ℕ → Bool
 consistentWith power s st d = consistentButPower s (st .entries) d && (not power || powered s st d)
 
 -- 8 with the lowest device that is not, or done
-unfoldable pub consistencyWith : Bool → Station → Status → Verdict
-consistencyWith power s st = lowest (λ d. not (consistentWith power s st d)) (s .devices) (Refused Inconsistent)
+unfoldable pub consistencyVerdictWith : Bool → Station → Status → Verdict
+consistencyVerdictWith power s st = lowest (λ d. not (consistentWith power s st d)) (s .devices) (Refused Inconsistent)
 
 -- the status of these bytes with another entry for device d and an on-set
 abbrev pub entryWith : List ℕ → List ℕ → ℕ → Entry → ℕ → Status

@@ -3,7 +3,7 @@ ghost use mathlib.Core.Path.{_≡_};
 ghost use Rattle.rules.specs.Station.{station};
 ghost use Rattle.rules.specs.Status.{entries, parentAllows, wakeConsistent, consistentButPower, powered};
 ghost use Rattle.table.specs.Layout.{RecordAt};
-ghost use Rattle.status.specs.Ready.{Ready, statusWith, consistentWith, consistencyWith};
+ghost use Rattle.status.specs.Ready.{Ready, statusWith, consistentWith, consistencyVerdictWith};
 
 // Device d's parent, if there is one, is not deeper than state x.
 pub fn parent_allows(table: &[u8], devices: &[u8], d: usize, at: usize, w: usize, x: u8) -> bool
@@ -84,7 +84,7 @@ pub fn consistent(
 // The lowest device that does not. One loop for both, so that the compiler puts the rules into it.
 pub fn consistency(table: &[u8], devices: &[u8], on: u64, power: bool) -> rules::Verdict
     requires { ⌜ Ready (now table) (now devices) ⌝ }
-    ensures { λ r. ⌜ r ≡ consistencyWith power (station (now (table .entry)))
+    ensures { λ r. ⌜ r ≡ consistencyVerdictWith power (station (now (table .entry)))
         (statusWith (now (table .entry)) (now (devices .entry)) on) ⌝ }
 {
     let n = table::fields::devices(table);

@@ -96,50 +96,10 @@ pub fn ps(table: &[u8], d: usize) -> u8
     record::read::ps(table, start(table, d), width(table))
 }
 
-// The `_PR` mask.
-pub fn pr(table: &[u8], d: usize) -> u8
-    requires { ⌜ WellSized (now table) × (d < countD (now table)) ⌝ }
-    ensures { λ v. ⌜ v ≡ station (now (table .entry)) .device d .pr ⌝ }
-{
-    record::read::pr(table, start(table, d), width(table))
-}
-
 // Bit 0 `_PRW`, bit 1 `_DSW`.
 pub fn flags(table: &[u8], d: usize) -> u8
     requires { ⌜ WellSized (now table) × (d < countD (now table)) ⌝ }
     ensures { λ v. ⌜ v ≡ station (now (table .entry)) .device d .flags ⌝ }
 {
     record::read::flags(table, start(table, d), width(table))
-}
-
-// Set k: `_PR0` to `_PR3`, and `_PRW` for 4, in 64 bits for both versions.
-pub fn set(table: &[u8], d: usize, k: usize) -> u64
-    requires { ⌜ WellSized (now table) × (d < countD (now table)) × (k < 5) ⌝ }
-    ensures { λ v. ⌜ v ≡ station (now (table .entry)) .device d .sets k ⌝ }
-{
-    record::read::set(table, start(table, d), width(table), k)
-}
-
-// `_SxD`, or 255; S0 has none.
-pub fn sxd(table: &[u8], d: usize, x: usize) -> u8
-    requires { ⌜ WellSized (now table) × (d < countD (now table)) × (x < 5) ⌝ }
-    ensures { λ v. ⌜ v ≡ station (now (table .entry)) .device d .sxd x ⌝ }
-{
-    record::read::sxd(table, start(table, d), width(table), x)
-}
-
-// `_SxW`, or 255.
-pub fn sxw(table: &[u8], d: usize, x: usize) -> u8
-    requires { ⌜ WellSized (now table) × (d < countD (now table)) × (x < 5) ⌝ }
-    ensures { λ v. ⌜ v ≡ station (now (table .entry)) .device d .sxw x ⌝ }
-{
-    record::read::sxw(table, start(table, d), width(table), x)
-}
-
-// The deepest sleep state of `_PRW`.
-pub fn deepest(table: &[u8], d: usize) -> u8
-    requires { ⌜ WellSized (now table) × (d < countD (now table)) ⌝ }
-    ensures { λ v. ⌜ v ≡ station (now (table .entry)) .device d .deepest ⌝ }
-{
-    record::read::deepest(table, start(table, d), width(table))
 }
