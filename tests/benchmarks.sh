@@ -63,9 +63,11 @@ $(cat target/bench.md)
 Neither side has a hint on what to inline. Of the requests on a full table those with most calls have the highest ratios:
 the planner sorts the keys by insertion, with a branch for each key that the processor cannot foresee, and the checker
 looks at each word. So it is at bring-up. On the bench station the table is small, and the call itself, a buffer that has
-room for version 2, the state, the change by value and the decoding of each word weigh more. There a value that is stored in parts and read as one soon after shows in the time and not in the
-instructions: the read waits until the parts have been stored. Where a list of words or a slice was handed on so, it is
-handed on so no longer; the own call in a change, two bytes, still is.
+room for version 2, the state, the change by value and the decoding of each word weigh more. There a value that is
+stored in parts and read as one soon after shows in the time and not in the instructions: the read waits until the parts
+have been stored. Where a list of words or a slice was handed on so, it is handed on so no longer; the own call in a
+change, two bytes, still is. Of sleep entry the ratio is low where many devices move: what the devices above and below
+need is carried from move to move, and the reference works it out for each.
 
 ## Instructions
 
