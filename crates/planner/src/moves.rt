@@ -78,33 +78,33 @@ pub fn write_move(
     n
 }
 
-// The same, with the calls from word `at` of the plan on.
+// The same, with the calls from word `at` of the plan on; the buffer has the list of this move at its front.
 fn move_words(
     table: &[u8],
     state: &mut [u8],
     chosen: &[u8],
     d: usize,
     needed: u64,
-    calls: &mut [u32],
+    buffer: &mut [u32],
     plan: &mut [u32],
     at: usize,
 ) -> usize
-    requires { ⌜ Turn (now table) (now state) (now chosen) d × (listRoom (width (now table)) ≤ length (now calls))
+    requires { ⌜ Turn (now table) (now state) (now chosen) d × (listRoom (width (now table)) ≤ length (now buffer))
         × (needed ≡ endSet (station (now table)) (entries (now table) (now state)) (moveTo d (statesIn (now chosen) d)))
         × (at + length (moveList (now table) (now state) (statesIn (now chosen)) d) ≤ length (now plan)) ⌝ }
     ensures { λ r. ⌜ WrittenFrom 1 (λ ws. ws) (moveList (now (table .entry)) (now (state .entry)) (statesIn (now (chosen .entry))) d)
         (stateMoved (now (table .entry)) (now (state .entry)) (statesIn (now (chosen .entry))) d)
         (now (plan .entry)) at r (now (state .exit)) (now (plan .exit))
-        × (now (calls .exit) ≡ put (now (calls .entry)) 0
+        × (now (buffer .exit) ≡ put (now (buffer .entry)) 0
         (moveList (now (table .entry)) (now (state .entry)) (statesIn (now (chosen .entry))) d)) ⌝ }
 {
-    let n = write_move(table, state, chosen, d, needed, calls);
-    words::copy_words(calls, n, plan, at);
+    let n = write_move(table, state, chosen, d, needed, buffer);
+    words::copy_words(buffer, n, plan, at);
     n
 }
 
 // The calls of all moves, and the state after them. What the devices below the one that moves need is worked out once, and what those from
-// it on need is carried on from move to move.
+// it on need is carried on from move to move. One buffer serves all moves: to make one sets all its words to zero.
 fn write_moves(table: &[u8], state: &mut [u8], chosen: &[u8], plan: &mut [u32]) -> usize
     requires { ⌜ Given (now table) (now state) (now chosen)
         × (limit (width (now table)) * listRoom (width (now table)) ≤ length (now plan)) ⌝ }
@@ -115,7 +115,7 @@ fn write_moves(table: &[u8], state: &mut [u8], chosen: &[u8], plan: &mut [u32]) 
         (allMoves (now (table .entry)) (now (state .entry)) (statesIn (now (chosen .entry)))))
         (now (plan .entry)) 0 r (now (state .exit)) (now (plan .exit)) ⌝ }
 {
-    let mut calls = [0u32; 65];
+    let mut buffer = [0u32; 65];
     let mut below = [0u64; 64];
     status::needed::needed_below(table, state, &mut below);
     let mut above: u64 = 0;
@@ -125,7 +125,7 @@ fn write_moves(table: &[u8], state: &mut [u8], chosen: &[u8], plan: &mut [u32]) 
         i -= 1;
         above = sets::union(chosen_needs(table, state, chosen, i), above);
         let needed = sets::union(below[i], above);
-        n += move_words(table, state, chosen, i, needed, &mut calls, plan, n);
+        n += move_words(table, state, chosen, i, needed, &mut buffer, plan, n);
     }
     n
 }

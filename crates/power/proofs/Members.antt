@@ -22,7 +22,7 @@ module _ (f : ℕ → Bool) (n : ℕ) (v : Bool) where
       let z : set ≡ 0 = omega arith in
       sym (every-of _ n (λ i l. rw (z, member-none i) refl)) ∙ inv
 
-  -- r is a member, and b is what the test of it returned
+  -- r is the lowest member, and b is what the test of it returned
   module _ (set r : ℕ) (b : Bool) (inv : everyIn f set n ≡ v) (low : Lowest set r) (q : b ≡ (not (ltb r n) || f r)) where
     m : member set r ≡ true
     m = low .inside

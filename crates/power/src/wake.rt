@@ -1,7 +1,7 @@
 // For which sleep state and from which device state a device may wake the system.
 ghost use mathlib.Core.Path.{_≡_};
 ghost use mathlib.Core.Bool.{_||_, not};
-ghost use Prim.Native.Nat.{_+_, _%_, _<_};
+ghost use Prim.Native.Nat.{_<_};
 ghost use lib.Dec.{leb, ltb};
 ghost use Rattle.rules.specs.Station.{countR, station};
 ghost use Rattle.rules.specs.Power.{poweredIn, wakeFrom, wakePowered, wakeRange, wakeState, wakePair};
@@ -89,19 +89,13 @@ const VERDICTS: [u32; 5] = [
         | 0b11000 << 25, // `_SxD` 3, `_SxW` 4
 ];
 
-// The index of an `_SxD` in `VERDICTS`, and of an `_SxW` among its six rows: an absent one, 255, comes first, and then 0, 1, ..
-fn sx_index(n: u8) -> u32
-    ensures { λ r. ⌜ r ≡ (n + 1) % 256 ⌝ }
-{
-    (n as u32 + 1) % 256
-}
-
-// Whether x is in the range that `_SxD` and `_SxW` give, 255 for an absent one. Values that no accepted table holds give no range.
+// Whether x is in the range that `_SxD` and `_SxW` give, 255 for an absent one. An absent one has index 0, and then come 0, 1, ..: in
+// `VERDICTS` for an `_SxD`, among its six rows for an `_SxW`. Values that no accepted table holds give no range.
 pub fn wake_range(sxd: u8, sxw: u8, x: u8) -> bool
     ensures { λ r. ⌜ r ≡ wakeRange sxd sxw x ⌝ }
 {
-    let from = sx_index(sxd);
-    let to = sx_index(sxw);
+    let from = words::next8(sxd);
+    let to = words::next8(sxw);
     if from > 4 || to > 5 || x > 4 {
         return false;
     }

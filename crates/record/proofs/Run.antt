@@ -1,5 +1,5 @@
 -- The lowest bad record of a run: what the two loops keep.
-use mathlib.Core.Path.{_≡_, ap}
+use mathlib.Core.Path.{_≡_}
 use mathlib.Core.Bool.{Bool, not}
 use mathlib.Core.List.{List}
 use Prim.Native.Nat.{ℕ, _+_, _*_, _-_, _^_, _≤_, _<_}
@@ -8,9 +8,6 @@ use native.Mathlib.Numerals.{add-one}
 use native.Mathlib.Omega.{arith}
 use Rattle.rules.proofs.Index.{lowestOf}
 use Rattle.record.specs.Good.{sizeWith, goodWith}
-
-pub opposite : (a b : Bool) → a ≡ b → not a ≡ not b
-opposite a b e = ap not e
 
 -- ---- record i starts at the first's byte and i times the size
 pub place-starts : (first size : ℕ) → first ≡ first + size * 0

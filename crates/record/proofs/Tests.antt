@@ -1,6 +1,6 @@
 -- Each rule of a device as a test of its fields: what the checks of one record cite. What the code asks of another function, a field, a bit
 -- or a test, comes as that function's answer, with what it says.
-use mathlib.Core.Path.{_≡_, refl, sym, _∙_}
+use mathlib.Core.Path.{_≡_, refl, sym, ap, _∙_}
 use mathlib.Core.Bool.{Bool, not, _&&_, _||_, or-true, or-false}
 use mathlib.Core.List.{List}
 use Prim.Native.Nat.{ℕ, zero, suc, _+_, _%_, _^_, _≤_, _<_}
@@ -20,9 +20,9 @@ pub bit-is : (mask n x : ℕ) (b : Bool) → n ≡ mask → b ≡ member n x →
 bit-is mask n x b e f = rw e at f
 
 -- the two bytes of a resource that are tested, as one number
-pub resource-test : (t : List ℕ) (at v : ℕ) → v ≡ readLE 2 t at → leb v 4 ≡ resourceGood t at
+both-low : (t : List ℕ) (at v : ℕ) → v ≡ readLE 2 t at → leb v 4 ≡ resourceGood t at
 unfolding resourceGood readLE firstBad
-resource-test t at v e =
+both-low t at v e =
     let a = getD t at 0 in
     let b = getD t (at + 1) 0 in
     decide (leb a 4)
@@ -35,11 +35,14 @@ resource-test t at v e =
     some zero z = absurd (z refl)
     some (suc b) z = omega arith
 
+pub resource-test : (t : List ℕ) (at v : ℕ) → v ≡ readLE 2 t at → not (leb v 4) ≡ not (resourceGood t at)
+resource-test t at v e = ap not (both-low t at v e)
+
 module _ (v : Device) where
-  pub parent-test : (d p n : ℕ) → p ≡ v .parent → n ≡ p → n < 256 → d < 256 → leb ((n + 1) % 256) d ≡ parentGood d v
+  pub parent-test : (d n m : ℕ) → n ≡ v .parent → n < 256 → m ≡ (n + 1) % 256 → leb m d ≡ parentGood d v
   unfolding parentGood
-  parent-test d p n e f h k =
-      rw (← e, ← f)
+  parent-test d n m e h f =
+      rw (← e, f)
       (decide (eqb n 255)
       (λ g. let wraps : (n + 1) % 256 ≡ 0 = omega (arith, eqb-true n 255 g) in
       rw (g, wraps) (le-leb 0 d (omega arith) ∙ sym (or-true (ltb n d))))

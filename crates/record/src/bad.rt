@@ -1,18 +1,10 @@
 // The first bad field of a record: where in the record it starts.
 ghost use mathlib.Core.Path.{_≡_};
-ghost use Prim.Native.Nat.{_+_, _*_, _<_, _≤_};
+ghost use Prim.Native.Nat.{_+_, _<_, _≤_};
 ghost use lib.ListN.{length};
 ghost use Rattle.rules.specs.Station.{Wide, limit, recordSize, fieldsSize, deviceAt};
-ghost use Rattle.rules.specs.Table.{firstBad, resourceGood, headFields, setFields, sxdFields, sxwFields};
+ghost use Rattle.rules.specs.Table.{firstBad, headFields, setFields, sxdFields, sxwFields};
 ghost use Rattle.rules.specs.Table.{deepestFields, valueFields, zeroFields, deviceFields};
-
-// Whether every field of a resource is good: its level and the zero after it read as one number, which is then at most 4.
-pub fn resource_good(table: &[u8], at: usize) -> bool
-    requires { ⌜ at + 4 ≤ length (now table) ⌝ }
-    ensures { λ b. ⌜ b ≡ resourceGood (now (table .entry)) at ⌝ }
-{
-    words::read16(table, at) <= 4
-}
 
 // Where the first bad field of a device's bytes 0 to 3 starts, the record's size if none is bad; so the four after it, of other values.
 fn bad_head(table: &[u8], at: usize, w: usize, d: usize) -> usize

@@ -1,5 +1,5 @@
 // The tests of one field of a device's record, and whether its objects agree.
-// Tests are joined by `&` and `|`, not `&&` and `||`: no branch, and the value is the rule as it is written.
+// Tests are joined by `&` and `|`, not `&&` and `||`: no branch, and the value is mostly the rule as it is written.
 ghost use mathlib.Core.Path.{_≡_};
 ghost use Prim.Native.Nat.{_+_, _<_, _≤_};
 ghost use lib.ListN.{length};
@@ -7,13 +7,13 @@ ghost use Rattle.sets.specs.Sets.{member};
 ghost use Rattle.rules.specs.Station.{Wide, limit, fieldsSize, deviceAt};
 ghost use Rattle.rules.specs.Table.{parentGood, present, setGood, sxdGood, sxwGood, deepestGood, objectsGood};
 
-// A parent is lower than its child; 255 for none. One comparison for both: the next number after 255 is 0 in a byte.
+// A parent is lower than its child; 255 for none. One comparison for both, of the number after the parent's.
 pub fn parent_good(table: &[u8], at: usize, w: usize, d: usize) -> bool
     requires { ⌜ Wide w × (at + fieldsSize w ≤ length (now table)) × (d < 256) ⌝ }
     ensures { λ b. ⌜ b ≡ parentGood d (deviceAt w (now (table .entry)) at) ⌝ }
 {
     let parent = crate::read::parent(table, at, w);
-    (words::wide(parent) + 1) % 256 <= d as u32
+    words::next8(parent) as usize <= d
 }
 
 // Bit x of a mask.

@@ -8,12 +8,13 @@ ghost use Rattle.rules.specs.Station.{Wide, limit};
 ghost use Rattle.rules.specs.Table.{allGood, resourceGood, zeroFields};
 ghost use Rattle.record.specs.Good.{sizeWith, goodWith};
 
-// Whether a resource has a bad field.
+// Whether a resource has a bad field. Its level and the zero after it are read as one number, which is at most 4 if both are good.
 fn resource_bad(bytes: &[u8], at: usize) -> bool
     requires { ⌜ at + 4 ≤ length (now bytes) ⌝ }
     ensures { λ b. ⌜ b ≡ not (resourceGood (now (bytes .entry)) at) ⌝ }
 {
-    !crate::bad::resource_good(bytes, at)
+    let good = words::read16(bytes, at) <= 4;
+    !good
 }
 
 // The lowest bad one of n resources from byte `first` on, n if none is bad.

@@ -15,32 +15,32 @@ ghost use Rattle.bringup.specs.Passed.{BringUpState};
 ghost use Rattle.planner.specs.Moves.{moveList, stateMoved, allMoves, choiceList, choiceState, Turn, Given, WrittenFrom};
 
 // The calls and the state of device d's move to its state in `chosen`, from the set needed after it, the calls from word `at` of the plan
-// on; none if it stays.
+// on; none if it stays. The buffer has the list of this move at its front.
 fn move_bytes(
     table: &[u8],
     state: &mut [u8],
     chosen: &[u8],
     d: usize,
     needed: u64,
-    calls: &mut [u32],
+    buffer: &mut [u32],
     plan: &mut [u8],
     at: usize,
 ) -> usize
-    requires { ⌜ Turn (now table) (now state) (now chosen) d × (listRoom (width (now table)) ≤ length (now calls))
+    requires { ⌜ Turn (now table) (now state) (now chosen) d × (listRoom (width (now table)) ≤ length (now buffer))
         × (needed ≡ endSet (station (now table)) (entries (now table) (now state)) (moveTo d (statesIn (now chosen) d)))
         × (4 * (at + length (moveList (now table) (now state) (statesIn (now chosen)) d)) ≤ length (now plan)) ⌝ }
     ensures { λ r. ⌜ WrittenFrom 4 wordBytes (moveList (now (table .entry)) (now (state .entry)) (statesIn (now (chosen .entry))) d)
         (stateMoved (now (table .entry)) (now (state .entry)) (statesIn (now (chosen .entry))) d)
         (now (plan .entry)) at r (now (state .exit)) (now (plan .exit))
-        × (now (calls .exit) ≡ put (now (calls .entry)) 0
+        × (now (buffer .exit) ≡ put (now (buffer .entry)) 0
         (moveList (now (table .entry)) (now (state .entry)) (statesIn (now (chosen .entry))) d)) ⌝ }
 {
-    let n = planner::moves::write_move(table, state, chosen, d, needed, calls);
-    words::write_words(calls, n, plan, at);
+    let n = planner::moves::write_move(table, state, chosen, d, needed, buffer);
+    words::write_words(buffer, n, plan, at);
     n
 }
 
-// The calls of all moves, by falling number, and the state after them; the needed set as in planner::moves.
+// The calls of all moves, by falling number, and the state after them; the needed set and the buffer as in planner::moves.
 fn write_moves(table: &[u8], state: &mut [u8], chosen: &[u8], plan: &mut [u8]) -> usize
     requires { ⌜ Given (now table) (now state) (now chosen)
         × (4 * (limit (width (now table)) * listRoom (width (now table))) ≤ length (now plan)) ⌝ }
@@ -51,7 +51,7 @@ fn write_moves(table: &[u8], state: &mut [u8], chosen: &[u8], plan: &mut [u8]) -
         (allMoves (now (table .entry)) (now (state .entry)) (statesIn (now (chosen .entry)))))
         (now (plan .entry)) 0 r (now (state .exit)) (now (plan .exit)) ⌝ }
 {
-    let mut calls = [0u32; 65];
+    let mut buffer = [0u32; 65];
     let mut below = [0u64; 64];
     status::needed::needed_below(table, state, &mut below);
     let mut above: u64 = 0;
@@ -61,7 +61,7 @@ fn write_moves(table: &[u8], state: &mut [u8], chosen: &[u8], plan: &mut [u8]) -
         i -= 1;
         above = sets::union(planner::moves::chosen_needs(table, state, chosen, i), above);
         let needed = sets::union(below[i], above);
-        n += move_bytes(table, state, chosen, i, needed, &mut calls, plan, n);
+        n += move_bytes(table, state, chosen, i, needed, &mut buffer, plan, n);
     }
     n
 }

@@ -38,14 +38,6 @@ pub fn has(s: u64, r: u32) -> bool
     false
 }
 
-// s with resource r put in.
-pub fn with(s: u64, r: u32) -> u64
-    requires { ⌜ r < 64 ⌝ }
-    ensures { λ t. ⌜ t ≡ union s (single r) ⌝ }
-{
-    union(s, single(r))
-}
-
 // s with resource r taken out.
 pub fn without(s: u64, r: u32) -> u64
     requires { ⌜ r < 64 ⌝ }

@@ -28,7 +28,7 @@ use Rattle.table.proofs.Readers.{record-at}
 use Rattle.status.specs.Ready.{Ready}
 use Rattle.status.proofs.Keeps.{entry-ready}
 use Rattle.status.proofs.Filled.{filled-none, filled-next, filled-at}
-use Rattle.sleep.specs.Chosen.{statesIn, leastEach}
+use Rattle.sleep.specs.Chosen.{statesIn, deepEnough, otherRules, leastEach}
 
 -- ---- 10
 module _ (q : Request) where
@@ -113,20 +113,17 @@ pub ruleset under-laws = (under-none, under-some, parent-inside)
 
 -- ---- whether a device may take such a state; w, k are what the tests of wake D and support returned
 module _ (s : Station) (x d : ℕ) (e : Entry) (y : ℕ) where
-  abbrev passed : Bool
-  passed = supported s d y && poweredIn s x (needs s d (inState e y)) && wakeDIfArmed e y
-
   module _ (w : Bool) (i : w ≡ wakeDIfArmed e y) where
-    pub take-wake : not w ≡ true → false ≡ passed
+    pub take-wake : not w ≡ true → false ≡ otherRules s x d e y
     take-wake n = rw (← i, not-true w n) (sym (and-false (supported s d y && poweredIn s x (needs s d (inState e y)))))
 
     module _ (k : Bool) (o : k ≡ supported s d y) where
-      pub take-unsupported : not k ≡ true → false ≡ passed
+      pub take-unsupported : not k ≡ true → false ≡ otherRules s x d e y
       take-unsupported n = rw (← o, not-true k n) refl
 
       -- the rest is whether what it needs is powered
       pub take-powered : not w ≡ false → not k ≡ false → (set : ℕ) (r : Bool)
-          → set ≡ needs s d (inState e y) → r ≡ poweredIn s x set → r ≡ passed
+          → set ≡ needs s d (inState e y) → r ≡ poweredIn s x set → r ≡ otherRules s x d e y
       take-powered nw nk set r a p = p ∙ rw (a, ← o, ← i, not-false w nw, not-false k nk) (sym (and-true _))
 
 pub ruleset taking = (take-wake, take-unsupported, take-powered)
@@ -203,8 +200,8 @@ module _ (t b chosen : List ℕ) (x d : ℕ) where
 
   -- e is the entry of the device, v the shallowest state that is left, and c whether it may take state y
   module _ (r : Ready t b) (k : d < countD t) (e : Entry) (read : e ≡ entryAt b (4 * d)) (v : ℕ)
-      (left : (y : ℕ) → leb v y ≡ leb (e .state) y && sxdAllows (station t) x d y && underParent (station t) (statesIn chosen) d y) where
-    taken-is : (y : ℕ) → taken y ≡ leb v y && passed (station t) x d e y
+      (left : (y : ℕ) → leb v y ≡ deepEnough (station t) (statesIn chosen) x d (e .state) y) where
+    taken-is : (y : ℕ) → taken y ≡ leb v y && otherRules (station t) x d e y
     unfolding mayTakeUnder mayTake
     taken-is y =
         rw (← entry-ready t b d e r k read, left y)
@@ -214,7 +211,7 @@ module _ (t b chosen : List ℕ) (x d : ℕ) where
     pub state-starts : NoneBelow taken v
     state-starts y h = taken-is y ∙ rw (lt-leb v y h) refl
 
-    module _ (y : ℕ) (low : v ≤ y) (none : NoneBelow taken y) (c : Bool) (test : c ≡ passed (station t) x d e y) where
+    module _ (y : ℕ) (low : v ≤ y) (none : NoneBelow taken y) (c : Bool) (test : c ≡ otherRules (station t) x d e y) where
       may-is : taken y ≡ c
       may-is = taken-is y ∙ rw (le-leb v y low) (sym test)
 

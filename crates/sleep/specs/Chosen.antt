@@ -1,20 +1,32 @@
 -- The states that stand in lent bytes, a byte for each device, and what the checks of sleep entry leave there.
 use Prim.Native.Nat.{ℕ}
-use mathlib.Core.Bool.{Bool, cond}
+use mathlib.Core.Bool.{Bool, _&&_, cond}
 use mathlib.Core.List.{List}
+use lib.Dec.{leb}
 use lib.ListN.{getD}
 use Rattle.words.specs.Words.{put}
+use Rattle.rules.specs.declared.Entry.{Entry}
 use Rattle.rules.specs.declared.Request.{Request}
 use Rattle.rules.specs.Answers.{passes}
 use Rattle.rules.specs.Index.{each}
-use Rattle.rules.specs.Station.{countD, station}
-use Rattle.rules.specs.Status.{entries}
-use Rattle.rules.specs.Sleep.{leastChoice, armedVerdict}
+use Rattle.rules.specs.Station.{Station, countD, station}
+use Rattle.rules.specs.Power.{supported, needs, poweredIn}
+use Rattle.rules.specs.Status.{entries, underParent}
+use Rattle.rules.specs.Request.{inState}
+use Rattle.rules.specs.Sleep.{sxdAllows, wakeDIfArmed, leastChoice, armedVerdict}
 use Rattle.rules.specs.Outcomes.{readyVerdict}
 
 -- the state of each device
 abbrev pub statesIn : List ℕ → ℕ → ℕ
 statesIn chosen d = getD chosen d 0
+
+-- y is not shallower than a device's present state, nor than `_SxD` where that is present, nor than its parent's among these states
+abbrev pub deepEnough : Station → (ℕ → ℕ) → ℕ → ℕ → ℕ → ℕ → Bool
+deepEnough s states x d state y = leb state y && sxdAllows s x d y && underParent s states d y
+
+-- the rules for a state that do not ask how deep it is: support, power in Sx, and wake D if armed
+abbrev pub otherRules : Station → ℕ → ℕ → Entry → ℕ → Bool
+otherRules s x d e y = supported s d y && poweredIn s x (needs s d (inState e y)) && wakeDIfArmed e y
 
 -- the least choice for Sx at the front of the bytes
 abbrev pub leastEach : List ℕ → List ℕ → ℕ → List ℕ → List ℕ

@@ -8,13 +8,11 @@ ghost use lib.ListN.{length};
 ghost use Rattle.rules.specs.Index.{every};
 ghost use Rattle.rules.specs.Station.{countD, station};
 ghost use Rattle.rules.specs.Table.{parentGood};
-ghost use Rattle.rules.specs.Power.{supported, needs, poweredIn};
 ghost use Rattle.rules.specs.Status.{entries, underParent};
-ghost use Rattle.rules.specs.Request.{inState};
 ghost use Rattle.rules.specs.Sleep.{sxdAllows, wakeDIfArmed, leastState, stays};
 ghost use Rattle.table.specs.Layout.{WellSized, RecordAt};
 ghost use Rattle.status.specs.Ready.{Ready};
-ghost use Rattle.sleep.specs.Chosen.{statesIn, leastEach};
+ghost use Rattle.sleep.specs.Chosen.{statesIn, deepEnough, otherRules, leastEach};
 
 // The deeper of two states.
 fn deeper(a: u8, b: u8) -> u8
@@ -55,8 +53,7 @@ fn shallowest_of_parent(table: &[u8], chosen: &[u8], d: usize, at: usize, w: usi
 fn shallowest(table: &[u8], chosen: &[u8], x: u8, d: usize, at: usize, w: usize, state: u8) -> u8
     requires { ⌜ RecordAt (now table) d at w × (countD (now table) ≤ length (now chosen))
         × (parentGood d (station (now table) .device d) ≡ true) × (x < 5) ⌝ }
-    ensures { λ r. ⌜ ((y : ℕ) → leb r y ≡ leb state y && sxdAllows (station (now (table .entry))) x d y
-        && underParent (station (now (table .entry))) (statesIn (now (chosen .entry))) d y) ⌝ }
+    ensures { λ r. ⌜ ((y : ℕ) → leb r y ≡ deepEnough (station (now (table .entry))) (statesIn (now (chosen .entry))) x d state y) ⌝ }
 {
     let sxd = shallowest_of_sxd(table, x, d, at, w);
     let parent = shallowest_of_parent(table, chosen, d, at, w);
@@ -73,11 +70,11 @@ fn wake_d_if_armed(e: Entry, y: u8) -> bool
     y == e.wake
 }
 
-// Whether the other rules let device d, whose entry is e, take state y: support, power and wake D. What takes least time is tested first.
+// Whether device d, whose entry is e, may take state y by the rules that `shallowest` leaves: support, power and wake D. What takes least
+// time is tested first.
 fn other_rules_allow(table: &[u8], x: u8, d: usize, at: usize, w: usize, e: Entry, y: u8) -> bool
     requires { ⌜ RecordAt (now table) d at w ⌝ }
-    ensures { λ r. ⌜ r ≡ supported (station (now (table .entry))) d y
-        && poweredIn (station (now (table .entry))) x (needs (station (now (table .entry))) d (inState e y)) && wakeDIfArmed e y ⌝ }
+    ensures { λ r. ⌜ r ≡ otherRules (station (now (table .entry))) x d e y ⌝ }
 {
     if !wake_d_if_armed(e, y) {
         return false;

@@ -1,9 +1,9 @@
 -- What the readers of a table cite: its width, where a record starts and that it ends inside the table, and each field of the station, from
 -- what the readers of a record give.
-use mathlib.Core.Path.{_≡_, refl, _∙_}
+use mathlib.Core.Path.{_≡_, refl}
 use mathlib.Core.Bool.{true}
 use mathlib.Core.List.{List}
-use Prim.Native.Nat.{ℕ, _+_, _*_, _^_, _<_, _≤_}
+use Prim.Native.Nat.{ℕ, _+_, _*_, _<_, _≤_}
 use native.Mathlib.Nat.{mul-le-mul, mul-suc}
 use native.Mathlib.Numerals.{add-one}
 use native.Mathlib.Omega.{arith}
@@ -58,22 +58,18 @@ pub order-is : (t : List ℕ) (r v : ℕ) → r < countR t → v ≡ readLE 2 t 
 unfolding resourceAt
 order-is t r v h e = rw (resource-at (width t) t r h) e
 
--- ---- one law for every field f of a device, and one for every numbered field
+-- ---- one law for every field f of a device
 pub field : (f : Device → ℕ) (t : List ℕ) (d at w v : ℕ) → at ≡ deviceStart (width t) t d → d < countD t → w ≡ width t
     → v ≡ f (deviceAt w t at) → v ≡ f (station t .device d)
 field f t d at w v e h g k = rw (device-at (width t) t d h, ← e, ← g) k
 
-pub field-at : (f : Device → ℕ → ℕ) (t : List ℕ) (d at w x v : ℕ) → at ≡ deviceStart (width t) t d → d < countD t → w ≡ width t
-    → v ≡ f (deviceAt w t at) x → v ≡ f (station t .device d) x
-field-at f t d at w x v e h g k = rw (device-at (width t) t d h, ← e, ← g) k
-
--- ---- the same where the place of the record is handed on
+-- ---- the same where the place of the record is handed on, and of every numbered field
 pub field-here : (f : Device → ℕ) (t : List ℕ) (d at w v : ℕ) → RecordAt t d at w → v ≡ f (deviceAt w t at) → v ≡ f (station t .device d)
 field-here f t d at w v r k = field f t d at w v (r .start) (r .device) (r .width) k
 
 pub field-here-at : (f : Device → ℕ → ℕ) (t : List ℕ) (d at w x v : ℕ) → RecordAt t d at w → v ≡ f (deviceAt w t at) x
     → v ≡ f (station t .device d) x
-field-here-at f t d at w x v r k = field-at f t d at w x v (r .start) (r .device) (r .width) k
+field-here-at f t d at w x v r k = rw (device-at (width t) t d (r .device), ← r .start, ← r .width) k
 
 -- a device's record, the first one, and the next
 pub record-at : (t : List ℕ) (d at w : ℕ) → WellSized t → d < countD t → at ≡ deviceStart (width t) t d → w ≡ width t → RecordAt t d at w

@@ -1,7 +1,7 @@
 // The fields of a table whose counts and length are known to be good, as its station has them.
 ghost use mathlib.Core.Path.{_≡_};
 ghost use mathlib.Core.Bool.{true};
-ghost use Prim.Native.Nat.{_+_, _*_, _<_, _≤_};
+ghost use Prim.Native.Nat.{_+_, _<_, _≤_};
 ghost use lib.ListN.{length};
 ghost use Rattle.rules.specs.Station.{versionGood, versionOf, width, Wide, limit, recordSize, tableSize, countR, countD, deviceStart, station};
 ghost use Rattle.table.specs.Layout.{WellSized};

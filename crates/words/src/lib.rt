@@ -1,7 +1,7 @@
 // Little-endian numbers in byte slices, bytes copied, and words as bytes, four each.
 ghost use mathlib.Core.Path.{_≡_};
 ghost use mathlib.Core.List.{[], _∷_};
-ghost use Prim.Native.Nat.{_+_, _*_, _≤_, _<_};
+ghost use Prim.Native.Nat.{_+_, _*_, _%_, _≤_, _<_};
 ghost use lib.ListN.{length, take};
 ghost use Rattle.words.specs.Words.{readLE, bytesLE, put, wordBytes, byteWords};
 
@@ -10,6 +10,13 @@ pub fn wide(x: u8) -> u32
     ensures { λ r. ⌜ (r ≡ x) × (r < 256) ⌝ }
 {
     x as u32
+}
+
+// The number after x among those of a byte: 0 after 255. What stands for an absent number, 255, so comes before all others.
+pub fn next8(x: u8) -> u32
+    ensures { λ r. ⌜ (r ≡ (x + 1) % 256) × (x < 256) ⌝ }
+{
+    (x as u32 + 1) % 256
 }
 
 // The number that four bytes make, lowest first.

@@ -7,4 +7,4 @@ use Rattle.record.proofs.good.parent_good.Tie as tie
 pub parent-good-spec : {M : Type 1} → statement M
 parent-good-spec =
     tie.close
-    (tie.spec (λ c κs. search needs) (λ c κs. search needs) (λ c. search needs) (λ c. search needs) (λ c. search (needs, record-tests)))
+    (tie.spec (λ c κs. search needs) (λ c κs. search needs) (λ c. search needs) (λ c. search (needs, record-tests)))

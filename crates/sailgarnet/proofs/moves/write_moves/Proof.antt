@@ -15,12 +15,12 @@ use Rattle.sailgarnet.proofs.moves.write_moves.Statement.{statement}
 use Rattle.sailgarnet.proofs.moves.write_moves.Tie as tie
 
 abbrev Inv-loop : tie.InvT-loop
-Inv-loop table state₀ chosen plan₀ calls₀ below above₀ n₀ i₀ state plan calls above n i =
+Inv-loop table state₀ chosen plan₀ buffer₀ below above₀ n₀ i₀ state plan buffer above n i =
     (i ≤ countD table) × (i ≤ 64) × (length state ≡ length state₀) × Underway 4 wordBytes table state₀ chosen plan₀ i n state plan
-    × (above ≡ neededFrom (station table) (entries table state) 0 i (countD table - i)) × (length calls ≡ 65)
+    × (above ≡ neededFrom (station table) (entries table state) 0 i (countD table - i)) × (length buffer ≡ 65)
 
 abbrev μ-loop : tie.MeasureT-loop
-μ-loop table state₀ chosen plan₀ calls₀ below above₀ n₀ i₀ state plan calls above n i = i
+μ-loop table state₀ chosen plan₀ buffer₀ below above₀ n₀ i₀ state plan buffer above n i = i
 
 chosen-needs-requires : tie.Need-chosen-needs-requires Inv-loop μ-loop
 chosen-needs-requires c κs =
@@ -42,7 +42,7 @@ move-bytes-requires c κs =
     let inv = turn .loop .inv in
     let h = test .loop-test .taken in (
       turn-now _ _ _ (given .0) _ _ h (inv .0) (inv .3 .moving),
-      room-words _ (turn .loop .calls) (inv .5),
+      room-words _ (turn .loop .buffer) (inv .5),
       needed-now _ _ _ (given .0) _ _ h (inv .0) (inv .3 .moving) _ _ _ (own .chosen-needs .ensures) (inv .4) (added .union .ensures) _ _ _
           (sets .needed-below .ensures) (united .union2 .ensures),
       bytes-room _ _ _ _ (given .0) _ _ _ _ (inv .3) h (inv .0) (given .1),

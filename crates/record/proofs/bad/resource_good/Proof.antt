@@ -1,8 +1,0 @@
--- Both fields are good exactly if the number that they make is at most 4.
-use Rattle.record.proofs.Tests.{record-tests}
-use borrow.Author.Needs.{needs}
-use Rattle.record.proofs.bad.resource_good.Statement.{statement}
-use Rattle.record.proofs.bad.resource_good.Tie as tie
-
-pub resource-good-spec : {M : Type 1} → statement M
-resource-good-spec = tie.close (tie.spec (λ c κs. search needs) (λ c. search (needs, record-tests)))
