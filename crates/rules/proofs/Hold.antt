@@ -1,4 +1,5 @@
--- W1 to W12 and our own rows hold, by one computation on the bytes of the tables: the list of the rows that fail is empty.
+-- W1 to W12 and our own rows, of those on sleep entry and version 2 the first, hold, by one computation on the bytes of the tables: the list
+-- of the rows that fail is empty. The other rows hold too (crates/rows).
 use mathlib.Core.Path.{_≡_, refl}
 use mathlib.Core.Bool.{true, false}
 use mathlib.Core.List.{[], _∷_, _++_, map}
@@ -41,17 +42,18 @@ use Rattle.rules.specs.BringUpRows.{doneRows, refusedRows}
 use Rattle.rules.specs.Sleep.{sleepFormGood, armedForOther, sxdAllows, wakeDIfArmed, mayTake, mayTakeUnder, leastState, leastBelow}
 use Rattle.rules.specs.Sleep.{leastChoice, hasChoice, armedVerdict, sleepVerdict, moves, noneMoves, offsAlone}
 use Rattle.rules.specs.Outcomes.{sleepStage, sleepStages, plannedEach, stateAfterEach, sleepList, stateForSleep}
-use Rattle.rules.specs.SleepRows.{sleepDoneRows, sleepRefusedRows, stepsTable, portTable, scannerTable}
+use Rattle.rules.specs.SleepRows.{sleepFirstRows, stepsTable}
 use Rattle.rules.specs.Execution.{carryOut, execution}
 use Rattle.rules.specs.Rows.{bytes, rows, benchTable, benchDevices}
 use Rattle.rules.specs.OwnStation.{ownTable, ownState, fullTable}
 use Rattle.rules.specs.OwnRows.{ownRows, callWords, otherWords}
 use Rattle.rules.specs.WideStation.{rig, flash, rigTable, wideBenchTable}
+use Rattle.rules.specs.WideRows.{wideFirstRows}
 use Rattle.rules.specs.Holds.{same, answers, freshAnswers, startOf, stateOf, endState, leaves, wordRead, wordsRead, agree}
 use Rattle.rules.specs.Holds.{changes, carried, checks, checksAll, holdsFrom, holdsIn, holds, wrong, holdsBringUpIn, holdsBringUp}
 use Rattle.rules.specs.Holds.{plans, holdsSleepIn, holdsSleep}
 
-pub all-hold : (wrong holds 1 rows ≡ []) × (wrong holds 1 ownRows ≡ [])
+pub all-hold : (wrong holds 1 rows ≡ []) × (wrong holds 1 ownRows ≡ []) × (wrong holds 1 wideFirstRows ≡ [])
 unfolding member union minus single firstN subset readLE bytesLE put wordBytes byteWords leastFrom every below eachFrom passes firstOf
     unless lowest versionGood versionWidth width deviceStart resourceAt deviceAt stationOf headerGood countsGood lengthGood firstBad
     resourceGood parentGood present setGood sxdGood sxwGood deepestGood headFields setFields sxdFields sxwFields deepestFields valueFields
@@ -67,7 +69,8 @@ unfolding member union minus single firstN subset readLE bytesLE put wordBytes b
     planList planState planBytes listVerdict ofBytes checkBytes carryOut execution wakeOf
     callOfBytes callOf planWords checkWords recordPart same answers freshAnswers startOf stateOf endState leaves wordRead wordsRead
     agree switchingWords changes carried checks checksAll plans holdsFrom holdsIn wrong ownTable ownState fullTable
-all-hold = (refl, refl)
+    rigTable wideBenchTable
+all-hold = (refl, refl, refl)
 
 -- and so do the rows of bring-up
 pub bring-up-holds : (wrong holdsBringUp 1 doneRows ≡ []) × (wrong holdsBringUp 1 refusedRows ≡ [])
@@ -86,8 +89,8 @@ unfolding member union minus single readLE bytesLE put wordBytes byteWords least
     fullTable
 bring-up-holds = (refl, refl)
 
--- and those of sleep entry
-pub sleep-holds : (wrong holdsSleep 1 sleepDoneRows ≡ []) × (wrong holdsSleep 1 sleepRefusedRows ≡ [])
+-- and the first of sleep entry
+pub sleep-holds : wrong holdsSleep 1 sleepFirstRows ≡ []
 unfolding member union minus subset readLE bytesLE put wordBytes byteWords leastFrom every below eachFrom passes firstOf
     unless lowest versionGood versionWidth width deviceStart resourceAt deviceAt stationOf headerGood countsGood lengthGood firstBad
     resourceGood parentGood present setGood sxdGood sxwGood deepestGood headFields setFields sxdFields sxwFields deepestFields valueFields
@@ -100,8 +103,8 @@ unfolding member union minus subset readLE bytesLE put wordBytes byteWords least
     planStages planList planState planBytes planWords listVerdict ofBytes checkBytes checkWords carryOut execution wakeOf callOfBytes callOf
     sleepFormGood armedForOther sxdAllows wakeDIfArmed mayTake mayTakeUnder leastState leastBelow leastChoice hasChoice armedVerdict
     sleepVerdict moves noneMoves offsAlone sleepStage sleepStages plannedEach stateAfterEach sleepList stateForSleep same answers endState
-    leaves wordRead wordsRead agree carried checks plans holdsSleepIn wrong ownTable stepsTable portTable scannerTable
-sleep-holds = (refl, refl)
+    leaves wordRead wordsRead agree carried checks plans holdsSleepIn wrong ownTable stepsTable
+sleep-holds = refl
 
 -- a word is read as the call with this word, or as none; words that are none leave any set
 pub codes-hold :

@@ -1,5 +1,4 @@
 pub mod Hold
-pub mod HoldWide
 pub mod Index
 pub mod Answers
 pub mod Width

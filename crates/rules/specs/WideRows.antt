@@ -21,11 +21,31 @@ offsDown r k = join (λ i. 2 ∷ (r - i) ∷ 0 ∷ 0 ∷ []) k
 abbrev pub rigTo : List ℕ → ℕ → ℕ → Answer
 rigTo calls entries on = done calls (bytes 8 entries) on
 
-abbrev pub wideDoneRows : List Row
-wideDoneRows =
+-- the rows that the edits in must-fail/ break; those after them are computed in crates/rows
+abbrev pub wideFirstRows : List Row
+wideFirstRows =
     -- W5
     row (lend wideBenchTable (freshIn 264) (move 2 4 ∷ move 1 3 ∷ []) 260) (move 1 0) wideCamera
     (done (bytes 12 0x01020000_01010000_03010000) (bytes 12 0x00000000_00000000_04000000) 7) ∷
+    -- rig from D3cold to D0. r0 and r32, of equal order, exchanged; r0 a second time where r32 is due; without r32; r64 too
+    withLists
+    (conforms 24 0x013f0000_01280000_011f0000_01200000_01000000_03000000
+    ∷ differs 24 0x013f0000_011f0000_01280000_01000000_01000000_03000000
+    ∷ differs 20 0x013f0000_011f0000_01280000_01000000_03000000
+    ∷ differs 28 0x013f0000_011f0000_01280000_01000000_01200000_01400000_03000000
+    ∷ [])
+    (row (rigIn 0x04000000_04000000 0) (move 0 0) rig
+    (rigTo (bytes 24 0x013f0000_011f0000_01280000_01000000_01200000_03000000) 0x00000000_04000000 0x80000101_80000001)) ∷
+    -- 41 resources
+    row (lend (fewTable 41) (given (wideImage 1 0 0x180_00000000)) [] 260) (move 0 0) fewDevice
+    (done (bytes 4 0x02270000) (bytes 4 0) 0x100_00000000) ∷
+    -- 9: 64 words; version 1 keeps its state of 132 bytes
+    row (lend wideBenchTable (freshIn 264) [] 259) (move 2 4) (drop 128 wideBench) (noRoom 0) ∷
+    row (lend benchTable (given (wideImage 3 0 7)) [] 260) (move 1 2) camera (refused 7 0) ∷
+    []
+
+abbrev pub wideDoneRows : List Row
+wideDoneRows =
     -- flash to D3hot from a fresh state: 59 OFFs of equal order, by falling number
     row (lend rigTable (freshIn 264) [] 260) (move 1 3) flash
     (rigTo (offsDown 62 22 ++ offsDown 39 7 ++ offsDown 30 30) 0x00000000_03000000 0x80000101_80000001) ∷
@@ -42,24 +62,13 @@ wideDoneRows =
     ∷ [])
     (row (rigIn 0x00000000_03000000 0x80000101_80000001) (move 0 3) rig
     (rigTo (bytes 20 0x03000300_02000000_02280000_021f0000_023f0000) 0x03000000_03000000 0x1_00000000)) ∷
-    -- D3hot to D3cold; D3cold to D0. r0 and r32, of equal order, exchanged; r0 a second time where r32 is due; without r32; r64 too
+    -- D3hot to D3cold
     row (rigIn 0x03000000_04000000 0x1_00000000) (move 0 4) rig (rigTo (bytes 4 0x02200000) 0x04000000_04000000 0) ∷
-    withLists
-    (conforms 24 0x013f0000_01280000_011f0000_01200000_01000000_03000000
-    ∷ differs 24 0x013f0000_011f0000_01280000_01000000_01000000_03000000
-    ∷ differs 20 0x013f0000_011f0000_01280000_01000000_03000000
-    ∷ differs 28 0x013f0000_011f0000_01280000_01000000_01200000_01400000_03000000
-    ∷ [])
-    (row (rigIn 0x04000000_04000000 0) (move 0 0) rig
-    (rigTo (bytes 24 0x013f0000_011f0000_01280000_01000000_01200000_03000000) 0x00000000_04000000 0x80000101_80000001)) ∷
     -- arming, which turns r40 on, with a longer plan; disarming
     row (lend rigTable (given (rigState 0x03000000_04000000 0x1_00000000)) [] 263) (arm 0 2 3) rig
     (rigTo (bytes 8 0x01280000_04000283) 0x03010203_04000000 0x101_00000000) ∷
     row (rigIn 0x03010203_04000000 0x101_00000000) (disarm 0) rig
     (rigTo (bytes 8 0x04000000_02280000) 0x03000000_04000000 0x1_00000000) ∷
-    -- 41 resources
-    row (lend (fewTable 41) (given (wideImage 1 0 0x180_00000000)) [] 260) (move 0 0) fewDevice
-    (done (bytes 4 0x02270000) (bytes 4 0) 0x100_00000000) ∷
     []
 
 -- each edit alone makes the table of rig and flash, or that of the bench station, one that is refused
@@ -122,8 +131,7 @@ wideRefusedRows =
     badRigState 0 0xc0000100_80000001 ∷
     badRigState 0 0x40000101_80000001 ∷
     badRigState 1 0x80000101_80000001 ∷
-    -- 9: 64 words, the room of version 1; 10: a device past D
-    row (lend wideBenchTable (freshIn 264) [] 259) (move 2 4) (drop 128 wideBench) (noRoom 0) ∷
+    -- 9: the 33 words of version 1; 10: a device past D
     row (lend wideBenchTable (freshIn 264) [] 132) (move 3 4) [] (noRoom 10) ∷
     row (lend wideBenchTable (freshIn 264) [] 260) (move 3 4) [] (refused 10 0) ∷
     -- 16; 17, as r40 has level 2; 18 by `_S1W` and by `_S2D`
@@ -131,8 +139,7 @@ wideRefusedRows =
     row (rigIn 0 0xc0000101_80000001) (arm 0 3 3) rig (refused 17 0) ∷
     row (rigIn 0 0xc0000101_80000001) (arm 0 1 4) rig (refused 18 0) ∷
     row (rigIn 0 0xc0000101_80000001) (arm 0 2 0) rig (refused 18 0) ∷
-    -- version 1 keeps its state of 132 bytes and its 32 resources
-    row (lend benchTable (given (wideImage 3 0 7)) [] 260) (move 1 2) camera (refused 7 0) ∷
+    -- version 1 keeps its fresh state of 132 bytes and its 32 resources
     row (lend benchTable (freshIn 264) [] 260) (move 1 2) camera (refused 7 0) ∷
     badTable 2 0 (bytes 8 0x5057542101000000 ++ replicate 132 0) ∷
     []

@@ -1,42 +1,42 @@
--- The rows of version 2 hold, by one computation on the bytes of the tables, as those of version 1 do in Hold.
+-- The rows of version 2 that stand past the first ones hold, by one computation on the bytes of the tables.
 use mathlib.Core.Path.{_≡_, refl}
 use mathlib.Core.List.{[], _++_}
 use lib.ListN.{replicate}
 use Rattle.sets.specs.Sets.{member, union, minus, single, firstN, subset}
 use Rattle.words.specs.Words.{readLE, bytesLE, put, wordBytes, byteWords}
 use Rattle.rules.specs.declared.Verdict.the-variants.{Done}
 use Rattle.rules.specs.Index.{leastFrom, every, below, eachFrom, joinFrom}
 use Rattle.rules.specs.Answers.{passes, firstOf, unless, lowest}
 use Rattle.rules.specs.Station.{versionGood, versionWidth, width, deviceStart, resourceAt, deviceAt, stationOf}
 use Rattle.rules.specs.Table.{headerGood, countsGood, lengthGood, firstBad, resourceGood, parentGood, present, setGood, sxdGood}
 use Rattle.rules.specs.Table.{sxwGood, deepestGood, headFields, setFields, sxdFields, sxwFields, deepestFields, valueFields}
 use Rattle.rules.specs.Table.{zeroFields, deviceFields, badField, fieldsGood, objectsGood, fieldsOrObjects, deviceGood, tableVerdict}
 use Rattle.rules.specs.Power.{supported, ownSet, listedSet, stateNeeds, wakeNeeds, needs, neededBelow, needed, wakeRange}
 use Rattle.rules.specs.Power.{wakeFrom, poweredIn, wakeState, wakePair}
 use Rattle.rules.specs.Status.{entryAt, entryBytes, entriesOf, statusOf, imageOf, freshStatus, entryGood}
 use Rattle.rules.specs.Status.{entryZero, entriesGood, onGood, parentAllows, wakeConsistent, consistentButPower, powered}
 use Rattle.rules.specs.Status.{consistent, valuesGood, imageGood, valuesVerdict, consistencyVerdict, stateVerdict}
 use Rattle.rules.specs.Request.{numbersGood, formGood, notShallowerOrD0, childBars, wakeAllows, moveVerdict, armVerdict}
 use Rattle.rules.specs.Request.{kindVerdict, requestVerdict, newEntry, replaceEntry}
 use Rattle.rules.specs.Calls.{wakeOf, callOfBytes, callOf, listOf, only, methodFor, callsMethod, moveCall, wakeCall, ownCall}
 use Rattle.rules.specs.Calls.{ownLast, endSet, toTurnOn, toTurnOff, membersFrom, earlier, insert, sort, rising, turnOn, turnOff}
 use Rattle.rules.specs.Calls.{arrange, switchCalls, calls, statusAfter, statusNeeded, switchingWords}
 use Rattle.rules.specs.Check.{andThen, takeWords, mayCome, takeSet, firstCalls, lastCalls, isEnd, conforming}
 use Rattle.rules.specs.Outcomes.{outcome, freshVerdict, fresh, readyVerdict, requestStage, stagesVerdict, planVerdict, planOutcome}
 use Rattle.rules.specs.Outcomes.{planned, stateAfter, planRoom, planStages, planList, planState, planWords, planBytes, listVerdict}
 use Rattle.rules.specs.Outcomes.{ofBytes, checkWords, checkBytes, recordPart}
 use Rattle.rules.specs.Outcomes.{sleepStage, sleepStages, plannedEach, stateAfterEach, sleepList, stateForSleep}
 use Rattle.rules.specs.BringUp.{butPowerVerdict, stateButPowerVerdict, bringUpStages, bringUpCalls, bringUpList}
 use Rattle.rules.specs.BringUp.{stateBroughtUp, bringUpWords, bringUpBytes, checkBringUpWords, checkBringUpBytes}
 use Rattle.rules.specs.Sleep.{sleepFormGood, armedForOther, sxdAllows, wakeDIfArmed, mayTake, mayTakeUnder, leastState, leastBelow}
 use Rattle.rules.specs.Sleep.{leastChoice, hasChoice, armedVerdict, sleepVerdict, moves, noneMoves, offsAlone}
 use Rattle.rules.specs.Execution.{carryOut, execution}
 use Rattle.rules.specs.Rows.{bytes, blank, move}
 use Rattle.rules.specs.WideStation.{wideImage, rigTable, longTable, wideBenchTable}
 use Rattle.rules.specs.WideRows.{wideDoneRows, wideRefusedRows, wideBringUpRows, wideSleepRows}
 use Rattle.rules.specs.Holds.{same, answers, freshAnswers, startOf, stateOf, endState, leaves, wordRead, wordsRead, agree}
 use Rattle.rules.specs.Holds.{changes, carried, checks, checksAll, holdsFrom, holdsIn, holds, wrong, holdsBringUpIn, holdsBringUp}
 use Rattle.rules.specs.Holds.{plans, holdsSleepIn, holdsSleep}
 
 pub wide-holds :
     (wrong holds 1 wideDoneRows ≡ []) × (wrong holds 1 wideRefusedRows ≡ []) × (wrong holdsBringUp 1 wideBringUpRows ≡ []) × (wrong holdsSleep 1 wideSleepRows ≡ [])

@@ -1,0 +1,2 @@
+pub mod Sleep
+pub mod Wide
