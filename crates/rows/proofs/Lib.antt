@@ -1,2 +1,1 @@
-pub mod Sleep
-pub mod Wide
+pub mod Others

@@ -1,4 +1,4 @@
--- The rows of version 2 that stand past the first ones hold, by one computation on the bytes of the tables.
+-- The rows of sleep entry and of version 2 that stand past the first ones hold, by one computation on the bytes of the tables.
 use mathlib.Core.Path.{_≡_, refl}
 use mathlib.Core.List.{[], _++_}
 use lib.ListN.{replicate}
@@ -32,14 +32,21 @@ use Rattle.rules.specs.Sleep.{sleepFormGood, armedForOther, sxdAllows, wakeDIfA
 use Rattle.rules.specs.Sleep.{leastChoice, hasChoice, armedVerdict, sleepVerdict, moves, noneMoves, offsAlone}
 use Rattle.rules.specs.Execution.{carryOut, execution}
 use Rattle.rules.specs.Rows.{bytes, blank, move}
+use Rattle.rules.specs.OwnStation.{ownTable}
+use Rattle.rules.specs.SleepRows.{sleepDoneRows, sleepRefusedRows, stepsTable, portTable, scannerTable}
 use Rattle.rules.specs.WideStation.{wideImage, rigTable, longTable, wideBenchTable}
 use Rattle.rules.specs.WideRows.{wideDoneRows, wideRefusedRows, wideBringUpRows, wideSleepRows}
 use Rattle.rules.specs.Holds.{same, answers, freshAnswers, startOf, stateOf, endState, leaves, wordRead, wordsRead, agree}
 use Rattle.rules.specs.Holds.{changes, carried, checks, checksAll, holdsFrom, holdsIn, holds, wrong, holdsBringUpIn, holdsBringUp}
 use Rattle.rules.specs.Holds.{plans, holdsSleepIn, holdsSleep}
 
-pub wide-holds :
-    (wrong holds 1 wideDoneRows ≡ []) × (wrong holds 1 wideRefusedRows ≡ []) × (wrong holdsBringUp 1 wideBringUpRows ≡ []) × (wrong holdsSleep 1 wideSleepRows ≡ [])
+pub others-hold :
+    (wrong holdsSleep 1 sleepDoneRows ≡ [])
+    × (wrong holdsSleep 1 sleepRefusedRows ≡ [])
+    × (wrong holds 1 wideDoneRows ≡ [])
+    × (wrong holds 1 wideRefusedRows ≡ [])
+    × (wrong holdsBringUp 1 wideBringUpRows ≡ [])
+    × (wrong holdsSleep 1 wideSleepRows ≡ [])
 unfolding member union minus single firstN subset readLE bytesLE put wordBytes byteWords leastFrom every below eachFrom passes firstOf
     unless lowest versionGood versionWidth width deviceStart resourceAt deviceAt stationOf headerGood countsGood lengthGood firstBad
     resourceGood parentGood present setGood sxdGood sxwGood deepestGood headFields setFields sxdFields sxwFields deepestFields valueFields
@@ -56,8 +63,8 @@ unfolding member union minus single firstN subset readLE bytesLE put wordBytes b
     wakeDIfArmed mayTake mayTakeUnder leastState leastBelow leastChoice hasChoice armedVerdict sleepVerdict moves noneMoves offsAlone
     sleepStage sleepStages plannedEach stateAfterEach sleepList stateForSleep same answers freshAnswers startOf stateOf endState leaves
     wordRead wordsRead agree switchingWords changes carried checks checksAll plans holdsFrom holdsIn holdsBringUpIn holdsSleepIn wrong
-    rigTable wideBenchTable
-wide-holds = (refl, refl, refl, refl)
+    ownTable stepsTable portTable scannerTable rigTable wideBenchTable
+others-hold = (refl, refl, refl, refl, refl, refl)
 
 -- the own call of device 33, whose entry is at byte 132
 pub last-device-holds :
