@@ -93,6 +93,10 @@ def main():
     def name(m):
         return new.get(m.group(), m.group())
 
+    def word(m):
+        """The same in a file of src/, where a word of TOGETHER is a function's own name."""
+        return m.group() if m.group() in TOGETHER else name(m)
+
     def code(text):
         return TOKEN.sub(name, text)
 
@@ -103,12 +107,13 @@ def main():
         """Clauses and comments: a dash in code is a minus, so only lower camel case is turned outside `ghost use` lines."""
         def line(l):
             if re.match(r"\s*(ghost use|//)", l):
-                return TOKEN.sub(name, l)
-            return re.sub(r"[\w']+", lambda m: new.get(m.group(), m.group()), l)
+                return TOKEN.sub(word, l)
+            return re.sub(r"[\w']+", word, l)
         return "\n".join(line(l) for l in text.split("\n"))
 
     def edit(text):
-        return "\n".join(TOKEN.sub(name, l) if re.match(r"(old|new):", l) else quoted(l) for l in text.split("\n"))
+        turned = word if "file: src/" in text else name
+        return "\n".join(TOKEN.sub(turned, l) if re.match(r"(old|new):", l) else quoted(l) for l in text.split("\n"))
 
     kinds = [("crates/*/specs/**/*.antt", code), ("crates/*/proofs/**/*.antt", code), ("crates/*/src/**/*.rt", rattle),
              ("crates/*/must-fail/*.edit", edit), ("README.md", quoted), ("docs/**/*.md", quoted)]
