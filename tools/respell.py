@@ -19,6 +19,10 @@ NAMED = re.compile(r"^\s*(?:pub )?ruleset (?:pub )?([a-z][\w'-]*)")
 # Words whose parts the rule below would cut otherwise.
 APART = {"notShallowerOrD0": "not_shallower_or_d0", "noS0D": "no_s0d", "noSxD": "no_sxd", "noSxW": "no_sxw",
          "noneMoves": "none_moving"}  # `none_moves` is a part of SleepEntry
+# Names that port.py respells itself in specs/, proofs/ and src/: this script turns them in the edits and the pages.
+BY_PORT = """andThen byteAt callOf callWords countD countOf endSet endsAt entryAt firstOf imageOf isMove keyOf listOf numberAt numberIn
+numberOf ofBytes onAfter onWord orderIn ownWords placeIn placeOf startOf stateOf valueOf wordBytes wordOf wordsIn
+all-hold fields-back list-at needed-of none-is none-of ready-at same-after values-same""".split()
 # Lemmas that stood in snake case already and have the name of a definition: the definition gets the name.
 TOGETHER = ("in_order", "no_room", "every_of", "version_of")
 
@@ -97,11 +101,16 @@ def main():
         """The same in a file of src/, where a word of TOGETHER is a function's own name."""
         return m.group() if m.group() in TOGETHER else name(m)
 
+    pages = new | {w: snake(w) for w in BY_PORT}
+
+    def page(m):
+        return pages.get(m.group(), m.group())
+
     def code(text):
         return TOKEN.sub(name, text)
 
     def quoted(text):
-        return re.sub(r"`[^`\n]*`", lambda m: TOKEN.sub(name, m.group()), text)
+        return re.sub(r"`[^`\n]*`", lambda m: TOKEN.sub(page, m.group()), text)
 
     def rattle(text):
         """Clauses and comments: a dash in code is a minus, so only lower camel case is turned outside `ghost use` lines."""
@@ -112,7 +121,7 @@ def main():
         return "\n".join(line(l) for l in text.split("\n"))
 
     def edit(text):
-        turned = word if "file: src/" in text else name
+        turned = word if "file: src/" in text else page
         return "\n".join(TOKEN.sub(turned, l) if re.match(r"(old|new):", l) else quoted(l) for l in text.split("\n"))
 
     kinds = [("crates/*/specs/**/*.antt", code), ("crates/*/proofs/**/*.antt", code), ("crates/*/src/**/*.rt", rattle),
