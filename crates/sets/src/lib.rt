@@ -1,4 +1,6 @@
 // Sets of power resources in a 64-bit word: bit r is 1 where resource r is in the set.
+#![tactic(auto)]
+
 pub mod narrow;
 
 ghost use Rattle.std.specs.Prelude.{◌≡◌, ◌<◌, ◌≤◌, ◌^◌, ltb};

@@ -1,4 +1,6 @@
 // Little-endian numbers in byte slices, bytes copied, and words as bytes, four each.
+#![tactic(auto)]
+
 ghost use Rattle.std.specs.Prelude.{◌≡◌, [], ◌∷◌, ◌+◌, ◌*◌, ◌%◌, ◌≤◌, ◌<◌, length, take};
 ghost use Rattle.words.specs.Words.{read_le, bytes_le, put, word_bytes, byte_words};
 
