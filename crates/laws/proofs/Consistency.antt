@@ -12,7 +12,7 @@ use Rattle.rules.specs.Answers.{passes}
 use Rattle.rules.specs.Station.{Station}
 use Rattle.rules.specs.declared.Entry.{Entry}
 use Rattle.rules.specs.Power.{supported, wake_from, wake_powered, wake_state}
-use Rattle.rules.specs.Status.{parent_allows, wake_consistent, consistent_but_power, powered}
+use Rattle.rules.specs.Status.{parent_allows, wake_consistent, consistent_but_power}
 use Rattle.rules.specs.Request.{not_shallower_or_d0, child_bars, wake_allows, move_verdict, arm_verdict, new_entry, replace_entry, entries_after}
 use Rattle.rules.proofs.Answers.{first_both, unless_at, refused_stops, lowest_at}
 use Rattle.laws.proofs.Tests.{both_true}

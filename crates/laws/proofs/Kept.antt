@@ -14,7 +14,7 @@ use Rattle.rules.specs.Station.{Station, absent}
 use Rattle.rules.specs.Table.{parent_good}
 use Rattle.rules.specs.declared.Entry.{Entry}
 use Rattle.rules.specs.Power.{is_armed, wake_pair}
-use Rattle.rules.specs.Status.{parent_allows, wake_consistent, powered}
+use Rattle.rules.specs.Status.{parent_allows, wake_consistent}
 use Rattle.rules.specs.Request.{is_move, is_arm, form_good, child_bars, wake_allows, kind_verdict, request_verdict, new_entry, entries_after}
 use Rattle.rules.proofs.Answers.{first_both, unless_at}
 use Rattle.laws.proofs.Tests.{both_true, and-true, or_cases, or_right}

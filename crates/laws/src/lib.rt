@@ -1,1 +1,3 @@
+#![tactic(auto)]
+
 // Theorems about the rules alone; they stand in proofs/.

@@ -1,5 +1,5 @@
 -- RULES.md 3: what a device can do and what it needs, over a station and a device's number.
-use Rattle.std.specs.Prelude.{ℕ, zero, suc, Bool, true, false, ◌&&◌, ◌||◌, not, cond, eqb, leb, ltb}
+use Rattle.std.specs.Prelude.{ℕ, zero, suc, Bool, false, ◌&&◌, ◌||◌, not, cond, eqb, leb, ltb}
 use Rattle.sets.specs.Sets.{member, union}
 use Rattle.rules.specs.declared.Entry.{Entry}
 use Rattle.rules.specs.Index.{every}

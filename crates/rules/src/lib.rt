@@ -1,17 +1,18 @@
 // The values that planner, checker and board exchange. Their meaning is in docs/RULES.md, and as definitions in specs/.
+#![tactic(auto)]
 
 ghost use Rattle.std.specs.Prelude.{◌≡◌};
 ghost use Rattle.rules.specs.Answers.{reason_number, number_of, place_of, count_of, passes};
 
 // What `_DSW` is told: to let the device wake the system from sleep state `sleep` while it is in device state `state`, or to stop.
-#[derive(Drop)]
+#[derive(Clone, Copy)]
 pub enum Wake {
     Enable { sleep: u8, state: u8 },
     Disable,
 }
 
 // A method call. Resources and devices go by their numbers in the power table.
-#[derive(Drop)]
+#[derive(Clone, Copy)]
 pub enum Call {
     // `_ON` of a power resource
     ResourceOn(u8),
@@ -24,14 +25,14 @@ pub enum Call {
 }
 
 // A call or none: what a plan word says, and what a request asks of its device's own methods.
-#[derive(Drop)]
+#[derive(Clone, Copy)]
 pub enum OptionalCall {
     Is(Call),
     NoCall,
 }
 
 // A request as the board makes it: any four numbers.
-#[derive(Drop)]
+#[derive(Clone, Copy)]
 pub struct Request {
     pub kind: u32,
     pub device: u32,
@@ -40,7 +41,7 @@ pub struct Request {
 }
 
 // What the state image says of a device: its state; armed, 0 or 1; and the pair it is armed for, wake S and wake D (RULES.md 2.7).
-#[derive(Drop)]
+#[derive(Clone, Copy)]
 pub struct Entry {
     pub state: u8,
     pub armed: u8,
@@ -50,7 +51,7 @@ pub struct Entry {
 
 // The calls from an on-set to a target set: what is added to the on-set and what is removed from it, a device's own call or none, and
 // whether that comes last.
-#[derive(Drop)]
+#[derive(Clone, Copy)]
 pub struct Switching {
     pub added: u64,
     pub removed: u64,
@@ -59,7 +60,7 @@ pub struct Switching {
 }
 
 // What a permitted request does: the device's new entry, the set needed afterwards, and the calls.
-#[derive(Drop)]
+#[derive(Clone, Copy)]
 pub struct Change {
     pub entry: Entry,
     pub needed: u64,
@@ -67,21 +68,21 @@ pub struct Change {
 }
 
 // The state image of a version 1 table: four bytes a device, and the set of the resources that are on.
-#[derive(Drop)]
+#[derive(Clone, Copy)]
 pub struct State {
     pub devices: [u8; 128],
     pub on: u32,
 }
 
 // The same of a version 2 table.
-#[derive(Drop)]
+#[derive(Clone, Copy)]
 pub struct WideState {
     pub devices: [u8; 256],
     pub on: u64,
 }
 
 // Why a table, a state, a request, a list, a description or a buffer is refused, in the order of the answers' numbers, 1 to 21.
-#[derive(Drop)]
+#[derive(Clone, Copy)]
 pub enum Reason {
     NotATable,
     TooMany,
@@ -116,7 +117,7 @@ pub enum Reason {
 
 // An answer: done with a count, of the calls in a plan or of the bytes that write and describe have written, else 0; or refused with a
 // place, 0 where the reason names none.
-#[derive(Drop)]
+#[derive(Clone, Copy)]
 pub enum Verdict {
     Done(usize),
     Refused(Reason, usize),
