@@ -6,7 +6,7 @@ ghost use Rattle.rules.specs.Station.{Wide, record_size, fields_size, zeros_size
 ghost use Rattle.record.specs.Value.{device_value, sets_bytes, value_bytes};
 
 // What a device's record says, in the order of RULES.md 2.4.
-#[derive(Drop)]
+#[derive(Clone, Copy)]
 pub struct Device {
     pub parent: u8,
     pub ps: u8,

@@ -1,4 +1,6 @@
 // Whether any bytes are a power table, answers 1 to 6, and the bytes of one device's record.
+#![tactic(auto)]
+
 pub mod fields;
 pub mod header;
 

@@ -1,0 +1,6 @@
+use Rattle.table.proofs.Readers.{field}
+use borrow.Author.Rules.{rules}
+use Rattle.table.proofs.fields.flags.Goals as goal
+
+pub returns : goal.returns
+returns c = search (rules, field (λ v. v.flags))

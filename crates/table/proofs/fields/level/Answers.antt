@@ -1,0 +1,6 @@
+use Rattle.table.proofs.Readers.{field_laws}
+use borrow.Author.Rules.{rules}
+use Rattle.table.proofs.fields.level.Goals as goal
+
+pub returns : goal.returns
+returns c = search (rules, field_laws)
