@@ -1,4 +1,6 @@
 // A call as a word of the plan, and back; and the words that switch a resource.
+#![tactic(auto)]
+
 pub mod order;
 pub mod own;
 

@@ -55,7 +55,7 @@ pub from_same : (s : Station) (f g : ℕ → Entry) (a i k : ℕ) → ((j : ℕ)
 unfolding needed_from
 from_same s f g a i zero h = refl
 from_same s f g a i (suc k) h =
-    rw (h i (omega arith) (omega arith)) (from_same s f g _ (i + 1) k (λ j p q. h j (omega arith) (omega arith)))
+    rw (h i (omega arith) (omega arith)) (from_same s f g (union a (needs s i (g i))) (i + 1) k (λ j p q. h j (omega arith) (omega arith)))
 
 -- ---- one entry replaced
 replaced_other : (f : ℕ → Entry) (d j : ℕ) (e : Entry) → (j ≡ d → ⊥) → f j ≡ replace_entry f d e j

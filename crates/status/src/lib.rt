@@ -1,4 +1,6 @@
 // Answers 7 and 8 of a lent image, and a fresh state written into lent bytes.
+#![tactic(auto)]
+
 pub mod consistency;
 pub mod image;
 pub mod needed;

@@ -6,7 +6,7 @@ ghost use Rattle.switching.specs.Decode.{switched_by, switched};
 use rules::{Call, OptionalCall};
 
 // A resource or none.
-#[derive(Drop)]
+#[derive(Clone, Copy)]
 pub enum OptionalResource {
     Resource(u8),
     NoResource,

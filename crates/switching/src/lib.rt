@@ -1,5 +1,7 @@
 // Switching: the calls from an on-set to a target set, before or after a device's own call, or without one. They are written into a plan,
 // and looked for in a list.
+#![tactic(auto)]
+
 pub mod decode;
 pub mod take;
 pub mod walk;
@@ -14,7 +16,7 @@ ghost use Rattle.table.specs.Layout.{WellSized};
 use rules::{OptionalCall, Switching};
 
 // How far a phase took its words from the front of a list: up to a place, or that a word cannot stand where it stands.
-#[derive(Drop)]
+#[derive(Clone, Copy)]
 pub enum Taken {
     UpTo(usize),
     Refused,

@@ -9,7 +9,7 @@ use crate::Taken;
 use crate::decode::OptionalResource;
 
 // Whether r's resourceorder may follow the last one's: not higher for OFFs, not lower for ONs.
-fn in_order_lem(table: &[u8], off: bool, last: usize, r: usize) -> bool
+fn in_order(table: &[u8], off: bool, last: usize, r: usize) -> bool
     requires { WellSized table.now × (last < count_r table.now) × (r < count_r table.now) }
     ensures { result ≡ follows (station table.now) off last r }
 {
@@ -32,7 +32,7 @@ fn comes_next(table: &[u8], off: bool, left: u64, first: bool, last: usize, r: u
     if first {
         return true;
     }
-    in_order_lem(table, off, last, r as usize)
+    in_order(table, off, last, r as usize)
 }
 
 // The place after the words that switch each resource of the set, from `at` on.

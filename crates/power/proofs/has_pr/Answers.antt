@@ -1,0 +1,7 @@
+use Rattle.table.proofs.Readers.{field_here}
+use borrow.Author.Rules.{rules}
+use Rattle.power.proofs.StateLaws.{bit_of}
+use Rattle.power.proofs.has_pr.Goals as goal
+
+pub returns : goal.returns
+returns c = search (rules, bit_of, field_here (λ v. v.pr))

@@ -1,0 +1,13 @@
+use Rattle.table.proofs.Readers.{field_here}
+use Rattle.status.proofs.Keeps.{keep_laws}
+use borrow.Author.Rules.{rules}
+use Rattle.status.proofs.consistency.parent_allows.Goals as goal
+
+pub returns-then-p : goal.returns-then-p
+returns-then-p c = search (rules, keep_laws, field_here (λ v. v.parent))
+
+pub entry-up-requires : goal.entry-up-requires
+entry-up-requires c = search (rules, keep_laws, field_here (λ v. v.parent))
+
+pub returns : goal.returns
+returns c = search (rules, keep_laws, field_here (λ v. v.parent))

@@ -1,0 +1,6 @@
+use borrow.Author.Rules.{rules}
+use Rattle.status.proofs.Held.{in_place}
+use Rattle.status.proofs.image.entry.Goals as goal
+
+pub returns : goal.returns
+returns c = search (rules, in_place)

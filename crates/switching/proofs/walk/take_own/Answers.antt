@@ -1,0 +1,16 @@
+use Rattle.calls.proofs.OwnCall.{call_in_range}
+use Rattle.switching.proofs.Walks.{own_call_lem}
+use borrow.Author.Rules.{rules}
+use Rattle.switching.proofs.walk.take_own.Goals as goal
+
+pub returns-then-not-here : goal.returns-then-not-here
+returns-then-not-here c = search (rules, own_call_lem)
+
+pub take_call-requires : goal.take_call-requires
+take_call-requires c = search (rules, call_in_range)
+
+pub returns-in-Is : goal.returns-in-Is
+returns-in-Is c = search (rules, own_call_lem)
+
+pub returns-in-NoCall : goal.returns-in-NoCall
+returns-in-NoCall c = search (rules, own_call_lem)
