@@ -1,2 +1,4 @@
 // Call lists: whether a list conforms to a request.
+#![tactic(auto)]
+
 pub mod check;

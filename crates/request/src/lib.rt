@@ -1,4 +1,6 @@
 // Requests: answers 10 to 18, and the entry that an accepted request gives its device. No rule here looks at the on-set.
+#![tactic(auto)]
+
 pub mod change;
 pub mod stages;
 

@@ -1,4 +1,6 @@
 // Sleep entry: the states that the devices take for it, and answers 10, 20 and 21. The plan is written by the planner.
+#![tactic(auto)]
+
 pub mod choice;
 pub mod stages;
 

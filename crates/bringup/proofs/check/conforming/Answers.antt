@@ -1,0 +1,18 @@
+use Rattle.bringup.proofs.Whole.{switch_laws}
+use borrow.Author.Rules.{rules}
+use Rattle.bringup.proofs.check.conforming.Goals as goal
+
+pub needed-target-requires : goal.needed-target-requires
+needed-target-requires c = search (rules, switch_laws)
+
+pub difference-added-requires : goal.difference-added-requires
+difference-added-requires c = search (rules, switch_laws)
+
+pub difference-removed-requires : goal.difference-removed-requires
+difference-removed-requires c = search (rules, switch_laws)
+
+pub walk_phases-requires : goal.walk_phases-requires
+walk_phases-requires c = search (rules, switch_laws)
+
+pub returns : goal.returns
+returns c = search (rules, switch_laws)
