@@ -71,7 +71,7 @@ pub fn plan_bytes(table: &[u8], state: &mut [u8], q: Request, plan: &mut [u8]) -
 }
 
 // How many words a list of bytes has, or that it cannot conform.
-#[derive(Drop)]
+#[derive(Clone, Copy)]
 pub enum ListWords {
     Words(usize),
     NotAList,

@@ -1,4 +1,6 @@
 // The functions for C: numbers and byte slices in, one number out.
+#![tactic(auto)]
+
 pub mod buffers;
 mod moves;
 

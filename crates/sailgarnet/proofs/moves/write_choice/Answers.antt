@@ -1,0 +1,16 @@
+use Rattle.planner.proofs.Choices.{entering, by_choice}
+use borrow.Author.Rules.{rules}
+use Rattle.sailgarnet.proofs.moves.write_choice.Goals as goal
+
+pub none_moves-requires : goal.none_moves-requires
+none_moves-requires c = search (rules, entering)
+
+-- Where none moves, the list is that of bring-up.
+pub write_offs-requires : goal.write_offs-requires
+write_offs-requires c = (search (rules, entering), search (rules, entering))
+
+pub returns-then-none_moves : goal.returns-then-none_moves
+returns-then-none_moves c = search (rules, by_choice)
+
+pub returns : goal.returns
+returns c = search (rules, by_choice)
