@@ -1,5 +1,7 @@
 // Runs the cases of the file `stdin`, a line each, through the exported functions and some below them. It prints each line as it stands,
 // and after it what was answered.
+#![tactic(auto)]
+
 mod descriptions;
 mod looks;
 mod print;
@@ -8,9 +10,12 @@ mod states;
 mod tables;
 mod tasks;
 
+// The standard input.
+const STDIN_FILENO: i32 = 0;
+
 fn main() {
     let mut text = io::large_buffer();
-    let n = io::read_full(libc::STDIN_FILENO, &mut text);
+    let n = io::read_full(STDIN_FILENO, &mut text);
     let mut table = [0u8; 4428];
     let mut size = 0;
     let mut state = [0u8; 265];

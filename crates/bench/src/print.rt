@@ -2,8 +2,10 @@
 ghost use Rattle.std.specs.Prelude.{◌≡◌, ◌/◌, ◌%◌, ◌<◌, length};
 ghost use Rattle.rules.specs.Answers.{number_of};
 
-use libc::STDOUT_FILENO;
 use rules::Verdict;
+
+// The standard output.
+const STDOUT_FILENO: i32 = 1;
 
 // Prints a text, and answers its length.
 pub fn text(text: &[u8]) -> usize

@@ -8,7 +8,7 @@ use crate::{print, script, states};
 use rules::Request;
 
 // A request, or bring-up.
-#[derive(Drop)]
+#[derive(Clone, Copy)]
 pub enum Task {
     Plan(Request),
     BringUp,
