@@ -1,7 +1,6 @@
 # make run: the bench station's plans in words, and what is on after each call. make library: the library for C and Rust.
 # make test: everything that must hold before a change lands.
-# make check: for while you work: proves what has changed, then runs every test but the must-fail edits and the soak; three or four
-# minutes if nothing has changed.
+# make check: for while you work: proves what has changed, then runs every test but the must-fail edits and the soak.
 # make install PREFIX=/usr/local: the library, its header, sailgarnet.pc for pkg-config and the command, under DESTDIR if it is given.
 # make uninstall, with the same PREFIX and DESTDIR: removes these files.
 # make bench, make instructions: time and instructions a call, Sailgarnet beside the reference. make benchmarks: docs/BENCHMARKS.md anew.
@@ -29,8 +28,8 @@ check:
 library: $(LIBRARY)
 
 # Made anew when a file or folder of the proved code is newer; make -B library makes it in any case.
-$(LIBRARY): crates.txt $(shell find crates -name must-fail -prune -o \( -type d -o -name '*.rt' -o -name '*.antt' \) -print)
-	@bash tests/prove.sh staticlib sailgarnet
+$(LIBRARY): crates.txt $(shell find crates -mindepth 2 \( -name must-fail -o -name out \) -prune -o \( -type d -o -name '*.rt' -o -name '*.antt' \) -print)
+	@bash tests/prove.sh library
 
 $(COMMAND): $(LIBRARY) $(shell find host -name target -prune -o \( -name '*.rs' -o -name 'Cargo.*' \) -print) examples/station.pwt
 	@cargo build $(HOST) --release -p sailgarnet-cli

@@ -19,7 +19,7 @@ above it prints.
 |---|---|
 | processor | $(sed -n 's/^model name[^:]*: //p' /proc/cpuinfo | head -n 1), $(grep -c '^processor' /proc/cpuinfo) cores |
 | load average before the times were taken | $load |
-| library | \`$(rt --version | head -n 1)\`, $(stat -c %s "$library") bytes, SHA-256 $(sha256sum "$library" | cut -c 1-16).. |
+| library | \`$(rt version)\`, $(stat -c %s "$library") bytes, SHA-256 $(sha256sum "$library" | cut -c 1-16).. |
 | reference | \`$(rustc --version)\`, release profile of \`host/Cargo.toml\` |
 | C compiler | \`$(gcc --version | head -n 1)\` |
 | counting | \`$(valgrind --version)\`, tool callgrind |

@@ -17,7 +17,8 @@ def crates():
     """The crates in the order of crates.txt, each with those of them that it depends on; crates of the kit have no line there."""
     with open("crates.txt", encoding="utf-8") as file:
         lines = [line.split("#")[0].split(":") for line in file]
-    needs = {line[0].strip(): line[1].split() for line in lines if len(line) == 2}
+    # a static library has this word after its name
+    needs = {line[0].removesuffix(" staticlib").strip(): line[1].split() for line in lines if len(line) == 2}
     return {crate: [other for other in others if other in needs] for crate, others in needs.items()}
 
 

@@ -61,8 +61,8 @@ def installed(page, expected):
 
 def proving(page):
     """The lines of `make run` while it proves: the crates below the exported functions, in the order of crates.txt."""
-    proved = [*below(crates(), "sailgarnet"), "sailgarnet"]
-    lines = [f"{i:2} of {len(proved)}  {crate:10}  N s" for i, crate in enumerate(proved, 1)]
+    proved = [*below(crates(), "sailgarnet_c"), "sailgarnet_c"]
+    lines = [f"{i:2} of {len(proved)}  {crate:12}  N s" for i, crate in enumerate(proved, 1)]
     shown = block(page, "Proving")
     if not shown[0].startswith(f"Proving {len(proved)} crates,") or shown[1:] != [*lines[:2], " ..", lines[-1]]:
         sys.exit("make run proves other crates than README.md says:\n" + "\n".join(lines))
