@@ -43,3 +43,4 @@ pub mod Runs
 pub mod Made
 pub mod OneStation
 pub mod Versions
+pub mod About

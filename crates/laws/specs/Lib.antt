@@ -6,3 +6,4 @@ pub mod BringUp
 pub mod Sleep
 pub mod Inverse
 pub mod Versions
+pub mod About
