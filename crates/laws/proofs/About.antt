@@ -1,2 +1,3 @@
 -- What a reader concludes from each statement, and from nothing else: none of these proofs knows how a statement was proved.
 pub mod Planner
+pub mod Checker
