@@ -2,3 +2,4 @@
 -- so from a statement with a part taken out or made weaker it does not follow. Modules are checked in the order of their names: these first.
 pub mod Planner
 pub mod Checker
+pub mod Sleep
