@@ -2,3 +2,4 @@
 pub mod Planner
 pub mod Checker
 pub mod Sleep
+pub mod BringUp
