@@ -6,3 +6,4 @@ pub mod Sleep
 pub mod BringUp
 pub mod Writer
 pub mod Versions
+pub mod Execution
