@@ -66,7 +66,7 @@ pub const CHECKER: &[u8] = &[
 ];
 /// The answers for a fresh state.
 pub const FRESH: &[u8] = &[0, 1, 2, 3, 4, 5, 6, 7];
-/// The answers of the writer for a version that there is: 1 is for the others, and
+/// The answers of the writer for a known version: 1 is for the others, and
 /// 3 for the length of a table that is read.
 pub const WRITER: &[u8] = &[0, 2, 4, 5, 6, 9];
 /// The answers of the describer.
@@ -186,7 +186,7 @@ impl Functions {
 pub struct Coverage {
     one: Functions,
     two: Functions,
-    /// For all numbers of versions that there are not, and for tables without one.
+    /// For all numbers of unknown versions, and for tables without one.
     neither: Functions,
 }
 

@@ -157,7 +157,7 @@ fn set_length(table: &mut Vec<u8>) {
 }
 
 /// Gives a table another version: the other one, in some cases with the length
-/// that fits, or one that there is not.
+/// that fits, or an unknown one.
 fn another_version(rng: &mut Rng, table: &mut Vec<u8>) {
     let number = match rng.below(2) {
         0 => 3 - version_of(table).number(),

@@ -2,6 +2,11 @@
 
 use reference::Version;
 
+/// An entry that is not armed.
+pub const fn at(state: u8) -> [u8; 4] {
+    [state, 0, 0, 0]
+}
+
 /// A state image from its entries and the set of resources that are on.
 pub fn image(version: Version, entries: &[[u8; 4]], on: u64) -> Vec<u8> {
     let mut bytes = entries.concat();

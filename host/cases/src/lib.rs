@@ -50,14 +50,14 @@ pub use damage::{damage_description, damage_state, damage_table};
 pub use description::{Description, VERSIONS};
 pub use faults::{entries_with_fault, faults, good_entries, put_fault, FAULTS};
 pub use guard::Guarded;
-pub use image::{converted, image, on_set, set_on};
+pub use image::{at, converted, image, on_set, set_on};
 pub use inverse::{inverse_holds, Describe, Write};
 pub use lists::{permute_equal_orders, turn_on_all_needed, vary_bring_up_list, vary_list};
 pub use requests::{any_request, any_sleep, likely_request};
 pub use rng::Rng;
 pub use sleep::{Sleep, SLEEP};
 pub use states::{arm_for, arm_one_for_another, draw_state, report_any_on};
-pub use station::{first_resources, Record, Resource, Station, SHAPES};
+pub use station::{first_resources, listed_sets, Record, Resource, Station, SHAPES};
 pub use versions::{Compared, Versions};
 pub use workload::{filled_station, workloads, Workload};
 
@@ -416,7 +416,7 @@ fn room(rng: &mut Rng, needed: usize) -> usize {
 }
 
 /// Says which thing is not as it must be.
-fn equal<T: PartialEq + fmt::Debug + ?Sized>(
+pub fn equal<T: PartialEq + fmt::Debug + ?Sized>(
     what: &str,
     is: &T,
     expected: &T,

@@ -156,6 +156,23 @@ pub(crate) fn header(version: Version, resource_count: usize, device_count: usiz
     [b"PWT", &counts[..]].concat()
 }
 
+/// The sets of a device: of these for `_PR0` to `_PR3` the ones that a `_PR` mask
+/// has, and that of `_PRW`.
+pub fn listed_sets(pr: u8, states: [u64; 4], prw: u64) -> [u64; 5] {
+    let listed = |x: usize| if pr >> x & 1 != 0 { states[x] } else { 0 };
+    [listed(0), listed(1), listed(2), listed(3), prw]
+}
+
+/// So many resources that can be on in every sleep state, in an order that is not
+/// that of their numbers. Some have equal orders.
+pub(crate) fn mixed_orders(count: usize) -> Vec<Resource> {
+    let resource = |r: usize| Resource {
+        level: 4,
+        order: 7 * r as u16 % 16,
+    };
+    (0..count).map(resource).collect()
+}
+
 /// The set of the first resources, at most 64.
 pub fn first_resources(count: usize) -> u64 {
     (0..count).fold(0, |set, r| set | 1 << r)

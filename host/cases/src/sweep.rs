@@ -5,8 +5,8 @@ pub mod sleep;
 
 use reference::{Request, Version};
 
-use crate::image::image;
-use crate::station::{Record, Resource, Station, SHAPES};
+use crate::image::{at, image};
+use crate::station::{listed_sets, Record, Resource, Station, SHAPES};
 
 /// Every length from 0 to `extra` bytes more than `bytes` has. Bytes past the
 /// end are zero.
@@ -143,6 +143,13 @@ pub fn each_list(version: Version, list: &[u8], mut each: impl FnMut(&[u8])) {
     }
 }
 
+/// The number of the bench station's bus.
+pub const BUS: u32 = 0;
+/// The number of its camera.
+pub const CAMERA: u32 = 1;
+/// The number of its lamp.
+pub const LAMP: u32 = 2;
+
 /// The bench station (RULES.md 10.1): a bus with a camera and a lamp.
 pub fn bench_station() -> Station {
     let resource = |level, order| Resource { level, order };
@@ -179,17 +186,12 @@ pub fn bench_station() -> Station {
 pub fn each_move(version: Version, mut each: impl FnMut(&[u8], &[u8], Request)) {
     for shape in SHAPES {
         let table = family(shape).table(version);
-        for states in 0..5 * 5 * 5 {
-            let [parent, device, child] = [states / 25, states / 5 % 5, states % 5];
-            let state = image(
-                version,
-                &[[parent, 0, 0, 0], [device, 0, 0, 0], [child, 0, 0, 0]],
-                0x1f,
-            );
+        bring_up::each_three_states(|states| {
+            let state = image(version, &states.map(at), 0x1f);
             for target in 0..5 {
                 each(&table, &state, Request::move_to(1, target));
             }
-        }
+        });
     }
 }
 
@@ -203,18 +205,11 @@ fn family((ps, pr): (u8, u8)) -> Station {
         sets: [0x01, 0x01, 0x01, 0x01, 0],
         ..Record::default()
     };
-    let listed = |x: u8, set| if pr >> x & 1 != 0 { set } else { 0 };
     let device = Record {
         parent: 0,
         ps,
         pr,
-        sets: [
-            listed(0, 0x03),
-            listed(1, 0x05),
-            listed(2, 0x09),
-            listed(3, 0x11),
-            0,
-        ],
+        sets: listed_sets(pr, [0x03, 0x05, 0x09, 0x11], 0),
         ..Record::default()
     };
     Station {
@@ -235,7 +230,7 @@ pub fn each_relative(version: Version, mut each: impl FnMut(&[u8], &[u8], Reques
     let table = bring_up::chain(version).table(version);
     let limit = version.limit();
     for split in 0..=limit {
-        let entry = |d| [if d < split { 0 } else { 3 }, 0, 0, 0];
+        let entry = |d| at(if d < split { 0 } else { 3 });
         let entries: Vec<[u8; 4]> = (0..limit).map(entry).collect();
         let state = image(version, &entries, u64::MAX);
         for d in split + 1..limit {
@@ -299,7 +294,7 @@ fn each_pair(
 ) {
     let table = station.table(version);
     for present in 0..5 {
-        let state = image(version, &[[present, 0, 0, 0]], 0b01);
+        let state = image(version, &[at(present)], 0b01);
         for d in 0..5 {
             each(&table, &state, Request::arm(0, s.into(), d));
         }

@@ -4,7 +4,7 @@
 use reference::{plan, Request, Version};
 
 use crate::image::image;
-use crate::station::{first_resources, Record, Resource, Station};
+use crate::station::{first_resources, mixed_orders, Record, Station};
 use crate::sweep::bench_station;
 use crate::{fresh_state, set_planned, version_of, Case};
 
@@ -325,12 +325,8 @@ impl Full {
     /// before. Every device has every object and a set for each; all resources but
     /// eight are for the last one alone.
     fn station(&self) -> Station {
-        let resource = |r: usize| Resource {
-            level: 4,
-            order: 7 * r as u16 % 16,
-        };
         Station {
-            resources: (0..self.0.limit()).map(resource).collect(),
+            resources: mixed_orders(self.0.limit()),
             devices: (0..=self.last()).map(|d| self.device(d)).collect(),
         }
     }

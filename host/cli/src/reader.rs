@@ -129,7 +129,7 @@ impl<'a> Text<'a> {
     }
 
     /// Has the table written in another version than the text says, unless the text
-    /// says one that there is not.
+    /// says an unknown one.
     pub fn write_as(&mut self, version: Version) {
         if Version::from_number(self.version).is_some() {
             self.version = version.number();

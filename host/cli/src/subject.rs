@@ -244,16 +244,15 @@ impl<'a> Subject<'a> {
         }
     }
 
-    /// Why this device is not consistent. That a resource is off is no reason to
-    /// refuse a bring-up.
+    /// Why this device is not consistent.
     fn inconsistency(&self, device: usize) -> Option<String> {
         let table = Table::read(&self.table).ok()?;
         let state = State::read_values(&table, &self.state)?;
-        let mut reasons = consistency::reasons(&table, &state, device);
-        if let Task::Request(_) = self.task {
-            reasons.extend(consistency::missing(&table, &state, device));
-        }
-        consistency::sentence(&reasons)
+        let found = match self.task {
+            Task::Request(_) => state.inconsistencies(&table, device),
+            Task::BringUp => state.inconsistencies_for_bring_up(&table, device),
+        };
+        consistency::sentence(state.entry(device), &found)
     }
 
     /// What makes the state consistent, if only resources are off in it.

@@ -10,13 +10,15 @@
 //! version fixes. [`plan_words`] and [`check_words`] take 32-bit words.
 //! [`effect`] gives what a permitted request does, and [`demand3`] carries out
 //! a list that the checker passed. [`sleep_moves`] gives the moves of a sleep
-//! entry, and [`sleep_obstacles`] says why there is none.
+//! entry, and [`sleep_obstacles`] says why there is none;
+//! [`State::inconsistencies`] says why a device is not consistent.
 
 #![forbid(unsafe_code)]
 
 mod answer;
 mod bring_up;
 mod call;
+mod consistency;
 mod describe;
 mod device;
 mod execution;
@@ -33,6 +35,7 @@ mod work;
 pub use answer::Answer;
 pub use bring_up::{bring_up, check_bring_up};
 pub use call::Call;
+pub use consistency::Inconsistency;
 pub use describe::{describe, write, DESCRIBED_DEVICE_BYTES, DESCRIBED_RESOURCE_BYTES};
 pub use device::{wake_range, Device};
 pub use execution::{demand3, demand3_words, execution, Execution};

@@ -1,7 +1,7 @@
 //! The state image, read in place (answers 7 and 8).
 
 use crate::answer::Answer;
-use crate::device::Record;
+use crate::consistency::ALL_ON;
 use crate::table::{for_either, Records, Table};
 use crate::version::Version;
 
@@ -86,27 +86,23 @@ impl<'a> State<'a> {
 impl<const N: usize, const W: usize> Records<'_, N, W> {
     /// Reads a consistent state, or refuses it with 7 or 8.
     pub(crate) fn state<'a>(&self, bytes: &'a [u8]) -> Result<State<'a>, Answer> {
-        self.state_where(bytes, |state, device, entry| {
-            self.is_consistent_but_for_power(state, device, entry)
-                && device.needs(entry) & !state.on == 0
-        })
+        self.state_with(bytes, |state| state.on)
     }
 
     /// Reads a state for bring-up, or refuses it with 7 or 8.
     pub(crate) fn state_for_bring_up<'a>(&self, bytes: &'a [u8]) -> Result<State<'a>, Answer> {
-        self.state_where(bytes, |state, device, entry| {
-            self.is_consistent_but_for_power(state, device, entry)
-        })
+        self.state_with(bytes, |_| ALL_ON)
     }
 
-    /// Reads a state of which every device is good, or refuses it with 7 or 8.
-    fn state_where<'a>(
+    /// Reads a state whose devices are consistent with these resources on, or refuses
+    /// it with 7 or 8.
+    fn state_with<'a>(
         &self,
         bytes: &'a [u8],
-        is_good: impl Fn(&State, Record<N, W>, Entry) -> bool,
+        on: impl Fn(&State) -> u64,
     ) -> Result<State<'a>, Answer> {
         let state = self.state_values(bytes).ok_or(Answer::refused(7, 0))?;
-        let is_bad = |&d: &usize| !is_good(&state, self.device(d), state.entry(d));
+        let is_bad = |&d: &usize| !self.is_consistent(&state, d, on(&state));
         match (0..self.device_count()).find(is_bad) {
             Some(d) => Err(Answer::refused(8, d as u64)),
             None => Ok(state),
@@ -133,23 +129,6 @@ impl<const N: usize, const W: usize> Records<'_, N, W> {
             entries: &entries[..self.device_count()],
             on,
         }
-    }
-
-    fn is_consistent_but_for_power(
-        &self,
-        state: &State,
-        device: Record<N, W>,
-        entry: Entry,
-    ) -> bool {
-        device.supports(entry.state)
-            && device
-                .parent()
-                .is_none_or(|p| entry.state >= state.entry(p).state)
-            && (!entry.armed
-                || entry.state <= entry.wake_d
-                    && device
-                        .wake_pair(self.resources, entry.wake_s, entry.wake_d)
-                        .is_ok())
     }
 
     /// The resources that some device needs.

@@ -58,15 +58,11 @@ impl fmt::Display for Answer {
     /// One sentence with the number and the place.
     fn fmt(&self, f: &mut fmt::Formatter) -> fmt::Result {
         let Self { number, place, .. } = self;
-        let Some(verdict) = self.verdict() else {
-            return write!(f, "answer {number}, place {place}: an unknown answer.");
+        let (noun, sentence) = match self.verdict() {
+            Some(verdict) => (verdict.place().noun(), verdict.sentence()),
+            None => (Place::Nothing.noun(), "an unknown answer."),
         };
-        let sentence = verdict.sentence();
-        match verdict.place() {
-            Place::Nothing => write!(f, "answer {number}, place {place}: {sentence}"),
-            Place::Resource => write!(f, "answer {number}, resource {place}: {sentence}"),
-            Place::Device => write!(f, "answer {number}, device {place}: {sentence}"),
-        }
+        write!(f, "answer {number}, {noun} {place}: {sentence}")
     }
 }
 
@@ -81,85 +77,117 @@ pub enum Place {
     Device,
 }
 
-/// The meaning of an answer number. The names of refusals are those of `Reason`
-/// in the proved planner and of the C header.
-#[derive(Clone, Copy, Debug, PartialEq, Eq, Hash)]
-#[repr(u8)]
-pub enum Verdict {
-    /// Nothing is refused.
-    Done = 0,
-    /// The table is too short for a header, the header is wrong, or the version
-    /// to write is neither 1 nor 2.
-    NotATable = 1,
-    /// The table has more resources or devices than its version allows.
-    TooMany = 2,
-    /// The table has the wrong length.
-    WrongLength = 3,
-    /// A resource record is wrong or cut short.
-    BadResource = 4,
-    /// A field of a device record is wrong, or the record is cut short.
-    BadDevice = 5,
-    /// A device breaks an object rule.
-    BadObjects = 6,
-    /// The state has the wrong length or a value out of its rules.
-    BadState = 7,
-    /// The state is not consistent.
-    Inconsistent = 8,
-    /// There is too little room for the plan, the table or a list of records.
-    NoRoom = 9,
-    /// A number of the request is out of range.
-    BadRequest = 10,
-    /// The device does not have the target state.
-    Unsupported = 11,
-    /// The target is shallower than the present state and not D0.
-    Shallower = 12,
-    /// The parent is deeper than the target.
-    ParentDeeper = 13,
-    /// A child is shallower than the target.
-    ChildShallower = 14,
-    /// The device is armed, and the target is deeper than its wake state.
-    TooDeepToWake = 15,
-    /// The device cannot wake the system from that sleep state.
-    NoWake = 16,
-    /// A resource for wake is off in that sleep state.
-    WakeUnpowered = 17,
-    /// The device state is not allowed for wake.
-    BadWakeState = 18,
-    /// The list does not conform.
-    NotConforming = 19,
-    /// A device is armed for another sleep state than that of the sleep entry.
-    ArmedForOther = 20,
-    /// No choice of states for all devices meets the rules of sleep entry.
-    NoChoice = 21,
+impl Place {
+    /// What stands before the number of the place in a text.
+    const fn noun(self) -> &'static str {
+        match self {
+            Place::Nothing => "place",
+            Place::Resource => "resource",
+            Place::Device => "device",
+        }
+    }
+}
+
+/// Makes [`Verdict`] of a table: the number of an answer, its name, what its place
+/// counts, and its sentence.
+macro_rules! verdicts {
+    ($($number:literal $name:ident $place:ident $sentence:literal;)*) => {
+        /// The meaning of an answer number. The names of refusals are those of `Reason`
+        /// in the proved planner and of the C header.
+        #[derive(Clone, Copy, Debug, PartialEq, Eq, Hash)]
+        #[repr(u8)]
+        pub enum Verdict {
+            $(
+                #[doc = concat!("Answer ", $number, ": ", $sentence)]
+                $name = $number,
+            )*
+        }
+
+        impl Verdict {
+            /// Every verdict, by number.
+            pub const ALL: [Verdict; 22] = [$(Verdict::$name),*];
+
+            /// What the place of this answer counts.
+            pub const fn place(self) -> Place {
+                match self {
+                    $(Verdict::$name => Place::$place,)*
+                }
+            }
+
+            /// The meaning in one sentence. "This resource" and "this device" are the
+            /// ones at the place of the answer.
+            pub const fn sentence(self) -> &'static str {
+                match self {
+                    $(Verdict::$name => $sentence,)*
+                }
+            }
+        }
+    };
+}
+
+verdicts! {
+    0 Done Nothing "done.";
+    1 NotATable Nothing
+        "the table is shorter than 8 bytes, its mark, its version or its byte 7 is wrong, or the \
+         version to write is neither 1 nor 2.";
+    2 TooMany Nothing
+        "the table has more resources or more devices than its version allows: 32 of each in \
+         version 1, 64 in version 2.";
+    3 WrongLength Nothing
+        "the table is not 8 bytes, 4 a resource and, in version 1, 40 a device long, in version 2 \
+         64 a device.";
+    4 BadResource Resource
+        "the record of this resource has a system level above 4, its byte 1 is not zero, or it is \
+         cut short.";
+    5 BadDevice Device
+        "the record of this device has a field with a value that is not allowed, or it is cut \
+         short.";
+    6 BadObjects Device
+        "the objects of this device break a rule: any _PS needs _PS0 and _PS3, any _PR needs _PR0, \
+         with both kinds _PS1 is there exactly if _PR1 is and _PS2 exactly if _PR2 is, and _DSW \
+         needs _PRW.";
+    7 BadState Nothing
+        "the state is not 132 bytes long, with a table of version 2 not 264, or a value in it is \
+         not allowed.";
+    8 Inconsistent Device
+        "the state is not consistent: this device is in a state it does not have, is shallower \
+         than its parent, is armed for a wake pair that is not legal or shallower than its own \
+         state, or, except at bring-up, needs a resource that is off.";
+    9 NoRoom Nothing
+        "a buffer is too short for what is to be written: for 33 calls, of sleep entry for 1056, \
+         with a table of version 2 for 65 and 4160, however few are made, or for the whole table \
+         or list of records.";
+    10 BadRequest Nothing
+        "the kind, the device or a number of the request is out of range, or an unused number is \
+         not zero.";
+    11 Unsupported Nothing "the device does not have the state asked for.";
+    12 Shallower Nothing
+        "the state asked for is shallower than the present one and is not D0; a device first goes \
+         to D0.";
+    13 ParentDeeper Device
+        "this device is the parent and is in a deeper state than the one asked for.";
+    14 ChildShallower Device
+        "this device is a child and is in a shallower state than the one asked for.";
+    15 TooDeepToWake Nothing
+        "the device is armed, and the state asked for is deeper than its wake state.";
+    16 NoWake Nothing
+        "the device has no _PRW, or the sleep state is deeper than its _PRW allows.";
+    17 WakeUnpowered Nothing
+        "a resource of _PRW has a system level below the sleep state, so it is off there.";
+    18 BadWakeState Nothing
+        "the device cannot wake the system from that device state: it does not have it, the state \
+         is outside the range for the sleep state, or it is shallower than the present state.";
+    19 NotConforming Nothing
+        "the list does not conform: it does not have exactly the calls that are due, each once \
+         and in order.";
+    20 ArmedForOther Device "this device is armed, and not for the sleep state asked for.";
+    21 NoChoice Nothing
+        "there are no states for all devices in that sleep state: each must support its state, be \
+         at least as deep as now, as its _SxD and as its parent, need no resource that cannot be \
+         on there, and if armed be in its wake state.";
 }
 
 impl Verdict {
-    /// Every verdict, by number.
-    pub const ALL: [Verdict; 22] = [
-        Verdict::Done,
-        Verdict::NotATable,
-        Verdict::TooMany,
-        Verdict::WrongLength,
-        Verdict::BadResource,
-        Verdict::BadDevice,
-        Verdict::BadObjects,
-        Verdict::BadState,
-        Verdict::Inconsistent,
-        Verdict::NoRoom,
-        Verdict::BadRequest,
-        Verdict::Unsupported,
-        Verdict::Shallower,
-        Verdict::ParentDeeper,
-        Verdict::ChildShallower,
-        Verdict::TooDeepToWake,
-        Verdict::NoWake,
-        Verdict::WakeUnpowered,
-        Verdict::BadWakeState,
-        Verdict::NotConforming,
-        Verdict::ArmedForOther,
-        Verdict::NoChoice,
-    ];
-
     /// The verdict with this number.
     pub const fn from_number(number: u8) -> Option<Self> {
         if (number as usize) < Self::ALL.len() {
@@ -172,109 +200,6 @@ impl Verdict {
     /// The answer number.
     pub const fn number(self) -> u8 {
         self as u8
-    }
-
-    /// What the place of this answer counts.
-    pub const fn place(self) -> Place {
-        match self {
-            Verdict::BadResource => Place::Resource,
-            Verdict::BadDevice
-            | Verdict::BadObjects
-            | Verdict::Inconsistent
-            | Verdict::ParentDeeper
-            | Verdict::ChildShallower
-            | Verdict::ArmedForOther => Place::Device,
-            _ => Place::Nothing,
-        }
-    }
-
-    /// The meaning in one sentence. "This resource" and "this device" are the
-    /// ones at the place of the answer.
-    pub const fn sentence(self) -> &'static str {
-        match self {
-            Verdict::Done => "done.",
-            Verdict::NotATable => {
-                "the table is shorter than 8 bytes, its mark, its version or its byte 7 is wrong, \
-                 or the version to write is neither 1 nor 2."
-            }
-            Verdict::TooMany => {
-                "the table has more resources or more devices than its version allows: 32 of each \
-                 in version 1, 64 in version 2."
-            }
-            Verdict::WrongLength => {
-                "the table is not 8 bytes, 4 a resource and, in version 1, 40 a device long, in \
-                 version 2 64 a device."
-            }
-            Verdict::BadResource => {
-                "the record of this resource has a system level above 4, its byte 1 is not zero, \
-                 or it is cut short."
-            }
-            Verdict::BadDevice => {
-                "the record of this device has a field with a value that is not allowed, or it is \
-                 cut short."
-            }
-            Verdict::BadObjects => {
-                "the objects of this device break a rule: any _PS needs _PS0 and _PS3, any _PR \
-                 needs _PR0, with both kinds _PS1 is there exactly if _PR1 is and _PS2 exactly if \
-                 _PR2 is, and _DSW needs _PRW."
-            }
-            Verdict::BadState => {
-                "the state is not 132 bytes long, with a table of version 2 not 264, or a value in \
-                 it is not allowed."
-            }
-            Verdict::Inconsistent => {
-                "the state is not consistent: this device is in a state it does not have, is \
-                 shallower than its parent, is armed for a wake pair that is not legal or \
-                 shallower than its own state, or, except at bring-up, needs a resource that is \
-                 off."
-            }
-            Verdict::NoRoom => {
-                "a buffer is too short for what is to be written: for 33 calls, of sleep entry for \
-                 1056, with a table of version 2 for 65 and 4160, however few are made, or for the \
-                 whole table or list of records."
-            }
-            Verdict::BadRequest => {
-                "the kind, the device or a number of the request is out of range, or an unused \
-                 number is not zero."
-            }
-            Verdict::Unsupported => "the device does not have the state asked for.",
-            Verdict::Shallower => {
-                "the state asked for is shallower than the present one and is not D0; a device \
-                 first goes to D0."
-            }
-            Verdict::ParentDeeper => {
-                "this device is the parent and is in a deeper state than the one asked for."
-            }
-            Verdict::ChildShallower => {
-                "this device is a child and is in a shallower state than the one asked for."
-            }
-            Verdict::TooDeepToWake => {
-                "the device is armed, and the state asked for is deeper than its wake state."
-            }
-            Verdict::NoWake => {
-                "the device has no _PRW, or the sleep state is deeper than its _PRW allows."
-            }
-            Verdict::WakeUnpowered => {
-                "a resource of _PRW has a system level below the sleep state, so it is off there."
-            }
-            Verdict::BadWakeState => {
-                "the device cannot wake the system from that device state: it does not have it, \
-                 the state is outside the range for the sleep state, or it is shallower than the \
-                 present state."
-            }
-            Verdict::NotConforming => {
-                "the list does not conform: it does not have exactly the calls that are due, each \
-                 once and in order."
-            }
-            Verdict::ArmedForOther => {
-                "this device is armed, and not for the sleep state asked for."
-            }
-            Verdict::NoChoice => {
-                "there are no states for all devices in that sleep state: each must support its \
-                 state, be at least as deep as now, as its _SxD and as its parent, need no resource \
-                 that cannot be on there, and if armed be in its wake state."
-            }
-        }
     }
 }
 

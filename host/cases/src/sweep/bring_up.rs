@@ -4,8 +4,8 @@ use reference::{Table, Version};
 
 use super::{bench_station, family};
 use crate::faults::{entries_with_fault, good_entries, FAULTS};
-use crate::image::{image, set_on};
-use crate::station::{Record, Resource, Station, SHAPES};
+use crate::image::{at, image, set_on};
+use crate::station::{listed_sets, mixed_orders, Record, Resource, Station, SHAPES};
 
 /// Small stations with every set of resources on: one device with each entry,
 /// also below another one; a family of three in each state; and the bench station.
@@ -50,12 +50,8 @@ pub fn each_reported_on_the_bench(version: Version, mut each: impl FnMut(&[u8], 
     });
 }
 
-/// An entry that is not armed.
-pub(super) const fn at(state: u8) -> [u8; 4] {
-    [state, 0, 0, 0]
-}
-
-fn each_three_states(mut each: impl FnMut([u8; 3])) {
+/// Each state of three devices.
+pub(super) fn each_three_states(mut each: impl FnMut([u8; 3])) {
     for states in 0..5 * 5 * 5 {
         each([states / 25, states / 5 % 5, states % 5]);
     }
@@ -82,19 +78,12 @@ fn station(level: u8, resource_count: u16, devices: Vec<Record>) -> Station {
 /// A device that needs another resource in each state, with each kind of wake
 /// range. With a deepest sleep state it can wake the system, with r0.
 fn waker((ps, pr): (u8, u8), deepest: Option<u8>) -> Record {
-    let listed = |x: u8| if pr >> x & 1 != 0 { 1 << x } else { 0 };
     Record {
         parent: 255,
         ps,
         pr,
         flags: deepest.is_some().into(),
-        sets: [
-            listed(0),
-            listed(1),
-            listed(2),
-            listed(3),
-            deepest.is_some().into(),
-        ],
+        sets: listed_sets(pr, [1, 2, 4, 8], deepest.is_some().into()),
         sxd: [1, 255, 2, 3],
         sxw: [2, 3, 255, 4, 255],
         deepest: deepest.unwrap_or(0),
@@ -208,12 +197,8 @@ pub fn chain(version: Version) -> Station {
         deepest: 3,
         ..Record::default()
     };
-    let resource = |r: usize| Resource {
-        level: 4,
-        order: 7 * r as u16 % 16,
-    };
     Station {
-        resources: (0..limit).map(resource).collect(),
+        resources: mixed_orders(limit),
         devices: (0..limit).map(device).collect(),
     }
 }

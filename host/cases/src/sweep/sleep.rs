@@ -2,9 +2,9 @@
 
 use reference::Version;
 
-use super::bring_up::{at, chain, each_reported_on_the_bench};
-use crate::image::image;
-use crate::station::{Record, Resource, Station, SHAPES};
+use super::bring_up::{chain, each_reported_on_the_bench};
+use crate::image::{at, image};
+use crate::station::{listed_sets, Record, Resource, Station, SHAPES};
 
 /// One device, all of whose resources are on: each shape of masks, each `_SxD`,
 /// each state, armed or not, and each set of its needs that cannot be on in Sx.
@@ -35,12 +35,11 @@ fn entries(x: u8) -> impl Iterator<Item = [u8; 4]> {
 
 /// A device that needs another resource in each state, and r4 to wake the system.
 fn waker((ps, pr): (u8, u8), x: u8, sxd: u8) -> Record {
-    let listed = |r: u8| if pr >> r & 1 != 0 { 1 << r } else { 0 };
     let mut record = Record {
         ps,
         pr,
         flags: 3,
-        sets: [listed(0), listed(1), listed(2), listed(3), 1 << 4],
+        sets: listed_sets(pr, [1, 2, 4, 8], 1 << 4),
         sxw: [4; 5],
         deepest: 4,
         ..Record::default()
