@@ -18,7 +18,7 @@ DECLARED = re.compile(r"^\s*(?:(?:pub|abbrev|unfoldable) )*([a-z][\w'-]*)(?: *\{
 NAMED = re.compile(r"^\s*(?:pub )?ruleset (?:pub )?([a-z][\w'-]*)")
 # Words whose parts the rule below would cut otherwise.
 APART = {"notShallowerOrD0": "not_shallower_or_d0", "noS0D": "no_s0d", "noSxD": "no_sxd", "noSxW": "no_sxw",
-         "noneMoves": "none_moving"}  # `none_moves` is a part of SleepEntry
+         "noneMoves": "none_moving"}  # a lemma and a function are named `none_moves`
 # Names that port.py respells itself in specs/, proofs/ and src/: this script turns them in the edits and the pages.
 BY_PORT = """andThen byteAt callOf callWords countD countOf endSet endsAt entryAt firstOf imageOf isMove keyOf listOf numberAt numberIn
 numberOf ofBytes onAfter onWord orderIn ownWords placeIn placeOf startOf stateOf valueOf wordBytes wordOf wordsIn
