@@ -5,7 +5,7 @@ use Prim.Native.Nat.{ℕ, ◌+◌, ◌*◌}
 use borrow.Author.Tests.{ne_eqb}
 use lib.ListN.{length, take, get_or}
 use Rattle.rules.specs.declared.Request.{Request}
-use Rattle.rules.specs.declared.Verdict.{Verdict}
+use Rattle.rules.specs.Verdict.{Verdict}
 use Rattle.rules.specs.Answers.{number_of}
 use Rattle.bench.specs.declared.tasks.Task.TheVariants.{Plan, BringUp}
 use Rattle.bench.specs.Script.{count_at, request_at}

@@ -13,7 +13,7 @@ use Rattle.words.specs.Words.{put, byte_words}
 use Rattle.words.proofs.Laws.{byte_words_length}
 use Rattle.words.proofs.Put.{take_put}
 use Rattle.rules.specs.declared.Request.{Request}
-use Rattle.rules.specs.declared.Verdict.{Verdict}
+use Rattle.rules.specs.Verdict.{Verdict}
 use Rattle.rules.specs.Index.{least_from}
 use Rattle.rules.specs.Outcomes.{fresh, check_words}
 use Rattle.rules.specs.Rows.{blank}

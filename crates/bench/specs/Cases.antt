@@ -1,7 +1,7 @@
 -- What a line l does to the table and the state, and what it answers.
 use Rattle.std.specs.Prelude.{ℕ, ◌+◌, ◌*◌, ◌/◌, ◌-◌, min, cond, List, [], ◌++◌, eqb, length, take, drop, replicate, get_or, set}
 use Rattle.words.specs.Words.{byte_words}
-use Rattle.rules.specs.declared.Verdict.{Verdict}
+use Rattle.rules.specs.Verdict.{Verdict}
 use Rattle.rules.specs.Answers.{number_of}
 use Rattle.rules.specs.Rows.{blank}
 use Rattle.rules.specs.Outcomes.{Outcome, fresh, plan_bytes, check_words, check_bytes, table_and_state_verdict, record_part}

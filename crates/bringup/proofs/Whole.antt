@@ -10,8 +10,9 @@ use lib.ListN.{length, take}
 use Rattle.sets.specs.Sets.{minus}
 use Rattle.sets.proofs.Laws.{minus_lt}
 use Rattle.words.specs.Words.{put, word_bytes}
-use Rattle.rules.specs.declared.Verdict.{Verdict}
-use Rattle.rules.specs.declared.Verdict.TheVariants.{Done, Refused}
+use Rattle.rules.specs.Verdict.{Verdict}
+use Rattle.std.specs.Prelude.{Ok}
+use Rattle.rules.specs.Verdict.{refuse}
 use Rattle.rules.specs.declared.Reason.TheVariants.{NotATable, NoRoom, NotConforming}
 use Rattle.rules.specs.Answers.{number_of, count_of, passes}
 use Rattle.rules.specs.Station.{width, count_r, station_of, station}
@@ -46,14 +47,14 @@ use Rattle.bringup.specs.Passed.{BringUpState}
 pub stop_table : (t b : List ℕ) (room : Bool) (v : Verdict) (p : Bool) → v ≡ table_verdict t → p ≡ passes v → not p ≡ true
     → v ≡ bring_up_stages room t b
 unfolding bring_up_stages
-stop_table t b room v p e f n = e ∙ sym (first_stop (table_verdict t) _ (Done 0) (answer_stopped v _ p e f n))
+stop_table t b room v p e f n = e ∙ sym (first_stop (table_verdict t) _ (Ok 0) (answer_stopped v _ p e f n))
 
 -- h: whether the header is good
-pub stop_header : (t b : List ℕ) (room h : Bool) → h ≡ header_good t → not h ≡ true → Refused NotATable 0 ≡ bring_up_stages room t b
+pub stop_header : (t b : List ℕ) (room h : Bool) → h ≡ header_good t → not h ≡ true → refuse NotATable 0 ≡ bring_up_stages room t b
 stop_header t b room h e n =
-    stop_table t b room (Refused NotATable 0) false (no_table t h e n) (sym (refused_stops NotATable 0)) refl
+    stop_table t b room (refuse NotATable 0) false (no_table t h e n) (sym (refused_stops NotATable 0)) refl
 
-module _ (t b : List ℕ) (done : table_verdict t ≡ Done 0) (v : Verdict) (p : Bool) (e : v ≡ state_but_power_verdict t b) (f : p ≡ passes v)
+module _ (t b : List ℕ) (done : table_verdict t ≡ Ok 0) (v : Verdict) (p : Bool) (e : v ≡ state_but_power_verdict t b) (f : p ≡ passes v)
     (room : Bool) where
   on_table : passes (table_verdict t) ≡ true
   on_table = ap passes done ∙ done_passes 0
@@ -61,24 +62,24 @@ module _ (t b : List ℕ) (done : table_verdict t ≡ Done 0) (v : Verdict) (p :
   pub stop_state : not p ≡ true → v ≡ bring_up_stages room t b
   unfolding bring_up_stages
   stop_state n =
-      e ∙ sym (first_pass (table_verdict t) _ (Done 0) on_table
-      ∙ first_stop (state_but_power_verdict t b) _ (Done 0) (answer_stopped v _ p e f n))
+      e ∙ sym (first_pass (table_verdict t) _ (Ok 0) on_table
+      ∙ first_stop (state_but_power_verdict t b) _ (Ok 0) (answer_stopped v _ p e f n))
 
   module _ (n : not p ≡ false) where
     on_state : passes (state_but_power_verdict t b) ≡ true
     on_state = answer_passed v _ p e f n
 
-    pub stop_room : not room ≡ true → Refused NoRoom 0 ≡ bring_up_stages room t b
+    pub stop_room : not room ≡ true → refuse NoRoom 0 ≡ bring_up_stages room t b
     unfolding bring_up_stages
     stop_room m =
-        sym (first_pass (table_verdict t) _ (Done 0) on_table ∙ first_pass (state_but_power_verdict t b) _ (Done 0) on_state
-        ∙ rw (unless_stop room NoRoom 0 (not-true room m)) (first_stop (Refused NoRoom 0) _ (Done 0) (refused_stops NoRoom 0)))
+        sym (first_pass (table_verdict t) _ (Ok 0) on_table ∙ first_pass (state_but_power_verdict t b) _ (Ok 0) on_state
+        ∙ rw (unless_stop room NoRoom 0 (not-true room m)) (first_stop (refuse NoRoom 0) _ (Ok 0) (refused_stops NoRoom 0)))
 
-    pub all_passed : not room ≡ false → Done 0 ≡ bring_up_stages room t b
+    pub all_passed : not room ≡ false → Ok 0 ≡ bring_up_stages room t b
     unfolding bring_up_stages
     all_passed m =
-        sym (first_pass (table_verdict t) _ (Done 0) on_table ∙ first_pass (state_but_power_verdict t b) _ (Done 0) on_state
-        ∙ rw (unless_of room NoRoom 0 (not-false room m)) (first_pass (Done 0) _ (Done 0) (done_passes 0) ∙ first_none (Done 0)))
+        sym (first_pass (table_verdict t) _ (Ok 0) on_table ∙ first_pass (state_but_power_verdict t b) _ (Ok 0) on_state
+        ∙ rw (unless_of room NoRoom 0 (not-false room m)) (first_pass (Ok 0) _ (Ok 0) (done_passes 0) ∙ first_none (Ok 0)))
 
 pub ruleset in_turn = (stop_table, table_passed, stop_state, stop_room, all_passed)
 
@@ -166,7 +167,7 @@ module _ (t b plan : List ℕ) (n : ℕ) (i : n ≡ list_room (width t)) (v : Ve
     words_refused k = outcome_refused _ v p (rw i at e) f (λ ws. ws) b plan (state_brought_up t b) (bring_up_list t b) k
 
     pub words_brought : not p ≡ false → (k : ℕ) (b' plan' : List ℕ) → WrittenPlan (bring_up_list t b) (state_brought_up t b) plan k b' plan'
-        → Answered (Done k) b' plan' (bring_up_words t b plan)
+        → Answered (Ok k) b' plan' (bring_up_words t b plan)
     unfolding bring_up_words
     words_brought h k b' plan' w =
         outcome_written _ v p (rw i at e) f (λ ws. ws) b plan (state_brought_up t b) (bring_up_list t b) h k b' plan' w.count w.state
@@ -180,7 +181,7 @@ module _ (t b plan : List ℕ) (n : ℕ) (i : n ≡ list_room (width t)) (v : Ve
 
     pub bytes_brought : not p ≡ false → (k : ℕ) (b' plan' words words' : List ℕ)
         → WrittenPlan (bring_up_list t b) (state_brought_up t b) words k b' words'
-        → plan' ≡ put plan 0 (word_bytes (take k words')) → Answered (Done k) b' plan' (bring_up_bytes t b plan)
+        → plan' ≡ put plan 0 (word_bytes (take k words')) → Answered (Ok k) b' plan' (bring_up_bytes t b plan)
     unfolding bring_up_bytes
     bytes_brought h k b' plan' words words' w r =
         outcome_written _ v p (rw i at e) f word_bytes b plan (state_brought_up t b) (bring_up_list t b) h k b' plan' w.count w.state
@@ -199,11 +200,11 @@ module _ (t b list : List ℕ) (v : Verdict) (p : Bool) (e : v ≡ bring_up_stag
   check_refused n = list_refused _ v p e f _ n
 
   module _ (c : Bool) (n : not p ≡ false) (g : c ≡ conforming_to_bring_up (station t) (status t b) list) where
-    pub check_19 : not c ≡ true → Refused NotConforming 0 ≡ check_bring_up_words t b list
+    pub check_19 : not c ≡ true → refuse NotConforming 0 ≡ check_bring_up_words t b list
     unfolding check_bring_up_words
     check_19 z = list_19 _ v p e f c _ n g z
 
-    pub check_done : not c ≡ false → Done 0 ≡ check_bring_up_words t b list
+    pub check_done : not c ≡ false → Ok 0 ≡ check_bring_up_words t b list
     unfolding check_bring_up_words
     check_done z = list_done _ v p e f c _ n g z
 
@@ -213,11 +214,11 @@ module _ (t b list : List ℕ) (v : Verdict) (p : Bool) (e : v ≡ bring_up_stag
   check_bytes_refused n = list_refused _ v p e f _ n
 
   module _ (c : Bool) (n : not p ≡ false) (g : c ≡ of_bytes (conforming_to_bring_up (station t) (status t b)) list) where
-    pub check_bytes_19 : not c ≡ true → Refused NotConforming 0 ≡ check_bring_up_bytes t b list
+    pub check_bytes_19 : not c ≡ true → refuse NotConforming 0 ≡ check_bring_up_bytes t b list
     unfolding check_bring_up_bytes
     check_bytes_19 z = list_19 _ v p e f c _ n g z
 
-    pub check_bytes_done : not c ≡ false → Done 0 ≡ check_bring_up_bytes t b list
+    pub check_bytes_done : not c ≡ false → Ok 0 ≡ check_bring_up_bytes t b list
     unfolding check_bring_up_bytes
     check_bytes_done z = list_done _ v p e f c _ n g z
 

@@ -33,14 +33,8 @@ pub fn bring_up_words(table: &[u8], state: &mut [u8], plan: &mut [u32]) -> Verdi
     ensures brings { BringsUpWords table.now state.old plan.old (number_of result) (count_of result)
         state.new plan.new }
 {
-    let of_table = table::check_table(table);
-    if !rules::passes(of_table) {
-        return of_table;
-    }
+    table::check_table(table)?;
     let fits = plan.len() >= switching::write::room(table);
-    let v = crate::stages::past_table(table, state, fits);
-    if !rules::passes(v) {
-        return v;
-    }
-    Verdict::Done(write_bring_up(table, state, plan))
+    crate::stages::past_table(table, state, fits)?;
+    Ok(write_bring_up(table, state, plan))
 }

@@ -6,7 +6,7 @@ ghost use Rattle.rules.specs.BringUp.{conforming_to_bring_up, check_bring_up_wor
 ghost use Rattle.laws.specs.BringUp.{BringUpChecked};
 ghost use Rattle.bringup.specs.Passed.{BringUpState};
 
-use rules::{Reason, Verdict};
+use rules::{Reason, Refusal, Verdict};
 
 // Whether the list conforms to the bring-up of a state that has passed every check.
 pub fn conforming(table: &[u8], state: &[u8], list: &[u32]) -> bool
@@ -26,12 +26,9 @@ pub fn check_words(table: &[u8], state: &[u8], list: &[u32]) -> Verdict
     ensures answer { result ≡ check_bring_up_words table.now state.now list.now }
     ensures checked { BringUpChecked table.now state.now list.now }
 {
-    let v = crate::stages::verdict(table, state, true);
-    if !rules::passes(v) {
-        return v;
-    }
+    crate::stages::verdict(table, state, true)?;
     if !conforming(table, state, list) {
-        return Verdict::Refused(Reason::NotConforming, 0);
+        return Err(Refusal(Reason::NotConforming, 0));
     }
-    Verdict::Done(0)
+    Ok(0)
 }

@@ -9,8 +9,7 @@ use lib.Dec.{eqb, leb}
 use Rattle.rules.specs.declared.Wake.TheVariants.{Enable, Disable}
 use Rattle.rules.specs.declared.Call.{Call}
 use Rattle.rules.specs.declared.Call.TheVariants.{ResourceOn, ResourceOff, SetState, SetWake}
-use Rattle.rules.specs.declared.OptionalCall.{OptionalCall}
-use Rattle.rules.specs.declared.OptionalCall.TheVariants.{Is, NoCall}
+use Rattle.std.specs.Prelude.{Option, Some, None}
 use Rattle.rules.specs.Calls.{word4, word_of, wake_of, call_of_bytes, call_of}
 use Rattle.laws.proofs.Tests.{both_true}
 use Rattle.calls.specs.Ranges.{InRange}
@@ -29,7 +28,7 @@ of_bytes_lem a b c d ha hb hc =
     let pd : w / 0x100_0000 ≡ d = omega arith in
     cc
 
-pub call_of_word : (c : Call) → InRange c → call_of (word_of c) ≡ Is c
+pub call_of_word : (c : Call) → InRange c → call_of (word_of c) ≡ Some c
 call_of_word (ResourceOn r) h = of_bytes_lem 1 r 0 0 (omega arith) h (omega arith) ∙ sym (is_on 1 r 0 0 refl refl refl)
 call_of_word (ResourceOff r) h = of_bytes_lem 2 r 0 0 (omega arith) h (omega arith) ∙ sym (is_off 2 r 0 0 refl refl refl)
 call_of_word (SetState d x) h = of_bytes_lem 3 d x 0 (omega arith) h.0 (omega arith) ∙ sym (is_state 3 d x 0 refl refl h.1)
@@ -41,27 +40,27 @@ call_of_word (SetWake d Disable) h =
     of_bytes_lem 4 d 0 0 (omega arith) h.0 (omega arith) ∙ sym (is_wake 4 d 0 0 _ refl (wake_off d 0 0 refl refl))
 
 -- the other way: whatever call a tree of tests ends in has the word w
-Right : ℕ → OptionalCall → Type 0
-Right w (Is c) = word_of c ≡ w
-Right w NoCall = Unit {0}
+Right : ℕ → Option Call → Type 0
+Right w (Some c) = word_of c ≡ w
+Right w None = Unit {0}
 
-at_cond : (w : ℕ) (b : Bool) (p q : OptionalCall) → (b ≡ true → Right w p) → Right w q → Right w (cond b p q)
+at_cond : (w : ℕ) (b : Bool) (p q : Option Call) → (b ≡ true → Right w p) → Right w q → Right w (cond b p q)
 at_cond w true p q f g = f refl
 at_cond w false p q f g = g
 
-ends : (w : ℕ) (c : Call) → word_of c ≡ w → Right w (Is c)
+ends : (w : ℕ) (c : Call) → word_of c ≡ w → Right w (Some c)
 unfolding Right
 ends w c e = e
 
-none : (w : ℕ) → Right w NoCall
+none : (w : ℕ) → Right w None
 unfolding Right
 none w = tt
 
 -- a call under three tests
-at_call : (w : ℕ) (a b c : Bool) (p : Call) (q : OptionalCall)
-    → (a ≡ true → b ≡ true → c ≡ true → word_of p ≡ w) → Right w q → Right w (cond (a && b && c) (Is p) q)
+at_call : (w : ℕ) (a b c : Bool) (p : Call) (q : Option Call)
+    → (a ≡ true → b ≡ true → c ≡ true → word_of p ≡ w) → Right w q → Right w (cond (a && b && c) (Some p) q)
 at_call w a b c p q f g =
-    at_cond w (a && b && c) (Is p) q
+    at_cond w (a && b && c) (Some p) q
     (λ t. let u = both_true (a && b) c t in let v = both_true a b u.0 in ends w p (f v.0 v.1 u.1)) g
 
 module _ (w k d x y : ℕ) (e : w ≡ word4 k d x y) where
@@ -83,12 +82,12 @@ module _ (w k d x y : ℕ) (e : w ≡ word4 k d x y) where
 whole : (w : ℕ) → w ≡ word4 (w % 0x100) (w / 0x100 % 0x100) (w / 0x1_0000 % 0x100) (w / 0x100_0000)
 whole w = omega arith
 
-pub word_of_call : (w : ℕ) (c : Call) → call_of w ≡ Is c → word_of c ≡ w
+pub word_of_call : (w : ℕ) (c : Call) → call_of w ≡ Some c → word_of c ≡ w
 unfolding Right call_of
 word_of_call w c e = subst (Right w) e (bytes_right w _ _ _ _ (whole w))
 
 -- so to compare a word with a call's word is to read it and find that call
-pub says_call : (w : ℕ) (c : Call) → InRange c → eqb w (word_of c) ≡ true ↔ call_of w ≡ Is c
+pub says_call : (w : ℕ) (c : Call) → InRange c → eqb w (word_of c) ≡ true ↔ call_of w ≡ Some c
 says_call w c h = (λ e. ap call_of (eqb-true w (word_of c) e) ∙ call_of_word c h, λ e. eq-eqb w (word_of c) (sym (word_of_call w c e)))
 
 pub ruleset inverse = (call_of_word, word_of_call, says_call)

@@ -13,8 +13,7 @@ use Rattle.rules.specs.declared.Request.{Request}
 use Rattle.rules.specs.declared.Wake.TheVariants.{Enable, Disable}
 use Rattle.rules.specs.declared.Call.{Call}
 use Rattle.rules.specs.declared.Call.TheVariants.{SetState, SetWake}
-use Rattle.rules.specs.declared.OptionalCall.{OptionalCall}
-use Rattle.rules.specs.declared.OptionalCall.TheVariants.{Is, NoCall}
+use Rattle.std.specs.Prelude.{Option, Some, None}
 use Rattle.rules.specs.Station.{Station, count_d, station, has_ps, has_dsw}
 use Rattle.rules.specs.Request.{is_move, is_arm}
 use Rattle.rules.specs.Calls.{only, method_for, calls_method, move_call, wake_call, own_call, own_last}
@@ -45,7 +44,7 @@ unfolding method_for
 same_method x p = simp ne_eqb
 
 module _ (s : Station) (e : Entry) (d x : ℕ) (b : Bool) (q : b ≡ calls_method e.state x) where
-  pub no_change : not b ≡ true → NoCall ≡ move_call s e d x
+  pub no_change : not b ≡ true → None ≡ move_call s e d x
   unfolding calls_method move_call only
   no_change h = rw (sym q ∙ not-true b h)
 
@@ -53,11 +52,11 @@ module _ (s : Station) (e : Entry) (d x : ℕ) (b : Bool) (q : b ≡ calls_metho
     has_ps_lem : i ≡ has_ps (s.device d) (method_for x)
     has_ps_lem = rw (← ep, ← em, ← ew) ei
 
-    pub no_ps : not i ≡ true → NoCall ≡ move_call s e d x
+    pub no_ps : not i ≡ true → None ≡ move_call s e d x
     unfolding move_call only
     no_ps h = rw (sym has_ps_lem ∙ not-true i h, and-false)
 
-    pub ps_call : not b ≡ false → not i ≡ false → Is (SetState d m) ≡ move_call s e d x
+    pub ps_call : not b ≡ false → not i ≡ false → Some (SetState d m) ≡ move_call s e d x
     unfolding calls_method move_call only
     ps_call h k = rw (sym has_ps_lem ∙ not-false i k, sym q ∙ not-false b h, ← em)
 
@@ -68,25 +67,25 @@ module _ (s : Station) (e : Entry) (q : Request) (p w : ℕ) (i : Bool)
   has_dsw_lem : i ≡ has_dsw (s.device q.device)
   has_dsw_lem = rw (← ep, ← ew) ei
 
-  pub no_dsw : not i ≡ true → NoCall ≡ wake_call s e q
+  pub no_dsw : not i ≡ true → None ≡ wake_call s e q
   unfolding wake_call only
   no_dsw h = decide (is_arm q) (λ a. rw (a, sym has_dsw_lem ∙ not-true i h)) (λ a. rw (a, sym has_dsw_lem ∙ not-true i h))
 
-  pub arms : not i ≡ false → q.kind ≡ 2 → Is (SetWake q.device (Enable q.a q.b)) ≡ wake_call s e q
+  pub arms : not i ≡ false → q.kind ≡ 2 → Some (SetWake q.device (Enable q.a q.b)) ≡ wake_call s e q
   unfolding wake_call only
   arms h k = rw (eq-eqb q.kind 2 k, sym has_dsw_lem ∙ not-false i h)
 
-  pub disarms : not i ≡ false → (q.kind ≡ 2 → ⊥) → e.armed ≡ 1 → Is (SetWake q.device Disable) ≡ wake_call s e q
+  pub disarms : not i ≡ false → (q.kind ≡ 2 → ⊥) → e.armed ≡ 1 → Some (SetWake q.device Disable) ≡ wake_call s e q
   unfolding wake_call only
   disarms h k a = rw (ne_eqb q.kind 2 k, eq-eqb e.armed 1 a, sym has_dsw_lem ∙ not-false i h)
 
-pub not_armed : (s : Station) (e : Entry) (q : Request) → (q.kind ≡ 2 → ⊥) → (e.armed ≡ 1 → ⊥) → NoCall ≡ wake_call s e q
+pub not_armed : (s : Station) (e : Entry) (q : Request) → (q.kind ≡ 2 → ⊥) → (e.armed ≡ 1 → ⊥) → None ≡ wake_call s e q
 unfolding wake_call only
 not_armed s e q k a = rw (ne_eqb q.kind 2 k, ne_eqb e.armed 1 a, and-false)
 
 -- ---- the own call, and whether it comes last
 
-module _ (s : Station) (e : Entry) (q : Request) (r : OptionalCall) where
+module _ (s : Station) (e : Entry) (q : Request) (r : Option Call) where
   pub own_moves : q.kind ≡ 1 → r ≡ move_call s e q.device q.a → r ≡ own_call s e q
   unfolding own_call
   own_moves k h = rw (eq-eqb q.kind 1 k) h
@@ -120,7 +119,7 @@ unfolding method_for
 method_in_range x h = decide (eqb x 4) (λ e. rw e (omega arith)) (λ e. rw e (omega (arith, eqb-false x 4 e)))
 
 -- the own call of a request in range for a device of the table
-pub own_in_range : (t : List ℕ) (e : Entry) (q : Request) (c : OptionalCall)
+pub own_in_range : (t : List ℕ) (e : Entry) (q : Request) (c : Option Call)
     → c ≡ own_call (station t) e q → WellSized t → q.device < count_d t → q.a ≤ 4 → q.b ≤ 4 → OptionalInRange c
 unfolding own_call move_call wake_call
 own_in_range t e q c p z d a b =
@@ -130,7 +129,7 @@ own_in_range t e q c p z d a b =
     (λ m. decide (is_arm q) (λ n. rw (m, n) (only_in_range _ (SetWake q.device (Enable q.a q.b)) (small, (a, b))))
     (λ n. rw (m, n) (only_in_range _ (SetWake q.device Disable) (small, tt)))))
 
-pub call_in_range : (o : OptionalCall) (c : Call) → OptionalInRange o → o ≡ Is c → InRange c
+pub call_in_range : (o : Option Call) (c : Call) → OptionalInRange o → o ≡ Some c → InRange c
 call_in_range o c h e = rw e at h
 
 pub ruleset owning = (

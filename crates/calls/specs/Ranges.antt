@@ -5,8 +5,7 @@ use Rattle.rules.specs.declared.Wake.{Wake}
 use Rattle.rules.specs.declared.Wake.TheVariants.{Enable, Disable}
 use Rattle.rules.specs.declared.Call.{Call}
 use Rattle.rules.specs.declared.Call.TheVariants.{ResourceOn, ResourceOff, SetState, SetWake}
-use Rattle.rules.specs.declared.OptionalCall.{OptionalCall}
-use Rattle.rules.specs.declared.OptionalCall.TheVariants.{Is, NoCall}
+use Rattle.std.specs.Prelude.{Option, Some, None}
 
 abbrev pub WakeInRange : Wake → Type 0
 WakeInRange (Enable s x) = (s ≤ 4) × (x ≤ 4)
@@ -19,6 +18,6 @@ InRange (SetState d x) = (d < 256) × (x ≤ 3)
 InRange (SetWake d k) = (d < 256) × WakeInRange k
 
 -- a call of RULES.md 2.9, or none
-abbrev pub OptionalInRange : OptionalCall → Type 0
-OptionalInRange (Is c) = InRange c
-OptionalInRange NoCall = Unit {0}
+abbrev pub OptionalInRange : Option Call → Type 0
+OptionalInRange (Some c) = InRange c
+OptionalInRange None = Unit {0}

@@ -9,7 +9,7 @@ ghost use Rattle.rules.specs.Calls.{word_of, wake_word, call_of, call_of_bytes, 
 ghost use Rattle.calls.specs.Ranges.{WakeInRange, InRange};
 ghost use Rattle.calls.specs.Switch.{switch_word};
 
-use rules::{Call, OptionalCall, Wake};
+use rules::{Call, Wake};
 
 // The word of a `_DSW` call.
 fn wake_word(device: u8, wake: Wake) -> u32
@@ -44,28 +44,28 @@ pub fn says(word: u32, call: Call) -> bool
 }
 
 // What `_DSW`'s last two bytes say: two zeros, or S and 128 + D.
-fn wake_of(device: u8, x: u8, y: u8) -> OptionalCall
+fn wake_of(device: u8, x: u8, y: u8) -> Option<Call>
     ensures { result ≡ wake_of device x y }
 {
     if y == 0 {
         if x == 0 {
-            return OptionalCall::Is(Call::SetWake {
+            return Some(Call::SetWake {
                 device,
                 wake: Wake::Disable,
             });
         }
-        return OptionalCall::NoCall;
+        return None;
     }
     if x > 4 {
-        return OptionalCall::NoCall;
+        return None;
     }
     if y < 128 {
-        return OptionalCall::NoCall;
+        return None;
     }
     if y > 132 {
-        return OptionalCall::NoCall;
+        return None;
     }
-    OptionalCall::Is(Call::SetWake {
+    Some(Call::SetWake {
         device,
         wake: Wake::Enable {
             sleep: x,
@@ -75,38 +75,38 @@ fn wake_of(device: u8, x: u8, y: u8) -> OptionalCall
 }
 
 // The call with these bytes, if there is one.
-fn call_of_bytes(kind: u8, number: u8, x: u8, y: u8) -> OptionalCall
+fn call_of_bytes(kind: u8, number: u8, x: u8, y: u8) -> Option<Call>
     ensures { result ≡ call_of_bytes kind number x y }
 {
     if kind == 4 {
         return wake_of(number, x, y);
     }
     if y != 0 {
-        return OptionalCall::NoCall;
+        return None;
     }
     if kind == 3 {
         if x <= 3 {
-            return OptionalCall::Is(Call::SetState {
+            return Some(Call::SetState {
                 device: number,
                 method: x,
             });
         }
-        return OptionalCall::NoCall;
+        return None;
     }
     if x != 0 {
-        return OptionalCall::NoCall;
+        return None;
     }
     if kind == 1 {
-        return OptionalCall::Is(Call::ResourceOn(number));
+        return Some(Call::ResourceOn(number));
     }
     if kind == 2 {
-        return OptionalCall::Is(Call::ResourceOff(number));
+        return Some(Call::ResourceOff(number));
     }
-    OptionalCall::NoCall
+    None
 }
 
 // What a word says: a call, or none.
-pub fn call_of(word: u32) -> OptionalCall
+pub fn call_of(word: u32) -> Option<Call>
     ensures { result ≡ call_of word }
 {
     call_of_bytes(

@@ -4,7 +4,7 @@ ghost use Rattle.rules.specs.Station.{count_d, station};
 ghost use Rattle.rules.specs.Calls.{method_for, calls_method, move_call, wake_call, own_call, own_last};
 ghost use Rattle.table.specs.Layout.{WellSized};
 
-use rules::{Call, Entry, OptionalCall, Request, Wake};
+use rules::{Call, Entry, Request, Wake};
 
 // Whether a move to state x calls a method, if it exists: the state changes, and not from D3hot to D3cold.
 fn calls_method(state: u8, x: u32) -> bool
@@ -31,53 +31,53 @@ fn method_for(x: u32) -> u32
 }
 
 // `_PSx`, for a move of device d to state x.
-fn move_call(table: &[u8], e: Entry, d: u32, x: u32) -> OptionalCall
+fn move_call(table: &[u8], e: Entry, d: u32, x: u32) -> Option<Call>
     requires { WellSized table.now × (d < count_d table.now) × (x ≤ 4) }
     ensures { result ≡ move_call (station table.now) e d x }
 {
     if !calls_method(e.state, x) {
-        return OptionalCall::NoCall;
+        return None;
     }
     let m = method_for(x);
     if !sets::narrow::has(words::wide(table::fields::ps(table, d as usize)), m) {
-        return OptionalCall::NoCall;
+        return None;
     }
-    OptionalCall::Is(Call::SetState {
+    Some(Call::SetState {
         device: d as u8,
         method: m as u8,
     })
 }
 
 // `_DSW`, for arming and disarming.
-fn wake_call(table: &[u8], e: Entry, q: Request) -> OptionalCall
+fn wake_call(table: &[u8], e: Entry, q: Request) -> Option<Call>
     requires { WellSized table.now × (q.device < count_d table.now) × (q.a ≤ 4) × (q.b ≤ 4) }
     ensures { result ≡ wake_call (station table.now) e q }
 {
     let d = q.device;
     if !sets::narrow::has(words::wide(table::fields::flags(table, d as usize)), 1) {
-        return OptionalCall::NoCall;
+        return None;
     }
     if q.kind == 2 {
         let wake = Wake::Enable {
             sleep: q.a as u8,
             state: q.b as u8,
         };
-        return OptionalCall::Is(Call::SetWake {
+        return Some(Call::SetWake {
             device: d as u8,
             wake,
         });
     }
     if e.armed == 1 {
-        return OptionalCall::Is(Call::SetWake {
+        return Some(Call::SetWake {
             device: d as u8,
             wake: Wake::Disable,
         });
     }
-    OptionalCall::NoCall
+    None
 }
 
 // The own call of a request in range, for a device whose entry is e.
-pub fn own_call(table: &[u8], e: Entry, q: Request) -> OptionalCall
+pub fn own_call(table: &[u8], e: Entry, q: Request) -> Option<Call>
     requires { WellSized table.now × (q.device < count_d table.now) × (q.a ≤ 4) × (q.b ≤ 4) }
     ensures { result ≡ own_call (station table.now) e q }
 {

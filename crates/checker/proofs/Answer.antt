@@ -5,8 +5,9 @@ use mathlib.Core.List.{List}
 use Prim.Native.Nat.{ℕ}
 use Rattle.rules.specs.declared.Change.{Change}
 use Rattle.rules.specs.declared.Request.{Request}
-use Rattle.rules.specs.declared.Verdict.{Verdict}
-use Rattle.rules.specs.declared.Verdict.TheVariants.{Done, Refused}
+use Rattle.rules.specs.Verdict.{Verdict}
+use Rattle.std.specs.Prelude.{Ok}
+use Rattle.rules.specs.Verdict.{refuse}
 use Rattle.rules.specs.declared.Reason.TheVariants.{NotConforming}
 use Rattle.rules.specs.Answers.{passes}
 use Rattle.rules.specs.Station.{station}
@@ -37,11 +38,11 @@ module _ (t b : List ℕ) (q : Request) (list : List ℕ) (v : Verdict) (p : Boo
   words_refused n = list_refused _ v p e f _ n
 
   module _ (c : Bool) (n : not p ≡ false) (g : c ≡ conforming_to (station t) (status t b) q list) where
-    pub words_19 : not c ≡ true → Refused NotConforming 0 ≡ check_words t b q list
+    pub words_19 : not c ≡ true → refuse NotConforming 0 ≡ check_words t b q list
     unfolding check_words
     words_19 z = list_19 _ v p e f c _ n g z
 
-    pub words_done : not c ≡ false → Done 0 ≡ check_words t b q list
+    pub words_done : not c ≡ false → Ok 0 ≡ check_words t b q list
     unfolding check_words
     words_done z = list_done _ v p e f c _ n g z
 
@@ -51,11 +52,11 @@ module _ (t b : List ℕ) (q : Request) (list : List ℕ) (v : Verdict) (p : Boo
   bytes_refused n = list_refused _ v p e f _ n
 
   module _ (c : Bool) (n : not p ≡ false) (g : c ≡ of_bytes (conforming_to (station t) (status t b) q) list) where
-    pub bytes_19 : not c ≡ true → Refused NotConforming 0 ≡ check_bytes t b q list
+    pub bytes_19 : not c ≡ true → refuse NotConforming 0 ≡ check_bytes t b q list
     unfolding check_bytes
     bytes_19 z = list_19 _ v p e f c _ n g z
 
-    pub bytes_done : not c ≡ false → Done 0 ≡ check_bytes t b q list
+    pub bytes_done : not c ≡ false → Ok 0 ≡ check_bytes t b q list
     unfolding check_bytes
     bytes_done z = list_done _ v p e f c _ n g z
 

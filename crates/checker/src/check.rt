@@ -7,7 +7,7 @@ ghost use Rattle.rules.specs.Outcomes.{check_words};
 ghost use Rattle.laws.specs.Demand3.{Demand3};
 ghost use Rattle.request.specs.Permitted.{PermittedRequest};
 
-use rules::{Reason, Request, Verdict};
+use rules::{Reason, Refusal, Request, Verdict};
 
 // Whether the list is that of a request which has passed every check.
 pub fn conforming(table: &[u8], state: &[u8], q: Request, list: &[u32]) -> bool
@@ -25,12 +25,9 @@ pub fn check_words(table: &[u8], state: &[u8], q: Request, list: &[u32]) -> Verd
     ensures answer { result ≡ check_words table.now state.now q list.now }
     ensures demand { Demand3 table.now state.now q list.now }
 {
-    let v = request::stages::verdict(table, state, true, q);
-    if !rules::passes(v) {
-        return v;
-    }
+    request::stages::verdict(table, state, true, q)?;
     if !conforming(table, state, q, list) {
-        return Verdict::Refused(Reason::NotConforming, 0);
+        return Err(Refusal(Reason::NotConforming, 0));
     }
-    Verdict::Done(0)
+    Ok(0)
 }

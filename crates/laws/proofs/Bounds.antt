@@ -13,8 +13,9 @@ use lib.ListN.{length}
 use Rattle.sets.proofs.Laws.{decide}
 use Rattle.rules.specs.declared.Entry.{Entry}
 use Rattle.rules.specs.declared.Request.{Request}
-use Rattle.rules.specs.declared.Verdict.{Verdict}
-use Rattle.rules.specs.declared.Verdict.TheVariants.{Done, Refused}
+use Rattle.rules.specs.Verdict.{Verdict}
+use Rattle.std.specs.Prelude.{Ok}
+use Rattle.rules.specs.Verdict.{refuse}
 use Rattle.rules.specs.declared.Reason.{Reason}
 use Rattle.rules.specs.declared.Reason.TheVariants.{BadResource, ParentDeeper, ChildShallower}
 use Rattle.rules.specs.Index.{least}
@@ -45,10 +46,10 @@ module _ (P : Verdict → Type 0) where
   pub last_holds : (last : Verdict) → P last → P (first_of [] last)
   last_holds last p = rw (first_none last) p
 
-  pub unless_holds : (good : Bool) (why : Reason) (at : ℕ) → P (Done 0) → (good ≡ false → P (Refused why at)) → P (unless good why at)
+  pub unless_holds : (good : Bool) (why : Reason) (at : ℕ) → P (Ok 0) → (good ≡ false → P (refuse why at)) → P (unless good why at)
   unless_holds good why at p r = decide good (λ e. rw (unless_of good why at e) p) (λ e. rw (unless_stop good why at e) (r e))
 
-  pub lowest_holds : (bad : ℕ → Bool) (n : ℕ) (refusal : ℕ → Verdict) → P (Done 0) → ((i : ℕ) → i < n → P (refusal i))
+  pub lowest_holds : (bad : ℕ → Bool) (n : ℕ) (refusal : ℕ → Verdict) → P (Ok 0) → ((i : ℕ) → i < n → P (refusal i))
       → P (lowest bad n refusal)
   lowest_holds bad n refusal p r =
       decide (ltb (least bad n) n)
@@ -61,10 +62,10 @@ pub record Bounded (w most : ℕ) (v : Verdict) : Type 0 where
   pub count : count_of v ≤ most
 
 module _ (w most : ℕ) (h : 4 ≤ w) where
-  done : Bounded w most (Done 0)
+  done : Bounded w most (Ok 0)
   done = record { place = omega arith; count = omega arith }
 
-  refused : (why : Reason) (n i : ℕ) → n ≤ limit w → i < n → Bounded w most (Refused why i)
+  refused : (why : Reason) (n i : ℕ) → n ≤ limit w → i < n → Bounded w most (refuse why i)
   refused why n i l u = record { place = omega arith; count = omega arith }
 
   -- a check whose refusal has no place, and the checks after it
@@ -77,20 +78,20 @@ module _ (w most : ℕ) (h : 4 ≤ w) where
 
   -- 4 to 6: a resource or a device, of which there are at most 8w
   records : (bad worse fields : ℕ → Bool) (resources devices : ℕ) → resources ≤ limit w → devices ≤ limit w
-      → Bounded w most (first_of (lowest bad resources (Refused BadResource) ∷ lowest worse devices (λ d. fields_or_objects (fields d) d) ∷ [])
-      (Done 0))
+      → Bounded w most (first_of (lowest bad resources (refuse BadResource) ∷ lowest worse devices (λ d. fields_or_objects (fields d) d) ∷ [])
+      (Ok 0))
   unfolding fields_or_objects
   records bad worse fields resources devices many more =
-      chain_holds (Bounded w most) _ _ _ (lowest_holds (Bounded w most) bad resources (Refused BadResource) done
+      chain_holds (Bounded w most) _ _ _ (lowest_holds (Bounded w most) bad resources (refuse BadResource) done
       (λ i u. refused BadResource resources i many u))
       (λ _. chain_holds (Bounded w most) _ _ _ (lowest_holds (Bounded w most) worse devices (λ d. fields_or_objects (fields d) d) done
       (λ i u. refused _ devices i more u))
-      (λ _. last_holds (Bounded w most) (Done 0) done))
+      (λ _. last_holds (Bounded w most) (Ok 0) done))
 
   module _ (s : Station) (nameable : s.devices ≤ limit w) (rules : StationRules s) (entries : ℕ → Entry) where
     -- 13: a parent that bars the move is there, so it is lower than its child
     parent_bounded : (d x : ℕ) → d < s.devices → parent_allows s entries d x ≡ false
-        → Bounded w most (Refused ParentDeeper (s.device d).parent)
+        → Bounded w most (refuse ParentDeeper (s.device d).parent)
     unfolding parent_allows parent_good
     parent_bounded d x u e =
         ⊎_elim
@@ -106,13 +107,13 @@ module _ (w most : ℕ) (h : 4 ≤ w) where
         (λ _. next _ _ _ _
         (λ _. chain_holds (Bounded w most) _ _ _
         (unless_holds (Bounded w most) _ ParentDeeper (s.device d).parent done (parent_bounded d x u))
-        (λ _. chain_holds (Bounded w most) _ _ _ (lowest_holds (Bounded w most) _ s.devices (Refused ChildShallower) done
+        (λ _. chain_holds (Bounded w most) _ _ _ (lowest_holds (Bounded w most) _ s.devices (refuse ChildShallower) done
         (λ i v. refused ChildShallower s.devices i nameable v))
-        (λ _. next _ _ _ _ (λ _. last_holds (Bounded w most) (Done 0) done)))))
+        (λ _. next _ _ _ _ (λ _. last_holds (Bounded w most) (Ok 0) done)))))
 
     arm_bounded : (d x y : ℕ) → Bounded w most (arm_verdict s entries d x y)
     unfolding arm_verdict
-    arm_bounded d x y = next _ _ _ _ (λ _. next _ _ _ _ (λ _. next _ _ _ _ (λ _. last_holds (Bounded w most) (Done 0) done)))
+    arm_bounded d x y = next _ _ _ _ (λ _. next _ _ _ _ (λ _. next _ _ _ _ (λ _. last_holds (Bounded w most) (Ok 0) done)))
 
     -- 10 to 18
     pub request_bounded : (q : Request) → Bounded w most (request_verdict s entries q)
@@ -124,7 +125,7 @@ module _ (w most : ℕ) (h : 4 ≤ w) where
         chain_holds (Bounded w most) _ _ _
         (decide (is_move q) (λ m. rw m (move_bounded q.device q.a u))
         (λ m. decide (is_arm q) (λ a. rw (m, a) (arm_bounded q.device q.a q.b)) (λ a. rw (m, a) done)))
-        (λ _. last_holds (Bounded w most) (Done 0) done))
+        (λ _. last_holds (Bounded w most) (Ok 0) done))
 
 -- ---- a table's answers, at its own width
 module _ (t : List ℕ) (most : ℕ) where
@@ -143,21 +144,21 @@ module _ (t : List ℕ) (most : ℕ) where
       (λ _. records _ _ low _ _ (fields_good t) (count_r t) (count_d t) (leb-true _ _ counts.0) (leb-true _ _ counts.1))))
 
   -- no check is left
-  end : Bounded (width t) most (first_of [] (Done 0))
-  end = last_holds (Bounded (width t) most) (Done 0) (done _ _ low)
+  end : Bounded (width t) most (first_of [] (Ok 0))
+  end = last_holds (Bounded (width t) most) (Ok 0) (done _ _ low)
 
   -- any checks, then one whose refusal has no place
   more_bounded : (v : Verdict) (good : Bool) (why : Reason) → Bounded (width t) most v
-      → Bounded (width t) most (first_of (v ∷ unless good why 0 ∷ []) (Done 0))
+      → Bounded (width t) most (first_of (v ∷ unless good why 0 ∷ []) (Ok 0))
   more_bounded v good why bound = chain_holds (Bounded (width t) most) _ _ _ bound (λ _. next _ _ low _ _ _ _ (λ _. end))
 
   -- such a check, then the lowest device that a test finds
   lowest_bounded : (station t).devices ≤ limit (width t) → (good : Bool) (why : Reason) (bad : ℕ → Bool) (worse : Reason)
-      → Bounded (width t) most (first_of (unless good why 0 ∷ lowest bad (station t).devices (Refused worse) ∷ []) (Done 0))
+      → Bounded (width t) most (first_of (unless good why 0 ∷ lowest bad (station t).devices (refuse worse) ∷ []) (Ok 0))
   lowest_bounded nameable good why bad worse =
       next _ _ low _ _ _ _
       (λ _. chain_holds (Bounded (width t) most) _ _ _
-      (lowest_holds (Bounded (width t) most) bad (station t).devices (Refused worse) (done _ _ low)
+      (lowest_holds (Bounded (width t) most) bad (station t).devices (refuse worse) (done _ _ low)
       (λ i u. refused _ _ low worse (station t).devices i nameable u))
       (λ _. end))
 
@@ -179,7 +180,7 @@ module _ (t : List ℕ) (most : ℕ) where
 
   -- 1 to 9, then a stage of an accepted table
   staged_bounded : (b : List ℕ) (room : Bool) (stage : Verdict) → (Accepted t → Bounded (width t) most stage)
-      → Bounded (width t) most (first_of (ready_verdict room t b ∷ stage ∷ []) (Done 0))
+      → Bounded (width t) most (first_of (ready_verdict room t b ∷ stage ∷ []) (Ok 0))
   staged_bounded b room stage bound =
       chain_holds (Bounded (width t) most) _ _ _ (ready_bounded b room)
       (λ e. chain_holds (Bounded (width t) most) _ _ _ (bound (accepted t (ready_at room t b e).table)) (λ _. end))

@@ -12,8 +12,9 @@ use Rattle.sets.specs.Sets.{member, minus}
 use Rattle.sets.proofs.Laws.{decide, empty, minus_lt, member_minus, member_none}
 use Rattle.words.specs.Words.{put, word_bytes}
 use Rattle.words.proofs.Laws.{word_bytes_length}
-use Rattle.rules.specs.declared.Verdict.{Verdict}
-use Rattle.rules.specs.declared.Verdict.TheVariants.{Done, Refused}
+use Rattle.rules.specs.Verdict.{Verdict}
+use Rattle.std.specs.Prelude.{Ok}
+use Rattle.rules.specs.Verdict.{refuse}
 use Rattle.rules.specs.declared.Reason.TheVariants.{Inconsistent}
 use Rattle.rules.specs.Answers.{number_of, count_of, passes}
 use Rattle.rules.specs.Station.{Station, width, limit, station}
@@ -86,7 +87,7 @@ module _ (t b : List ℕ) (g : BringUpPassed t b) where
   unfolding but_power_verdict
   apart d h =
       apart_of (station t) (status t b).entries d (not-false (consistent_but_power (station t) (status t b).entries d)
-      (lowest_at _ (station t).devices (Refused Inconsistent) (refused_stops Inconsistent) g.apart d h))
+      (lowest_at _ (station t).devices (refuse Inconsistent) (refused_stops Inconsistent) g.apart d h))
 
   up : ConsistentStatus (limit (width t)) (station t) (status_needed (station t) (status t b))
   unfolding status_needed
@@ -107,7 +108,7 @@ module _ (t b : List ℕ) (g : BringUpPassed t b) where
   unfolding state_brought_up
   up_reads = image_reads t g.table (status_needed (station t) (status t b)) up up_out
 
-  pub up_consistent : state_verdict t (state_brought_up t b) ≡ Done 0
+  pub up_consistent : state_verdict t (state_brought_up t b) ≡ Ok 0
   unfolding state_brought_up
   up_consistent = image_consistent t g.table (status_needed (station t) (status t b)) up up_out
 
@@ -129,7 +130,7 @@ consistent_passes t b e f =
     record {
       table = e;
       values = (first_both _ _ _ f).0;
-      apart = ap passes (lowest_of_lem _ (station t).devices (Refused Inconsistent)
+      apart = ap passes (lowest_of_lem _ (station t).devices (refuse Inconsistent)
           (λ d h. rw (apart_is (station t) (status t b).entries d ((consistent_of t b f).1.apart d h)) refl)) ∙ done_passes 0;
     }
 
@@ -168,7 +169,7 @@ module _ (size : ℕ) (written : List ℕ → List ℕ) (long : (ws : List ℕ) 
     o = plan_outcome written checks b plan (state_brought_up t b) (bring_up_list t b)
 
     accepted_of : BringUpPassed t b → room ≡ true → o ≡ record {
-      verdict = Done (length (bring_up_list t b));
+      verdict = Ok (length (bring_up_list t b));
       state = state_brought_up t b;
       plan = put plan 0 (written (bring_up_list t b));
     }
@@ -184,7 +185,7 @@ module _ (size : ℕ) (written : List ℕ → List ℕ) (long : (ws : List ℕ) 
 
   -- a second time
   again : (t b p : List ℕ) (g : BringUpPassed t b) → leb (size * list_room (width t)) (length p) ≡ true
-      → bringUp t (state_brought_up t b) p ≡ record { verdict = Done 0; state = state_brought_up t b; plan = p }
+      → bringUp t (state_brought_up t b) p ≡ record { verdict = Ok 0; state = state_brought_up t b; plan = p }
   again t b p g r =
       let b' = state_brought_up t b in
       let z = up_settled t b g in

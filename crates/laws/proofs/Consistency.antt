@@ -6,7 +6,7 @@ use Prim.Native.Nat.{ℕ, ◌<◌}
 use borrow.Author.Tests.{eq-eqb, ne_eqb}
 use lib.Dec.{leb}
 use Rattle.rules.specs.declared.Request.{Request}
-use Rattle.rules.specs.declared.Verdict.TheVariants.{Refused}
+use Rattle.rules.specs.Verdict.{refuse}
 use Rattle.rules.specs.declared.Reason.TheVariants.{ChildShallower}
 use Rattle.rules.specs.Answers.{passes}
 use Rattle.rules.specs.Station.{Station}
@@ -38,7 +38,7 @@ moves s entries d x e =
       known = unless_at _ _ _ a.0;
       deeper = unless_at _ _ _ b.0;
       parent = unless_at _ _ _ c.0;
-      children = lowest_at _ s.devices (Refused ChildShallower) (refused_stops ChildShallower) f.0;
+      children = lowest_at _ s.devices (refuse ChildShallower) (refused_stops ChildShallower) f.0;
       wake = unless_at _ _ _ g.0;
     }
 

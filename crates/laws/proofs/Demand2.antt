@@ -13,8 +13,8 @@ use Rattle.sets.specs.Sets.{member}
 use Rattle.words.specs.Words.{word_bytes}
 use Rattle.words.proofs.Laws.{word_bytes_length}
 use Rattle.rules.specs.declared.Request.{Request}
-use Rattle.rules.specs.declared.Verdict.{Verdict}
-use Rattle.rules.specs.declared.Verdict.TheVariants.{Done}
+use Rattle.rules.specs.Verdict.{Verdict}
+use Rattle.std.specs.Prelude.{Ok}
 use Rattle.rules.specs.Answers.{number_of, count_of, passes}
 use Rattle.rules.specs.Station.{absent, width, station}
 use Rattle.rules.specs.Power.{needed}
@@ -51,7 +51,7 @@ not_shallower t b' d e =
     ⊎_elim (λ p. inl (eqb-true _ absent p)) (λ p. inr (leb-true _ _ p)) (or_cases (eqb ((station t).device d).parent absent) _ e)
 
 -- a state that gets neither 7 nor 8, whose on-set is what its entries need
-pub exactly_needed : (t b' : List ℕ) → state_verdict t b' ≡ Done 0 → (status t b').on ≡ needed (station t) (status t b').entries
+pub exactly_needed : (t b' : List ℕ) → state_verdict t b' ≡ Ok 0 → (status t b').on ≡ needed (station t) (status t b').entries
     → ExactlyNeeded t b'
 exactly_needed t b' good e =
     record {

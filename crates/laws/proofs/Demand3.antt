@@ -13,8 +13,8 @@ use Rattle.sets.specs.Sets.{member}
 use Rattle.sets.proofs.Laws.{decide, subset_at}
 use Rattle.rules.specs.declared.Request.{Request}
 use Rattle.rules.specs.declared.Call.{Call}
-use Rattle.rules.specs.declared.OptionalCall.TheVariants.{Is}
-use Rattle.rules.specs.declared.Verdict.TheVariants.{Done}
+use Rattle.std.specs.Prelude.{Some}
+use Rattle.std.specs.Prelude.{Ok}
 use Rattle.rules.specs.Answers.{number_of, count_of, passes}
 use Rattle.rules.specs.Station.{Station, width, station}
 use Rattle.rules.specs.declared.Entry.{Entry}
@@ -42,7 +42,7 @@ use Rattle.laws.proofs.Arrange.{own_other, conforms_listed, conforms_carried, co
 
 -- ---- a list passes exactly if the request is permitted and the test holds
 pub passed_of : (t b : List ℕ) (q : Request) (ws : List ℕ) → Stages t b q → conforming_to (station t) (status t b) q ws ≡ true
-    → check_words t b q ws ≡ Done 0
+    → check_words t b q ws ≡ Ok 0
 unfolding check_words
 passed_of t b q ws g e = list_of_lem _ _ (ap passes (stages_pass true t b q g refl) ∙ done_passes 0) e
 
@@ -150,7 +150,7 @@ module _ (t b : List ℕ) (q : Request) (g : Stages t b q) where
     list_ends = conforms_ends (station t) own (own_last q) (status t b).on (needed_after t b q) able ws c
 
 -- the own call's word is neither `_ON` nor `_OFF`
-other_word : (s : Station) (e : Entry) (q : Request) (c : Call) → own_call s e q ≡ Is c → Other (word_of c)
+other_word : (s : Station) (e : Entry) (q : Request) (c : Call) → own_call s e q ≡ Some c → Other (word_of c)
 unfolding list_of All
 other_word s e q c one = (rw one at (own_other s e q)).0
 

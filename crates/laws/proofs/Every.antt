@@ -9,7 +9,7 @@ use native.Mathlib.Omega.{arith}
 use borrow.Author.Tests.{le-leb, lt-leb, ltb-true}
 use lib.Dec.{leb, ltb}
 use Rattle.sets.proofs.Laws.{decide}
-use Rattle.rules.specs.declared.Verdict.{Verdict}
+use Rattle.rules.specs.Verdict.{Verdict}
 use Rattle.rules.specs.Index.{least_from, least, every}
 use Rattle.rules.specs.Answers.{lowest}
 use Rattle.laws.proofs.Tests.{both_true, and-true}

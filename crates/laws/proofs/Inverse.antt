@@ -11,7 +11,7 @@ use lib.Pow.{pow_mono}
 use lib.Dec.{leb}
 use lib.ListN.{length}
 use Rattle.words.proofs.Put.{take_put}
-use Rattle.rules.specs.declared.Verdict.TheVariants.{Done}
+use Rattle.std.specs.Prelude.{Ok}
 use Rattle.rules.specs.declared.Reason.TheVariants.{BadResource}
 use Rattle.rules.specs.Answers.{number_of, place_of, count_of, passes, first_of, unless}
 use Rattle.rules.specs.Station.{version_width, version_of, limit, count_r, count_d}
@@ -82,19 +82,19 @@ module _ (version : ℕ) (rs ds : List ℕ) (room : ℕ) (e : passes (write_verd
       }
 
   -- so the table is good, and has the bytes that were counted
-  pub written_good : table_verdict t ≡ Done 0
+  pub written_good : table_verdict t ≡ Ok 0
   unfolding records_verdict
-  written_good = sym (same_verdict version rs ds written_representable) ∙ first_through _ (Done 0) records_pass
+  written_good = sym (same_verdict version rs ds written_representable) ∙ first_through _ (Ok 0) records_pass
 
   -- the buffer has room for them
   pub written_room : written_size version rs ds ≤ room
   unfolding write_verdict
   written_room = leb-true _ _ (unless_at _ _ _ (first_both _ _ _ (first_both _ _ _ (first_both _ _ _ e).1).1).0)
 
-  pub written_done : write_verdict version rs ds room ≡ Done (written_size version rs ds)
+  pub written_done : write_verdict version rs ds room ≡ Ok (written_size version rs ds)
   unfolding write_verdict records_verdict
   written_done =
-      let records : records_verdict rs ds ≡ Done 0 = first_through _ (Done 0) records_pass in
+      let records : records_verdict rs ds ≡ Ok 0 = first_through _ (Ok 0) records_pass in
       rw (written_representable.known, written_representable.counts, le-leb (written_size version rs ds) room written_room, records)
       (unfold first_of unless passes in refl)
 
@@ -106,7 +106,7 @@ pub written_describes : (version : ℕ) (rs ds : List ℕ) (room : ℕ) → AllB
 unfolding describe describe_verdict
 written_describes version rs ds room bytes e a b l u =
     let s = written_representable version rs ds room e in
-    let done : describe_verdict (table_bytes version rs ds) (length a) (length b) ≡ Done (length rs + length ds) =
+    let done : describe_verdict (table_bytes version rs ds) (length a) (length b) ≡ Ok (length rs + length ds) =
     rw (
       written_good version rs ds room e,
       count_r_lem version rs ds,
@@ -128,8 +128,8 @@ described_makes t bytes e a l =
     let s = described_representable t bytes (accepted t e) in
     let back = table_back t bytes (accepted t e) in
     let long : written_size version rs ds ≡ length t = sym (table_long version rs ds s) ∙ ap length back in
-    let records : records_verdict rs ds ≡ Done 0 = same_verdict version rs ds s ∙ ap table_verdict back ∙ first_through _ (Done 0) e in
-    let done : write_verdict version rs ds (length a) ≡ Done (length t) =
+    let records : records_verdict rs ds ≡ Ok 0 = same_verdict version rs ds s ∙ ap table_verdict back ∙ first_through _ (Ok 0) e in
+    let done : write_verdict version rs ds (length a) ≡ Ok (length t) =
     rw (s.known, s.counts, long, le-leb (length t) (length a) l, records) (unfold first_of unless passes in refl) in
     rw (done, back) (unfold passes in refl)
 
@@ -165,13 +165,13 @@ pub write_answers : (version : ℕ) (rs ds : List ℕ) (room : ℕ)
 unfolding write_verdict records_verdict
 write_answers version rs ds room s l =
     let v = records_verdict rs ds in
-    let done = Done (written_size version rs ds) in
+    let done = Ok (written_size version rs ds) in
     let past : write_verdict version rs ds room ≡ first_of (v ∷ []) done =
     rw (s.known, s.counts, le-leb (written_size version rs ds) room l) (unfold first_of unless passes in refl) in
     let same = same_verdict version rs ds s in
     decide (passes v)
     (λ e.
-    let fine : v ≡ Done 0 = first_through _ (Done 0) e in
+    let fine : v ≡ Ok 0 = first_through _ (Ok 0) e in
     let is : write_verdict version rs ds room ≡ done = past ∙ first_pass v [] done e ∙ first_none done in
     rw (is, ← same, fine) (refl, refl))
     (λ e. let is : write_verdict version rs ds room ≡ v = past ∙ first_stop v [] done e in rw (is, ← same) (refl, refl))

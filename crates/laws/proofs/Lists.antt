@@ -14,8 +14,9 @@ use Rattle.sets.proofs.Laws.{decide}
 use Rattle.words.specs.Words.{put, word_bytes, byte_words}
 use Rattle.words.proofs.Put.{take_put}
 use Rattle.words.proofs.Laws.{word_bytes_length, words_of_bytes}
-use Rattle.rules.specs.declared.Verdict.{Verdict}
-use Rattle.rules.specs.declared.Verdict.TheVariants.{Done, Refused}
+use Rattle.rules.specs.Verdict.{Verdict}
+use Rattle.std.specs.Prelude.{Ok, Err}
+use Rattle.rules.specs.Verdict.{refuse}
 use Rattle.rules.specs.declared.Reason.TheVariants.{NotConforming}
 use Rattle.rules.specs.Answers.{number_of, count_of, passes}
 use Rattle.rules.specs.Outcomes.{Outcome, outcome, plan_verdict, plan_outcome, list_verdict, of_bytes}
@@ -26,18 +27,18 @@ use Rattle.laws.proofs.Tests.{both_true}
 
 -- ---- numbers and passing
 pub number_passes : (v : Verdict) → number_of v ≡ 0 → passes v ≡ true
-number_passes (Done n) e = done_passes n
-number_passes (Refused why at) e = absurd (no_reason_0 why e)
+number_passes (Ok n) e = done_passes n
+number_passes (Err r) e = absurd (no_reason_0 r.0 e)
 
 -- what passes has number 0
 pub passes_number : (v : Verdict) → passes v ≡ true → number_of v ≡ 0
-passes_number (Done n) e = refl
-passes_number (Refused why at) e = absurd (true≢false (sym e ∙ refused_stops why at))
+passes_number (Ok n) e = refl
+passes_number (Err r) e = absurd (true≢false (sym e ∙ refused_stops r.0 r.1))
 
 -- a refusal counts nothing
 pub refused_count : (v : Verdict) → passes v ≡ false → count_of v ≡ 0
-refused_count (Done n) e = absurd (true≢false (sym (done_passes n) ∙ e))
-refused_count (Refused why at) e = refl
+refused_count (Ok n) e = absurd (true≢false (sym (done_passes n) ∙ e))
+refused_count (Err r) e = refl
 
 -- ---- plans
 drop_put : (d ws : List ℕ) → drop (length ws) (put d 0 ws) ≡ drop (length ws) d
@@ -49,7 +50,7 @@ module _ (checks : Verdict) (words : List ℕ) where
   unfolding plan_verdict
   plan_checks e = (first_both _ _ _ e).0
 
-  pub plan_done : passes checks ≡ true → plan_verdict checks words ≡ Done (length words)
+  pub plan_done : passes checks ≡ true → plan_verdict checks words ≡ Ok (length words)
   unfolding plan_verdict
   plan_done e = first_pass _ _ _ e ∙ first_none _
 
@@ -63,14 +64,14 @@ module _ (written : List ℕ → List ℕ) (checks : Verdict) (b plan b' words :
   abbrev o : Outcome
   o = plan_outcome written checks b plan b' words
 
-  pub plan_outcome_lem : passes checks ≡ true → o ≡ record { verdict = Done (length words); state = b'; plan = put plan 0 (written words) }
+  pub plan_outcome_lem : passes checks ≡ true → o ≡ record { verdict = Ok (length words); state = b'; plan = put plan 0 (written words) }
   unfolding plan_outcome outcome passes
   plan_outcome_lem e = rw (plan_done checks words e) refl
 
   -- refused, state and plan are as they were lent
   pub plan_refused : passes checks ≡ false → o ≡ record { verdict = checks; state = b; plan = plan }
   unfolding plan_outcome outcome plan_verdict
-  plan_refused e = rw (first_stop checks [] (Done (length words)) e, e) refl
+  plan_refused e = rw (first_stop checks [] (Ok (length words)) e, e) refl
 
   pub outcome_number : number_of o.verdict ≡ number_of checks
   unfolding plan_outcome outcome
@@ -120,10 +121,10 @@ front_words checks b plan b' words e = rw one-mul at (left_plan (λ ws. ws) chec
 
 -- ---- lists
 module _ (checks : Verdict) where
-  pub list_of_lem : (conforms : Bool) → passes checks ≡ true → conforms ≡ true → list_verdict checks conforms ≡ Done 0
+  pub list_of_lem : (conforms : Bool) → passes checks ≡ true → conforms ≡ true → list_verdict checks conforms ≡ Ok 0
   unfolding list_verdict
   list_of_lem conforms e h =
-      first_pass _ _ _ e ∙ first_pass _ _ _ (rw (unless_of conforms NotConforming 0 h) (done_passes 0)) ∙ first_none (Done 0)
+      first_pass _ _ _ e ∙ first_pass _ _ _ (rw (unless_of conforms NotConforming 0 h) (done_passes 0)) ∙ first_none (Ok 0)
 
   pub list_at : (conforms : Bool) → passes (list_verdict checks conforms) ≡ true → (passes checks ≡ true) × (conforms ≡ true)
   unfolding list_verdict

@@ -10,7 +10,7 @@ use lib.Dec.{leb}
 use lib.ListN.{length}
 use Rattle.words.specs.Words.{put}
 use Rattle.words.proofs.Put.{put_all}
-use Rattle.rules.specs.declared.Verdict.TheVariants.{Done}
+use Rattle.std.specs.Prelude.{Ok}
 use Rattle.rules.specs.Answers.{count_of, passes, first_of, unless}
 use Rattle.rules.specs.Index.{below}
 use Rattle.rules.specs.Station.{Station, version_good, version_width, width, resource_start, device_start, resource_at, device_at, no_resource, no_device}
@@ -67,11 +67,11 @@ module _ (version : ℕ) (rs ds : List ℕ) (s : Representable version rs ds) wh
 -- ---- what was made
 module _ (version : ℕ) (rs ds t : List ℕ) (m : Makes version rs ds t) where
   -- into the table itself it would be written as it is
-  again : write version rs ds t ≡ record { verdict = Done (length t); table = put t 0 t }
+  again : write version rs ds t ≡ record { verdict = Ok (length t); table = put t 0 t }
   again = m t (omega arith)
 
   -- so the writer refuses nothing
-  done : write_verdict version rs ds (length t) ≡ Done (length t)
+  done : write_verdict version rs ds (length t) ≡ Ok (length t)
   unfolding write
   done = ap (λ (r : Written). r.verdict) again
 
@@ -92,7 +92,7 @@ module _ (version : ℕ) (rs ds t : List ℕ) (m : Makes version rs ds t) where
   can = written_representable version rs ds (length t) passed
 
   -- it is good
-  pub made_good : table_verdict t ≡ Done 0
+  pub made_good : table_verdict t ≡ Ok 0
   made_good = rw made_is (written_good version rs ds (length t) passed)
 
   -- its width is that of the version
@@ -115,10 +115,10 @@ module _ (rs ds t : List ℕ) (m : Makes 1 rs ds t) where
       and-true (leb (described_r rs) 64) (leb (described_d ds) 64) (le-leb (described_r rs) 64 (omega arith)) (le-leb (described_d ds) 64 (omega arith))
 
   -- with room the writer is done
-  done_2 : (room : ℕ) → written_size 2 rs ds ≤ room → write_verdict 2 rs ds room ≡ Done (written_size 2 rs ds)
+  done_2 : (room : ℕ) → written_size 2 rs ds ≤ room → write_verdict 2 rs ds room ≡ Ok (written_size 2 rs ds)
   unfolding write_verdict records_verdict version_good
   done_2 room l =
-      let records : records_verdict rs ds ≡ Done 0 = first_through _ (Done 0) (records_pass 1 rs ds (length t) (passed 1 rs ds t m)) in
+      let records : records_verdict rs ds ≡ Ok 0 = first_through _ (Ok 0) (records_pass 1 rs ds (length t) (passed 1 rs ds t m)) in
       rw (counts_2, le-leb (written_size 2 rs ds) room l, records) (unfold first_of unless passes in refl)
 
   pub made_2 : Makes 2 rs ds (table_bytes 2 rs ds)

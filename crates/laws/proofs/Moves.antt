@@ -12,7 +12,8 @@ use Rattle.sets.proofs.Laws.{decide}
 use Rattle.rules.specs.declared.Entry.{Entry}
 use Rattle.rules.specs.declared.Reason.{Reason}
 use Rattle.rules.specs.declared.Reason.TheVariants.{ChildShallower}
-use Rattle.rules.specs.declared.Verdict.TheVariants.{Done, Refused}
+use Rattle.std.specs.Prelude.{Ok}
+use Rattle.rules.specs.Verdict.{refuse}
 use Rattle.rules.specs.Answers.{passes, unless}
 use Rattle.rules.specs.Station.{Station, absent, width, limit, station_of, station}
 use Rattle.rules.specs.Table.{parent_good, table_verdict}
@@ -36,20 +37,20 @@ pub unless_passes : (good : Bool) (why : Reason) (at : ℕ) → good ≡ true �
 unless_passes good why at e = ap passes (unless_of good why at e) ∙ done_passes 0
 
 module _ (s : Station) (entries : ℕ → Entry) (d y : ℕ) (m : Moves s entries d y) where
-  move_done : move_verdict s entries d y ≡ Done 0
+  move_done : move_verdict s entries d y ≡ Ok 0
   unfolding move_verdict
   move_done =
       first_pass _ _ _ (unless_passes _ _ _ m.known) ∙ first_pass _ _ _ (unless_passes _ _ _ m.deeper)
       ∙ first_pass _ _ _ (unless_passes _ _ _ m.parent)
-      ∙ first_pass _ _ _ (ap passes (lowest_of_lem _ s.devices (Refused ChildShallower) m.children) ∙ done_passes 0)
-      ∙ first_pass _ _ _ (unless_passes _ _ _ m.wake) ∙ first_none (Done 0)
+      ∙ first_pass _ _ _ (ap passes (lowest_of_lem _ s.devices (refuse ChildShallower) m.children) ∙ done_passes 0)
+      ∙ first_pass _ _ _ (unless_passes _ _ _ m.wake) ∙ first_none (Ok 0)
 
   move_passes : d < s.devices → y ≤ 4 → passes (request_verdict s entries (move_to d y)) ≡ true
   unfolding request_verdict kind_verdict form_good numbers_good
   move_passes h k =
       let form : passes (unless (form_good s (move_to d y)) _ 0) ≡ true =
       unless_passes _ _ _ (rw (lt-ltb d s.devices h, le-leb y 4 k) refl) in
-      ap passes (first_pass _ _ _ form ∙ first_pass _ _ _ (ap passes move_done ∙ done_passes 0) ∙ first_none (Done 0)) ∙ done_passes 0
+      ap passes (first_pass _ _ _ form ∙ first_pass _ _ _ (ap passes move_done ∙ done_passes 0) ∙ first_none (Ok 0)) ∙ done_passes 0
 
 -- ---- states to which the devices of a station can move
 pub record Reachable (s : Station) (entries : ℕ → Entry) (states : ℕ → ℕ) : Type 0 where

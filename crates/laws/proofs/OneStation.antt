@@ -11,7 +11,7 @@ use lib.ListN.{length}
 use Rattle.sets.proofs.Laws.{decide}
 use Rattle.rules.specs.declared.Entry.{Entry}
 use Rattle.rules.specs.declared.Request.{Request}
-use Rattle.rules.specs.declared.Verdict.TheVariants.{Done}
+use Rattle.std.specs.Prelude.{Ok}
 use Rattle.rules.specs.Answers.{passes}
 use Rattle.rules.specs.Index.{every}
 use Rattle.rules.specs.Station.{Station, width, limit, station}
@@ -49,8 +49,8 @@ entries_wider s entries n m l out =
 
 -- ---- two good tables of one station
 pub record OneStation (t₁ t₂ : List ℕ) : Type 0 where
-  pub first : table_verdict t₁ ≡ Done 0
-  pub second : table_verdict t₂ ≡ Done 0
+  pub first : table_verdict t₁ ≡ Ok 0
+  pub second : table_verdict t₂ ≡ Ok 0
   pub station : station t₁ ≡ station t₂
   pub wider : width t₁ ≤ width t₂
 

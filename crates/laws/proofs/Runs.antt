@@ -6,8 +6,8 @@ use Prim.Native.Nat.{ℕ}
 use Rattle.words.specs.Words.{put, word_bytes}
 use Rattle.sets.proofs.Laws.{decide}
 use Rattle.rules.specs.declared.Request.{Request}
-use Rattle.rules.specs.declared.Verdict.{Verdict}
-use Rattle.rules.specs.declared.Verdict.TheVariants.{Done}
+use Rattle.rules.specs.Verdict.{Verdict}
+use Rattle.std.specs.Prelude.{Ok}
 use Rattle.rules.specs.Answers.{number_of, passes}
 use Rattle.rules.specs.Station.{width, station}
 use Rattle.rules.specs.Status.{image_of, fresh_status, state_verdict}
@@ -65,5 +65,5 @@ fresh_run_consistent t b rs n =
     let e = number_passes _ n in
     let table = (first_both _ _ _ e).0 in
     let img = image_of (width t) (fresh_status (station t)) in
-    ap number_of (first_through _ (Done 0)
+    ap number_of (first_through _ (Ok 0)
     (run_consistent t _ rs (rw (outcome_done (fresh_verdict t b) b [] img [] e, fresh_consistent t table) (done_passes 0))))

@@ -16,8 +16,8 @@ use Rattle.words.specs.Words.{put, word_bytes}
 use Rattle.words.proofs.Laws.{word_bytes_length}
 use Rattle.rules.specs.declared.Entry.{Entry}
 use Rattle.rules.specs.declared.Request.{Request}
-use Rattle.rules.specs.declared.Verdict.{Verdict}
-use Rattle.rules.specs.declared.Verdict.TheVariants.{Done}
+use Rattle.rules.specs.Verdict.{Verdict}
+use Rattle.std.specs.Prelude.{Ok}
 use Rattle.rules.specs.Answers.{number_of, count_of, passes}
 use Rattle.rules.specs.Station.{Station, width, station}
 use Rattle.rules.specs.Table.{table_verdict}
@@ -138,7 +138,7 @@ module _ (t b : List ℕ) (q : Request) (g : SleepPassed t b q) where
   -- the state is consistent, with exactly the needed set on
   sleep_exactly : ExactlyNeeded t b'
   unfolding state_verdict
-  sleep_exactly = exactly_needed t b' (first_through _ (Done 0) sleep_states.state) sleep_settled.on
+  sleep_exactly = exactly_needed t b' (first_through _ (Ok 0) sleep_states.state) sleep_settled.on
 
   -- the entry of a device
   entry_is : (d : ℕ) → d < s.devices → (status t b').entries d ≡ in_state (present d) (states d)
@@ -222,7 +222,7 @@ module _ (size : ℕ) (written : List ℕ → List ℕ) (long : (ws : List ℕ) 
 
     -- it is done where the checks pass and there is room
     done : SleepPassed t b q → room ≡ true → o ≡ record {
-      verdict = Done (length (sleep_list t b q.a));
+      verdict = Ok (length (sleep_list t b q.a));
       state = state_for_sleep t b q.a;
       plan = put plan 0 (written (sleep_list t b q.a));
     }
@@ -245,7 +245,7 @@ module _ (size : ℕ) (written : List ℕ → List ℕ) (long : (ws : List ℕ) 
 
   -- a second time
   again : (t b p : List ℕ) (g : SleepPassed t b q) → leb (size * plan_room (width t) q) (length p) ≡ true
-      → planOn t (state_for_sleep t b q.a) q p ≡ record { verdict = Done 0; state = state_for_sleep t b q.a; plan = p }
+      → planOn t (state_for_sleep t b q.a) q p ≡ record { verdict = Ok 0; state = state_for_sleep t b q.a; plan = p }
   again t b p g r =
       is t (state_for_sleep t b q.a) p ∙ done t (state_for_sleep t b q.a) p (again_passes t b q g) r
       ∙ rw (again_list t b q g, again_state t b q g, written_none size written long) (unfold put in refl)

@@ -7,8 +7,9 @@ use Prim.Native.Nat.{ℕ, ◌<◌}
 use native.Mathlib.Omega.{arith}
 use Rattle.sets.proofs.Laws.{decide}
 use Rattle.rules.specs.declared.Request.{Request}
-use Rattle.rules.specs.declared.Verdict.{Verdict}
-use Rattle.rules.specs.declared.Verdict.TheVariants.{Done, Refused}
+use Rattle.rules.specs.Verdict.{Verdict}
+use Rattle.std.specs.Prelude.{Ok}
+use Rattle.rules.specs.Verdict.{refuse}
 use Rattle.rules.specs.declared.Reason.{Reason}
 use Rattle.rules.specs.declared.Reason.TheVariants.{BadResource, Inconsistent, ArmedForOther, NoChoice}
 use Rattle.rules.specs.Answers.{reason_number, number_of, passes, first_of, unless, lowest}
@@ -47,41 +48,41 @@ module _ (room : Bool) (t b : List ℕ) (q : Request) where
           table = r.table;
           state = r.state;
           form = unless_at _ _ _ a.0;
-          armed = lowest_at _ (station t).devices (Refused ArmedForOther) (refused_stops ArmedForOther) (first_both _ _ _ a.1).0;
+          armed = lowest_at _ (station t).devices (refuse ArmedForOther) (refused_stops ArmedForOther) (first_both _ _ _ a.1).0;
           choice = unless_at _ _ _ (first_both _ _ _ y.1).0;
         },
         r.room,
       )
 
   -- and where each stage passes, it is done
-  pub sleep_pass : SleepPassed t b q → room ≡ true → sleep_stages room t b q ≡ Done 0
+  pub sleep_pass : SleepPassed t b q → room ≡ true → sleep_stages room t b q ≡ Ok 0
   unfolding sleep_stages sleep_stage sleep_verdict armed_verdict
   sleep_pass g e =
       let ready = ready_pass room t b (record { table = g.table; state = g.state; room = e }) in
-      let others = lowest_of_lem (λ d. armed_for_other ((status t b).entries d) q.a) (station t).devices (Refused ArmedForOther) g.armed in
-      let armed = first_pass _ _ (Done 0) (unless_passes (sleep_form_good q) _ 0 g.form)
-      ∙ first_pass _ _ _ (ap passes others ∙ done_passes 0) ∙ first_none (Done 0) in
-      let stage = first_pass _ _ (Done 0) (ap passes armed ∙ done_passes 0)
-      ∙ first_pass _ _ _ (unless_passes (has_choice (station t) (status t b).entries q.a) _ 0 g.choice) ∙ first_none (Done 0) in
-      first_pass _ _ _ (ap passes ready ∙ done_passes 0) ∙ first_pass _ _ _ (ap passes stage ∙ done_passes 0) ∙ first_none (Done 0)
+      let others = lowest_of_lem (λ d. armed_for_other ((status t b).entries d) q.a) (station t).devices (refuse ArmedForOther) g.armed in
+      let armed = first_pass _ _ (Ok 0) (unless_passes (sleep_form_good q) _ 0 g.form)
+      ∙ first_pass _ _ _ (ap passes others ∙ done_passes 0) ∙ first_none (Ok 0) in
+      let stage = first_pass _ _ (Ok 0) (ap passes armed ∙ done_passes 0)
+      ∙ first_pass _ _ _ (unless_passes (has_choice (station t) (status t b).entries q.a) _ 0 g.choice) ∙ first_none (Ok 0) in
+      first_pass _ _ _ (ap passes ready ∙ done_passes 0) ∙ first_pass _ _ _ (ap passes stage ∙ done_passes 0) ∙ first_none (Ok 0)
 
 -- ---- 21: no check before that of the choice has this number; and those before the request or sleep entry have none above 9
 abbrev pub Below : ℕ → Verdict → Type 0
 Below n v = number_of v < n
 
 -- a chain of such checks
-first_below : (n : ℕ) → 0 < n → (vs : List Verdict) → All (Below n) vs → Below n (first_of vs (Done 0))
+first_below : (n : ℕ) → 0 < n → (vs : List Verdict) → All (Below n) vs → Below n (first_of vs (Ok 0))
 unfolding All
-first_below n k [] h = last_holds (Below n) (Done 0) k
-first_below n k (v ∷ vs) h = chain_holds (Below n) v vs (Done 0) h.0 (λ _. first_below n k vs h.1)
+first_below n k [] h = last_holds (Below n) (Ok 0) k
+first_below n k (v ∷ vs) h = chain_holds (Below n) v vs (Ok 0) h.0 (λ _. first_below n k vs h.1)
 
 -- one check
 unless_below : (n : ℕ) (good : Bool) (why : Reason) → reason_number why < n → Below n (unless good why 0)
 unless_below n good why h = unless_holds (Below n) good why 0 (omega arith) (λ _. h)
 
 -- one of resources or devices
-lowest_below : (n : ℕ) (bad : ℕ → Bool) (m : ℕ) (why : Reason) → reason_number why < n → Below n (lowest bad m (Refused why))
-lowest_below n bad m why h = lowest_holds (Below n) bad m (Refused why) (omega arith) (λ i _. h)
+lowest_below : (n : ℕ) (bad : ℕ → Bool) (m : ℕ) (why : Reason) → reason_number why < n → Below n (lowest bad m (refuse why))
+lowest_below n bad m why h = lowest_holds (Below n) bad m (refuse why) (omega arith) (λ i _. h)
 
 -- 5 and 6
 device_below : (t : List ℕ) (d : ℕ) → Below 10 (device_refusal t d)
@@ -128,13 +129,13 @@ module _ (room : Bool) (t b : List ℕ) (q : Request) where
   pub none_of : OnlyThen (sleep_stages room t b q)
   unfolding sleep_stages sleep_stage sleep_verdict
   none_of =
-      let end : OnlyThen (first_of [] (Done 0)) = last_holds OnlyThen (Done 0) (λ e. absurd (omega arith)) in
+      let end : OnlyThen (first_of [] (Ok 0)) = last_holds OnlyThen (Ok 0) (λ e. absurd (omega arith)) in
       chain_holds OnlyThen _ _ _ (λ e. absurd (omega (arith, ready_below)))
       (λ r. chain_holds OnlyThen _ _ _
       (chain_holds OnlyThen _ _ _ (λ e. absurd (omega (arith, armed_below)))
       (λ a. chain_holds OnlyThen _ _ _
       (unless_holds OnlyThen _ NoChoice 0 (λ e. absurd (omega arith))
-      (λ c e. (ap number_of (first_pass _ _ _ r ∙ first_pass _ _ _ a ∙ first_none (Done 0)), c)))
+      (λ c e. (ap number_of (first_pass _ _ _ r ∙ first_pass _ _ _ a ∙ first_none (Ok 0)), c)))
       (λ _. end)))
       (λ _. end))
 

@@ -4,7 +4,7 @@ use mathlib.Core.Bool.{Bool, true}
 use mathlib.Core.List.{List}
 use Prim.Native.Nat.{ℕ}
 use Rattle.rules.specs.declared.Request.{Request}
-use Rattle.rules.specs.declared.Verdict.TheVariants.{Done}
+use Rattle.std.specs.Prelude.{Ok}
 use Rattle.rules.specs.declared.Reason.TheVariants.{NoRoom}
 use Rattle.rules.specs.Answers.{passes}
 use Rattle.rules.specs.Station.{station}
@@ -29,11 +29,11 @@ module _ (room : Bool) (t b : List ℕ) where
       let y = first_both _ _ _ x.1 in
       record { table = x.0; state = y.0; room = unless_at room NoRoom 0 (first_both _ _ _ y.1).0 }
 
-  pub ready_pass : ReadyPassed room t b → ready_verdict room t b ≡ Done 0
+  pub ready_pass : ReadyPassed room t b → ready_verdict room t b ≡ Ok 0
   unfolding ready_verdict
   ready_pass g =
       first_pass _ _ _ g.table ∙ first_pass _ _ _ g.state
-      ∙ first_pass _ _ _ (rw (unless_of room NoRoom 0 g.room) (done_passes 0)) ∙ first_none (Done 0)
+      ∙ first_pass _ _ _ (rw (unless_of room NoRoom 0 g.room) (done_passes 0)) ∙ first_none (Ok 0)
 
 -- the stages that a permitted request has passed
 pub record Stages (t b : List ℕ) (q : Request) : Type 0 where
@@ -49,11 +49,11 @@ module _ (room : Bool) (t b : List ℕ) (q : Request) where
       let r = ready_at room t b x.0 in
       record { table = r.table; state = r.state; request = (first_both _ _ _ x.1).0 }
 
-  pub stages_pass : Stages t b q → room ≡ true → stages_verdict room t b q ≡ Done 0
+  pub stages_pass : Stages t b q → room ≡ true → stages_verdict room t b q ≡ Ok 0
   unfolding stages_verdict request_stage
   stages_pass g e =
       let ready = ready_pass room t b (record { table = g.table; state = g.state; room = e }) in
-      first_pass _ _ _ (ap passes ready ∙ done_passes 0) ∙ first_pass _ _ _ g.request ∙ first_none (Done 0)
+      first_pass _ _ _ (ap passes ready ∙ done_passes 0) ∙ first_pass _ _ _ g.request ∙ first_none (Ok 0)
 
   -- without room they refuse
   pub room_passed : passes (stages_verdict room t b q) ≡ true → room ≡ true
@@ -77,9 +77,9 @@ module _ (room : Bool) (t b : List ℕ) where
         unless_at room NoRoom 0 (first_both _ _ _ y.1).0,
       )
 
-  pub bring_up_pass : BringUpPassed t b → room ≡ true → bring_up_stages room t b ≡ Done 0
+  pub bring_up_pass : BringUpPassed t b → room ≡ true → bring_up_stages room t b ≡ Ok 0
   unfolding bring_up_stages state_but_power_verdict
   bring_up_pass g e =
-      let kept = first_pass _ _ (Done 0) g.values ∙ first_pass _ _ (Done 0) g.apart ∙ first_none (Done 0) in
+      let kept = first_pass _ _ (Ok 0) g.values ∙ first_pass _ _ (Ok 0) g.apart ∙ first_none (Ok 0) in
       first_pass _ _ _ g.table ∙ first_pass _ _ _ (ap passes kept ∙ done_passes 0)
-      ∙ first_pass _ _ _ (rw (unless_of room NoRoom 0 e) (done_passes 0)) ∙ first_none (Done 0)
+      ∙ first_pass _ _ _ (rw (unless_of room NoRoom 0 e) (done_passes 0)) ∙ first_none (Ok 0)

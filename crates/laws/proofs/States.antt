@@ -14,7 +14,8 @@ use lib.Pow.{pow_mono}
 use Rattle.sets.specs.Sets.{member, subset, first_n}
 use Rattle.sets.proofs.Laws.{decide, first_n_lt, member_first_n, subset_at, subset_of}
 use Rattle.rules.specs.declared.Request.{Request}
-use Rattle.rules.specs.declared.Verdict.TheVariants.{Done, Refused}
+use Rattle.std.specs.Prelude.{Ok}
+use Rattle.rules.specs.Verdict.{refuse}
 use Rattle.rules.specs.declared.Reason.TheVariants.{BadState, Inconsistent}
 use Rattle.rules.specs.Answers.{passes, first_of}
 use Rattle.rules.specs.Station.{Station, absent, width, limit, station_of, station}
@@ -85,7 +86,7 @@ consistent_of t b e =
     let c = first_both _ _ _ a.1 in
     let v = values_of t b a.0 in
     let k : (d : ℕ) → d < s.devices → (consistent_but_power s (status t b).entries d ≡ true) × (powered s (status t b) d ≡ true) =
-    λ d h. both_true _ _ (not-false (consistent s (status t b) d) (lowest_at _ s.devices (Refused Inconsistent)
+    λ d h. both_true _ _ (not-false (consistent s (status t b) d) (lowest_at _ s.devices (refuse Inconsistent)
     (refused_stops Inconsistent) c.0 d h)) in (
       v.long,
       record {
@@ -104,13 +105,13 @@ needs_on t b f r e =
     let n = needed_by (station t) (status t b).entries (station t).devices r e in
     subset_at _ _ r ((consistent_of t b f).1.power n.0 n.1) n.2
 
-all_consistent : (n : ℕ) (s : Station) (st : Status) → ConsistentStatus n s st → consistency_verdict s st ≡ Done 0
+all_consistent : (n : ℕ) (s : Station) (st : Status) → ConsistentStatus n s st → consistency_verdict s st ≡ Ok 0
 unfolding consistency_verdict consistent powered
 all_consistent n s st a =
-    lowest_of_lem _ s.devices (Refused Inconsistent) (λ d h. rw (apart_is s st.entries d (a.apart d h), a.power d h) refl)
+    lowest_of_lem _ s.devices (refuse Inconsistent) (λ d h. rw (apart_is s st.entries d (a.apart d h), a.power d h) refl)
 
 pub consistent_is : (t b : List ℕ) → length b ≡ image_size (width t) → ConsistentStatus (limit (width t)) (station t) (status t b)
-    → state_verdict t b ≡ Done 0
+    → state_verdict t b ≡ Ok 0
 unfolding state_verdict values_verdict image_good values_good on_good passes first_of
 consistent_is t b l a =
     rw (
@@ -134,7 +135,7 @@ module _ (t : List ℕ) (e : passes (table_verdict t) ≡ true) (st : Status) (c
       status_image (width t) st
       (fits_image (width t) (station t).resources st.on (unfold station_of in (accepted t e).resources) c.on) out
 
-  pub image_consistent : state_verdict t (image_of (width t) st) ≡ Done 0
+  pub image_consistent : state_verdict t (image_of (width t) st) ≡ Ok 0
   image_consistent = consistent_is t (image_of (width t) st) (image_length (width t) st) (rw image_reads c)
 
 -- ---- all on: nothing that a device needs is missing
@@ -148,7 +149,7 @@ pub powered_apart : (s : Station) (entries : ℕ → Entry) (on : ℕ) → ((d :
     → consistency_verdict s (record { entries = entries; on = on }) ≡ but_power_verdict s entries
 unfolding consistency_verdict but_power_verdict consistent powered
 powered_apart s entries on h =
-    lowest_ext _ _ s.devices (Refused Inconsistent) (Refused Inconsistent)
+    lowest_ext _ _ s.devices (refuse Inconsistent) (refuse Inconsistent)
     (λ d l. rw (h d l) (ap not (and-true (consistent_but_power s entries d))))
     (λ d l. refl)
 
@@ -182,7 +183,7 @@ module _ (t : List ℕ) (e : passes (table_verdict t) ≡ true) where
   pub fresh_reads : status t (image_of (width t) (fresh_status (station t))) ≡ fresh_status (station t)
   fresh_reads = image_reads t e (fresh_status (station t)) start start_out
 
-  pub fresh_consistent : state_verdict t (image_of (width t) (fresh_status (station t))) ≡ Done 0
+  pub fresh_consistent : state_verdict t (image_of (width t) (fresh_status (station t))) ≡ Ok 0
   fresh_consistent = image_consistent t e (fresh_status (station t)) start start_out
 
 -- ---- an accepted request
@@ -277,6 +278,6 @@ module _ (t b : List ℕ) (q : Request) (e : passes (table_verdict t) ≡ true) 
   unfolding state_after
   after_reads = image_reads t e (status_after (station t) (status t b) q) new new_out
 
-  pub after_consistent : state_verdict t (state_after t b q) ≡ Done 0
+  pub after_consistent : state_verdict t (state_after t b q) ≡ Ok 0
   unfolding state_after
   after_consistent = image_consistent t e (status_after (station t) (status t b) q) new new_out

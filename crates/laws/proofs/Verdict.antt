@@ -9,7 +9,7 @@ use borrow.Author.Tests.{eq-eqb, le-leb}
 use lib.Dec.{eqb}
 use lib.ListN.{length, get_or}
 use Rattle.words.specs.Words.{bytes_le}
-use Rattle.rules.specs.declared.Verdict.TheVariants.{Refused}
+use Rattle.rules.specs.Verdict.{refuse}
 use Rattle.rules.specs.declared.Reason.TheVariants.{BadResource}
 use Rattle.rules.specs.Answers.{passes, first_of, unless}
 use Rattle.rules.specs.Station.{version_width, record_size, resource_start, device_start, device_at}
@@ -83,7 +83,7 @@ unfolding records_verdict table_verdict
 same_verdict version rs ds s =
     let table = table_bytes version rs ds in
     let resources = lowest_ext (λ r. not (described_resource_good rs r)) (λ r. not (resource_good table (resource_start r))) (described_r rs)
-    (Refused BadResource) (Refused BadResource) (λ r u. ap not (resource_same version rs ds s r u)) (λ r u. refl) in
+    (refuse BadResource) (refuse BadResource) (λ r u. ap not (resource_same version rs ds s r u)) (λ r u. refl) in
     let devices = lowest_ext (λ d. not (described_device_good (described_r rs) ds d)) (λ d. not (device_good table d)) (described_d ds)
     (λ d. fields_or_objects (described_fields_good (described_r rs) ds d) d) (device_refusal table)
     (λ d u. ap not (device_same version rs ds s d u))

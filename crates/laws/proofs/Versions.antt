@@ -15,8 +15,8 @@ use Rattle.words.proofs.Put.{take_put}
 use Rattle.words.proofs.Laws.{word_bytes_length}
 use Rattle.rules.specs.declared.Entry.{Entry}
 use Rattle.rules.specs.declared.Request.{Request}
-use Rattle.rules.specs.declared.Verdict.{Verdict}
-use Rattle.rules.specs.declared.Verdict.TheVariants.{Done}
+use Rattle.rules.specs.Verdict.{Verdict}
+use Rattle.std.specs.Prelude.{Ok}
 use Rattle.rules.specs.Answers.{passes, first_of, unless}
 use Rattle.rules.specs.Station.{width, station}
 use Rattle.rules.specs.Status.{Status, status_of, status}
@@ -92,7 +92,7 @@ module _ (size : ℕ) (written : List ℕ → List ℕ) (long : (ws : List ℕ) 
   same_outcome checks b₁ b₂ p₁ p₂ b₁' b₂' words₁ words₂ z h =
       decide (passes checks)
       (λ e. rw (plan_outcome_lem written checks b₁ p₁ b₁' words₁ e, plan_outcome_lem written checks b₂ p₂ b₂' words₂ e) (record {
-        verdict = ap (λ (ws : List ℕ). Done (length ws)) (h e).0;
+        verdict = ap (λ (ws : List ℕ). Ok (length ws)) (h e).0;
         calls = take_put p₁ (written words₁) _ (long words₁) ∙ ap written (h e).0 ∙ sym (take_put p₂ (written words₂) _ (long words₂));
         state = (h e).1;
       }))

@@ -2,7 +2,7 @@
 use Rattle.std.specs.Prelude.{ℕ, ◌*◌, ◌/◌, ◌%◌, ◌≤◌, ◌≡◌, true, List, map, ◌↔◌, length, take}
 use Rattle.sets.specs.Sets.{member}
 use Rattle.words.specs.Words.{word_bytes, byte_words}
-use Rattle.rules.specs.declared.Verdict.TheVariants.{Done}
+use Rattle.std.specs.Prelude.{Ok}
 use Rattle.rules.specs.Answers.{number_of, count_of}
 use Rattle.rules.specs.Station.{width, station}
 use Rattle.rules.specs.Table.{table_verdict}
@@ -38,7 +38,7 @@ pub record BringsUp (size : ℕ) (written : List ℕ → List ℕ) (bringUp : Li
       → take (size * count) plan' ≡ written (map off_word (turn_off (station t) (status t b).on (needed_before t b)))
   -- a second time, with room, there are no calls, and nothing changes
   pub again : number ≡ 0 → (p : List ℕ) → size * list_room (width t) ≤ length p
-      → bringUp t b' p ≡ record { verdict = Done 0; state = b'; plan = p }
+      → bringUp t b' p ≡ record { verdict = Ok 0; state = b'; plan = p }
 
 -- of a plan of words, and of one of bytes, four a word
 abbrev pub BringsUpWords : List ℕ → List ℕ → List ℕ → ℕ → ℕ → List ℕ → List ℕ → Type 0

@@ -5,7 +5,7 @@ use Rattle.words.specs.Words.{byte_words}
 use Rattle.rules.specs.declared.Entry.{Entry}
 use Rattle.rules.specs.declared.Request.{Request}
 use Rattle.rules.specs.declared.Call.{Call}
-use Rattle.rules.specs.declared.OptionalCall.TheVariants.{Is}
+use Rattle.std.specs.Prelude.{Some}
 use Rattle.rules.specs.Answers.{number_of, count_of}
 use Rattle.rules.specs.Station.{station}
 use Rattle.rules.specs.Power.{needs, needed}
@@ -52,7 +52,7 @@ pub record Demand3 (t b : List ℕ) (q : Request) (ws : List ℕ) : Type 0 where
   pub keeps : Passed t b q ws → (n r : ℕ) → member (needed_before t b) r ≡ true → member (needed_after t b q) r ≡ true
       → on_after t b ws n r ≡ true
   -- wherever the device's own method stands, it finds its needs on
-  pub own : Passed t b q ws → (c : Call) → own_call (station t) ((status t b).entries q.device) q ≡ Is c
+  pub own : Passed t b q ws → (c : Call) → own_call (station t) ((status t b).entries q.device) q ≡ Some c
       → (n : ℕ) → n < length ws → get_or ws n 0 ≡ word_of c
       → (r : ℕ) → member (own_needs t b q) r ≡ true → on_after t b ws n r ≡ true
   -- the list ends with exactly the needed set

@@ -1,7 +1,7 @@
 -- RULES.md 11.7: writing and describing are inverse, as equations of the two functions; and the writer refuses what the reader would.
 use Rattle.std.specs.Prelude.{ℕ, ◌+◌, ◌*◌, ◌^◌, ◌≤◌, ◌<◌, ◌≡◌, true, List, length, get_or, take}
 use Rattle.words.specs.Words.{put}
-use Rattle.rules.specs.declared.Verdict.TheVariants.{Done}
+use Rattle.std.specs.Prelude.{Ok}
 use Rattle.rules.specs.Answers.{number_of, place_of}
 use Rattle.rules.specs.Station.{version_good, version_width, version_of, count_r, count_d}
 use Rattle.rules.specs.Table.{table_verdict}
@@ -16,12 +16,12 @@ AllBytes l = (i : ℕ) → get_or l i 0 < 256
 abbrev pub Describes : List ℕ → List ℕ → List ℕ → Type 0
 Describes t rs ds =
     (a b : List ℕ) → length rs ≤ length a → length ds ≤ length b
-    → describe t a b ≡ record { verdict = Done (length rs + length ds); resources = put a 0 rs; devices = put b 0 ds }
+    → describe t a b ≡ record { verdict = Ok (length rs + length ds); resources = put a 0 rs; devices = put b 0 ds }
 
 -- two lists make a table of a version: into any buffer with room for it, at its front
 abbrev pub Makes : ℕ → List ℕ → List ℕ → List ℕ → Type 0
 Makes version rs ds t =
-    (a : List ℕ) → length t ≤ length a → write version rs ds a ≡ record { verdict = Done (length t); table = put a 0 t }
+    (a : List ℕ) → length t ≤ length a → write version rs ds a ≡ record { verdict = Ok (length t); table = put a 0 t }
 
 -- done (0), the count of the writer's bytes describe the lists that they were written from
 abbrev pub WrittenDescribes : List ℕ → List ℕ → ℕ → ℕ → List ℕ → Type 0

@@ -4,7 +4,7 @@ use Rattle.std.specs.Prelude.{ℕ, ◌*◌, ◌≤◌, ◌<◌, ◌≡◌, Bool,
 use Rattle.sets.specs.Sets.{member}
 use Rattle.words.specs.Words.{word_bytes}
 use Rattle.rules.specs.declared.Request.{Request}
-use Rattle.rules.specs.declared.Verdict.TheVariants.{Done}
+use Rattle.std.specs.Prelude.{Ok}
 use Rattle.rules.specs.Answers.{number_of, first_of}
 use Rattle.rules.specs.Station.{width, station}
 use Rattle.rules.specs.Power.{is_armed}
@@ -23,7 +23,7 @@ CanSleep t b q = number_of (sleep_stages true t b q) ≡ 0
 
 -- what comes before 21 passes: 1 to 10, and 20
 abbrev pub MayChoose : Bool → List ℕ → List ℕ → Request → Type 0
-MayChoose room t b q = number_of (first_of (ready_verdict room t b ∷ armed_verdict (station t) (status t b).entries q ∷ []) (Done 0)) ≡ 0
+MayChoose room t b q = number_of (first_of (ready_verdict room t b ∷ armed_verdict (station t) (status t b).entries q ∷ []) (Ok 0)) ≡ 0
 
 -- no choice of states for all devices
 abbrev pub NoneToChoose : List ℕ → List ℕ → ℕ → Type 0
@@ -72,7 +72,7 @@ pub record SleepEntry (size : ℕ) (written : List ℕ → List ℕ) (planOn : L
   pub powered : number ≡ 0 → (r : ℕ) → member (status t b').on r ≡ true → q.a ≤ ((station t).resource r).level
   -- a second time, with room, there are no calls, and nothing changes
   pub again : number ≡ 0 → (p : List ℕ) → size * plan_room (width t) q ≤ length p
-      → planOn t b' q p ≡ record { verdict = Done 0; state = b'; plan = p }
+      → planOn t b' q p ≡ record { verdict = Ok 0; state = b'; plan = p }
 
 -- of a plan of words, and of one of bytes, four a word
 abbrev pub SleepEntryWords : List ℕ → List ℕ → Request → List ℕ → ℕ → ℕ → List ℕ → List ℕ → Type 0

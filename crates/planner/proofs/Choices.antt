@@ -12,8 +12,8 @@ use lib.ListN.{length}
 use Rattle.words.specs.Words.{put, word_bytes}
 use Rattle.rules.specs.declared.Entry.{Entry}
 use Rattle.rules.specs.declared.Request.{Request}
-use Rattle.rules.specs.declared.Verdict.{Verdict}
-use Rattle.rules.specs.declared.Verdict.TheVariants.{Done}
+use Rattle.rules.specs.Verdict.{Verdict}
+use Rattle.std.specs.Prelude.{Ok}
 use Rattle.rules.specs.Index.{every}
 use Rattle.rules.specs.Answers.{passes}
 use Rattle.rules.specs.Station.{absent, width, limit, count_d, station_of, station}
@@ -128,7 +128,7 @@ module _ (t b : List ℕ) (q : Request) (chosen chosen' : List ℕ) (n : ℕ) (i
   sleep_room_bytes m r = rw i at (leb-true (4 * n) m (sym r ∙ passed.1))
 
 -- 64 states are room for every device
-pub states_64 : (t states : List ℕ) → table_verdict t ≡ Done 0 → length states ≡ 64 → count_d t ≤ length states
+pub states_64 : (t states : List ℕ) → table_verdict t ≡ Ok 0 → length states ≡ 64 → count_d t ≤ length states
 states_64 t states e l = omega (arith, (accepted t (ap passes e ∙ done_passes 0)).devices, (width_wide t).high)
 
 module _ (t b : List ℕ) (q : Request) (plan : List ℕ) (kind : is_sleep q ≡ true) (n : ℕ) (i : n ≡ limit (width t) * list_room (width t))
@@ -141,7 +141,7 @@ module _ (t b : List ℕ) (q : Request) (plan : List ℕ) (kind : is_sleep q ≡
     pub sleep_words_planned : not p ≡ false → (chosen chosen' : List ℕ) → chosen' ≡ stages_left (leb n (length plan)) t b q chosen
         → (k : ℕ) (b' plan' : List ℕ)
         → WrittenFrom 1 (λ ws. ws) (choice_list t b (states_in chosen')) (choice_state t b (states_in chosen')) plan 0 k b' plan'
-        → Answered (Done k) b' plan' (plan_words t b q plan)
+        → Answered (Ok k) b' plan' (plan_words t b q plan)
     sleep_words_planned h chosen chosen' c k b' plan' w =
         let l = passed_least t b q _ chosen chosen' (sym (ap passes e) ∙ sym f ∙ not-false p h) c in
         let list = least_list t b chosen chosen' q.a l in
@@ -157,7 +157,7 @@ module _ (t b : List ℕ) (q : Request) (plan : List ℕ) (kind : is_sleep q ≡
     pub sleep_bytes_planned : not p ≡ false → (chosen chosen' : List ℕ) → chosen' ≡ stages_left (leb (4 * n) (length plan)) t b q chosen
         → (k : ℕ) (b' plan' : List ℕ)
         → WrittenFrom 4 word_bytes (choice_list t b (states_in chosen')) (choice_state t b (states_in chosen')) plan 0 k b' plan'
-        → Answered (Done k) b' plan' (plan_bytes t b q plan)
+        → Answered (Ok k) b' plan' (plan_bytes t b q plan)
     sleep_bytes_planned h chosen chosen' c k b' plan' w =
         let l = passed_least t b q _ chosen chosen' (sym (ap passes e) ∙ sym f ∙ not-false p h) c in
         let list = least_list t b chosen chosen' q.a l in

@@ -19,7 +19,8 @@ use Rattle.rules.specs.Request.{in_state, new_entry}
 use Rattle.rules.specs.Calls.{own_call, own_last, end_set, status_after, switching_of, switching_words}
 use Rattle.rules.specs.Sleep.{move_to, stays}
 use Rattle.rules.specs.Outcomes.{list_room, state_after}
-use Rattle.rules.specs.declared.OptionalCall.{OptionalCall}
+use Rattle.rules.specs.declared.Call.{Call}
+use Rattle.std.specs.Prelude.{Option}
 use Rattle.rules.specs.declared.Switching.{Switching}
 use Rattle.rules.specs.declared.Entry.{Entry}
 use Rattle.table.specs.Layout.{WellSized}
@@ -60,7 +61,7 @@ module _ (t b chosen : List ℕ) (d : ℕ) (g : Turn t b chosen d) where
       (λ e. rw e (request_room t b (move_to d (states_in chosen d)) (g.permitted e)))
 
 -- a switching whose own call comes first
-pub switched_first : (w : Switching) (o : OptionalCall) (on set : ℕ) → w ≡ switching_of o false on set → w.last ≡ false
+pub switched_first : (w : Switching) (o : Option Call) (on set : ℕ) → w ≡ switching_of o false on set → w.last ≡ false
 switched_first w o on set e = ap (λ (c : Switching). c.last) e
 
 -- ---- s is whether the device stays, as the code has tested it
@@ -95,7 +96,7 @@ module _ (t b chosen : List ℕ) (d : ℕ) (s : Bool) (test : s ≡ stays (entri
         (asked.ready.sized, on_small t b (move_to d a) on asked h, needed_lt t b (move_to d a) asked set (rw is n-is))
 
     -- the switching of the move, from the values as the code has them
-    module _ (g : Turn t b chosen d) (on set : ℕ) (u : Entry) (o : OptionalCall) (w : Switching) (h : on ≡ (status t b).on)
+    module _ (g : Turn t b chosen d) (on set : ℕ) (u : Entry) (o : Option Call) (w : Switching) (h : on ≡ (status t b).on)
         (read : u ≡ entry_at b (4 * d)) (own : o ≡ own_call (station t) u (move_to d a)) (w-is : w ≡ switching_of o false on set)
         (n-is : set ≡ end_set (station t) (entries t b) (move_to d (states_in chosen d))) where
       needed_is : set ≡ end_set (station t) (entries t b) (move_to d a)

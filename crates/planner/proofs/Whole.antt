@@ -10,8 +10,8 @@ use lib.ListN.{length, take}
 use Rattle.words.specs.Words.{put, word_bytes}
 use Rattle.rules.specs.declared.Change.{Change}
 use Rattle.rules.specs.declared.Request.{Request}
-use Rattle.rules.specs.declared.Verdict.{Verdict}
-use Rattle.rules.specs.declared.Verdict.TheVariants.{Done}
+use Rattle.rules.specs.Verdict.{Verdict}
+use Rattle.std.specs.Prelude.{Ok}
 use Rattle.rules.specs.Answers.{number_of, count_of, passes}
 use Rattle.rules.specs.Station.{width, limit, station}
 use Rattle.rules.specs.Status.{Status, status, image_of}
@@ -87,7 +87,7 @@ module _ (written : List ℕ → List ℕ) (stages : Bool → Verdict) (room : �
   outcome_stops k = rw is (outcome_refused _ v p (rw i at e) f written b plan after list k)
 
   pub outcome_done : not p ≡ false → (k : ℕ) (b' plan' : List ℕ) → k ≡ length list → b' ≡ after → plan' ≡ put plan 0 (written list)
-      → Answered (Done k) b' plan' o
+      → Answered (Ok k) b' plan' o
   outcome_done h k b' plan' count state elements =
       rw is (outcome_written _ v p (rw i at e) f written b plan after list h k b' plan' count state elements)
 
@@ -107,7 +107,7 @@ module _ (t b : List ℕ) (q : Request) (plan : List ℕ) (kind : is_sleep q ≡
     words_refused k = outcome_stops _ (λ r. stages_verdict r t b q) _ b plan _ _ _ (words_request t b q plan kind) n i v p f e k
 
     pub words_planned : not p ≡ false → (k : ℕ) (b' plan' : List ℕ) → Written t b q plan k b' plan'
-        → Answered (Done k) b' plan' (plan_words t b q plan)
+        → Answered (Ok k) b' plan' (plan_words t b q plan)
     words_planned h k b' plan' w =
         outcome_done _ (λ r. stages_verdict r t b q) _ b plan _ _ _ (words_request t b q plan kind) n i v p f e h k b' plan' w.count
         w.state w.words
@@ -120,7 +120,7 @@ module _ (t b : List ℕ) (q : Request) (plan : List ℕ) (kind : is_sleep q ≡
         e k
 
     pub bytes_planned : not p ≡ false → (k : ℕ) (b' plan' words words' : List ℕ) → Written t b q words k b' words'
-        → plan' ≡ put plan 0 (word_bytes (take k words')) → Answered (Done k) b' plan' (plan_bytes t b q plan)
+        → plan' ≡ put plan 0 (word_bytes (take k words')) → Answered (Ok k) b' plan' (plan_bytes t b q plan)
     bytes_planned h k b' plan' words words' w r =
         outcome_done _ (λ r. stages_verdict r t b q) _ b plan _ _ _ (bytes_request t b q plan kind) (4 * n) (ap (λ (k : ℕ). 4 * k) i) v p f e
         h k b' plan' w.count w.state (r ∙ ap (put plan 0) (front_bytes (planned t b q) (state_after t b q) words words' k b' w))

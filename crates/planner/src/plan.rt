@@ -30,16 +30,10 @@ fn request_words(table: &[u8], state: &mut [u8], q: Request, plan: &mut [u32]) -
         × (state.new ≡ (plan_words table.now state.old q plan.old).state)
         × (plan.new ≡ (plan_words table.now state.old q plan.old).plan) }
 {
-    let of_table = table::check_table(table);
-    if !rules::passes(of_table) {
-        return of_table;
-    }
+    table::check_table(table)?;
     let fits = plan.len() >= switching::write::room(table);
-    let v = request::stages::past_table(table, state, fits, q);
-    if !rules::passes(v) {
-        return v;
-    }
-    Verdict::Done(write_plan(table, state, q, plan))
+    request::stages::past_table(table, state, fits, q)?;
+    Ok(write_plan(table, state, q, plan))
 }
 
 // Plans sleep entry on a plan of words.
@@ -49,17 +43,11 @@ fn sleep_words(table: &[u8], state: &mut [u8], q: Request, plan: &mut [u32]) -> 
         × (state.new ≡ (plan_words table.now state.old q plan.old).state)
         × (plan.new ≡ (plan_words table.now state.old q plan.old).plan) }
 {
-    let of_table = table::check_table(table);
-    if !rules::passes(of_table) {
-        return of_table;
-    }
+    table::check_table(table)?;
     let fits = plan.len() >= crate::moves::room(table);
     let mut chosen = [0u8; 64];
-    let v = sleep::stages::past_table(table, state, fits, q, &mut chosen);
-    if !rules::passes(v) {
-        return v;
-    }
-    Verdict::Done(crate::moves::write_choice(table, state, &chosen, plan))
+    sleep::stages::past_table(table, state, fits, q, &mut chosen)?;
+    Ok(crate::moves::write_choice(table, state, &chosen, plan))
 }
 
 // Plans one request on a plan of words. What it accepts of kinds 1 to 3 keeps demand 2, and of kind 4 what sleep entry promises.

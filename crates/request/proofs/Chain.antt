@@ -7,8 +7,9 @@ use native.Mathlib.Omega.{arith}
 use borrow.Author.Tests.{not-true, not-false}
 use Rattle.rules.specs.declared.Entry.{Entry}
 use Rattle.rules.specs.declared.Request.{Request}
-use Rattle.rules.specs.declared.Verdict.{Verdict}
-use Rattle.rules.specs.declared.Verdict.TheVariants.{Done, Refused}
+use Rattle.rules.specs.Verdict.{Verdict}
+use Rattle.std.specs.Prelude.{Ok}
+use Rattle.rules.specs.Verdict.{refuse}
 use Rattle.rules.specs.declared.Reason.TheVariants.{NotATable, NoRoom}
 use Rattle.rules.specs.Answers.{passes, first_of, unless}
 use Rattle.rules.specs.Station.{Station, station}
@@ -32,23 +33,23 @@ ready_of t b e f =
     record { sized = sized_of t e; parents = λ d h. (a.device d h).parent; long = omega (arith, s.0); good = s.1.entries }
 
 request_alone : (s : Station) (entries : ℕ → Entry) (q : Request) → first_of (request_verdict s entries q ∷ [])
-    (Done 0) ≡ request_verdict s entries q
+    (Ok 0) ≡ request_verdict s entries q
 unfolding request_verdict
 request_alone s entries q = first_alone _
 
 -- ---- 1 to 9, then a last stage, whatever that is
 module _ (room : Bool) (t b : List ℕ) (last v : Verdict) (e : v ≡ ready_verdict room t b) where
-  pub ready_stops : passes v ≡ false → v ≡ first_of (ready_verdict room t b ∷ last ∷ []) (Done 0)
-  ready_stops f = e ∙ sym (first_stop (ready_verdict room t b) _ (Done 0) (sym (ap passes e) ∙ f))
+  pub ready_stops : passes v ≡ false → v ≡ first_of (ready_verdict room t b ∷ last ∷ []) (Ok 0)
+  ready_stops f = e ∙ sym (first_stop (ready_verdict room t b) _ (Ok 0) (sym (ap passes e) ∙ f))
 
-  pub ready_leads : passes v ≡ true → first_of (ready_verdict room t b ∷ last ∷ []) (Done 0) ≡ first_of (last ∷ []) (Done 0)
-  ready_leads f = first_pass (ready_verdict room t b) _ (Done 0) (sym (ap passes e) ∙ f)
+  pub ready_leads : passes v ≡ true → first_of (ready_verdict room t b ∷ last ∷ []) (Ok 0) ≡ first_of (last ∷ []) (Ok 0)
+  ready_leads f = first_pass (ready_verdict room t b) _ (Ok 0) (sym (ap passes e) ∙ f)
 
 -- ---- the table's answer
 module _ (t : List ℕ) (v : Verdict) (p : Bool) (e : v ≡ table_verdict t) (f : p ≡ passes v) where
   pub ready_table : (b : List ℕ) (room : Bool) → not p ≡ true → v ≡ ready_verdict room t b
   unfolding ready_verdict
-  ready_table b room n = rw e (sym (first_stop (table_verdict t) _ (Done 0) (answer_stopped v _ p e f n)))
+  ready_table b room n = rw e (sym (first_stop (table_verdict t) _ (Ok 0) (answer_stopped v _ p e f n)))
 
   pub stop_table : (b : List ℕ) (q : Request) (room : Bool) → not p ≡ true → v ≡ stages_verdict room t b q
   unfolding stages_verdict
@@ -56,37 +57,37 @@ module _ (t : List ℕ) (v : Verdict) (p : Bool) (e : v ≡ table_verdict t) (f 
 
 -- h: whether the header is good
 pub stop_header : (t b : List ℕ) (q : Request) (room h : Bool) → h ≡ header_good t → not h ≡ true
-    → Refused NotATable 0 ≡ stages_verdict room t b q
-stop_header t b q room h e n = stop_table t (Refused NotATable 0) false (no_table t h e n) (sym (refused_stops NotATable 0)) b q room refl
+    → refuse NotATable 0 ≡ stages_verdict room t b q
+stop_header t b q room h e n = stop_table t (refuse NotATable 0) false (no_table t h e n) (sym (refused_stops NotATable 0)) b q room refl
 
 -- ---- after it, the state's, and the room
-module _ (t b : List ℕ) (done : table_verdict t ≡ Done 0) (u : Verdict) (r : Bool) (g : u ≡ state_verdict t b) (h : r ≡ passes u) where
+module _ (t b : List ℕ) (done : table_verdict t ≡ Ok 0) (u : Verdict) (r : Bool) (g : u ≡ state_verdict t b) (h : r ≡ passes u) where
   on_table : passes (table_verdict t) ≡ true
   on_table = ap passes done ∙ done_passes 0
 
   pub stop_state : (room : Bool) → not r ≡ true → u ≡ ready_verdict room t b
   unfolding ready_verdict
   stop_state room n =
-      rw g (sym (first_pass (table_verdict t) _ (Done 0) on_table ∙ first_stop (state_verdict t b) _ (Done 0) (answer_stopped u _ r g h n)))
+      rw g (sym (first_pass (table_verdict t) _ (Ok 0) on_table ∙ first_stop (state_verdict t b) _ (Ok 0) (answer_stopped u _ r g h n)))
 
   module _ (yes : not r ≡ false) (room : Bool) where
-    to_room : ready_verdict room t b ≡ first_of (unless room NoRoom 0 ∷ []) (Done 0)
+    to_room : ready_verdict room t b ≡ first_of (unless room NoRoom 0 ∷ []) (Ok 0)
     unfolding ready_verdict
-    to_room = first_pass (table_verdict t) _ (Done 0) on_table ∙ first_pass (state_verdict t b) _ (Done 0) (answer_passed u _ r g h yes)
+    to_room = first_pass (table_verdict t) _ (Ok 0) on_table ∙ first_pass (state_verdict t b) _ (Ok 0) (answer_passed u _ r g h yes)
 
-    pub stop_room : not room ≡ true → Refused NoRoom 0 ≡ ready_verdict room t b
+    pub stop_room : not room ≡ true → refuse NoRoom 0 ≡ ready_verdict room t b
     stop_room n =
-        sym (to_room ∙ rw (unless_stop room NoRoom 0 (not-true room n)) (first_stop (Refused NoRoom 0) _ (Done 0) (refused_stops NoRoom 0)))
+        sym (to_room ∙ rw (unless_stop room NoRoom 0 (not-true room n)) (first_stop (refuse NoRoom 0) _ (Ok 0) (refused_stops NoRoom 0)))
 
-    pub with_room : not room ≡ false → Done 0 ≡ ready_verdict room t b
+    pub with_room : not room ≡ false → Ok 0 ≡ ready_verdict room t b
     with_room n =
-        sym (to_room ∙ rw (unless_of room NoRoom 0 (not-false room n)) (first_pass (Done 0) _ (Done 0) (done_passes 0))
-        ∙ first_none (Done 0))
+        sym (to_room ∙ rw (unless_of room NoRoom 0 (not-false room n)) (first_pass (Ok 0) _ (Ok 0) (done_passes 0))
+        ∙ first_none (Ok 0))
 
 pub ruleset in_turn = (stop_state, stop_room, with_room)
 
 -- ---- after these, the request
-module _ (t b : List ℕ) (done : table_verdict t ≡ Done 0) (u : Verdict) (r : Bool) (g : u ≡ state_verdict t b) (h : r ≡ passes u) where
+module _ (t b : List ℕ) (done : table_verdict t ≡ Ok 0) (u : Verdict) (r : Bool) (g : u ≡ state_verdict t b) (h : r ≡ passes u) where
   pub request_state : (q : Request) (room : Bool) → not r ≡ true → u ≡ stages_verdict room t b q
   unfolding stages_verdict
   request_state q room n = ready_stops room t b _ u (stop_state t b done u r g h room n) (sym h ∙ not-true r n)
@@ -98,14 +99,14 @@ module _ (t b : List ℕ) (done : table_verdict t ≡ Done 0) (u : Verdict) (r :
         rw (← x, ← y) (ready_of t b (ap passes done ∙ done_passes 0) (answer_passed u _ r g h yes))
 
     module _ (q : Request) (room : Bool) where
-      pub request_room : not room ≡ true → Refused NoRoom 0 ≡ stages_verdict room t b q
+      pub request_room : not room ≡ true → refuse NoRoom 0 ≡ stages_verdict room t b q
       unfolding stages_verdict
-      request_room n = ready_stops room t b _ (Refused NoRoom 0) (stop_room t b done u r g h yes room n) (refused_stops NoRoom 0)
+      request_room n = ready_stops room t b _ (refuse NoRoom 0) (stop_room t b done u r g h yes room n) (refused_stops NoRoom 0)
 
       pub last_request : not room ≡ false → (x : Verdict) → x ≡ request_verdict (station t) (entries t b) q → x ≡ stages_verdict room t b q
       unfolding stages_verdict request_stage status_of
       last_request n x k =
-          k ∙ sym (ready_leads room t b _ (Done 0) (with_room t b done u r g h yes room n) (done_passes 0)
+          k ∙ sym (ready_leads room t b _ (Ok 0) (with_room t b done u r g h yes room n) (done_passes 0)
           ∙ request_alone (station t) (entries t b) q)
 
 pub ruleset to_request = (stop_table, table_passed, request_state, request_asks, request_room, last_request)

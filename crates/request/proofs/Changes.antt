@@ -6,8 +6,9 @@ use Prim.Native.Nat.{ℕ, ◌*◌, ◌^◌, ◌<◌}
 use borrow.Author.Tests.{not-false}
 use Rattle.rules.specs.declared.Entry.{Entry}
 use Rattle.rules.specs.declared.Request.{Request}
-use Rattle.rules.specs.declared.OptionalCall.{OptionalCall}
-use Rattle.rules.specs.declared.Verdict.{Verdict}
+use Rattle.rules.specs.declared.Call.{Call}
+use Rattle.std.specs.Prelude.{Option}
+use Rattle.rules.specs.Verdict.{Verdict}
 use Rattle.rules.specs.declared.Change.{Change}
 use Rattle.rules.specs.declared.Switching.{Switching}
 use Rattle.rules.specs.Answers.{passes}
@@ -66,7 +67,7 @@ module _ (t b : List ℕ) (q : Request) (g : PermittedRequest t b q) where
   needed_lt n need = rw need (unfold station_of in (able t b q stages).end)
 
   -- ---- the parts together
-  module _ (on n : ℕ) (e f : Entry) (o : OptionalCall) (l : Bool) (w : Switching) (is : w ≡ switching_of o l on n) where
+  module _ (on n : ℕ) (e f : Entry) (o : Option Call) (l : Bool) (w : Switching) (is : w ≡ switching_of o l on n) where
     abbrev made : Change
     made = record { entry = f; needed = n; switching = w }
 

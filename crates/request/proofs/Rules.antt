@@ -10,8 +10,9 @@ use mir.Syntax.{w8}
 use mir.Val.{Fits}
 use Rattle.rules.specs.declared.Entry.{Entry}
 use Rattle.rules.specs.declared.Request.{Request}
-use Rattle.rules.specs.declared.Verdict.{Verdict}
-use Rattle.rules.specs.declared.Verdict.TheVariants.{Done, Refused}
+use Rattle.rules.specs.Verdict.{Verdict}
+use Rattle.std.specs.Prelude.{Ok}
+use Rattle.rules.specs.Verdict.{refuse}
 use Rattle.rules.specs.declared.Reason.TheVariants.{BadRequest, Unsupported, Shallower, ParentDeeper, ChildShallower, TooDeepToWake}
 use Rattle.rules.specs.declared.Reason.TheVariants.{NoWake, WakeUnpowered, BadWakeState}
 use Rattle.rules.specs.Index.{least_from, least}
@@ -131,17 +132,17 @@ module _ (t b : List ℕ) (r : Ready t b) (d x : ℕ) (h : d < count_d t) (u : E
   own : u ≡ entries t b d
   own = entry_ready t b d u r h read
 
-  pub move_11 : not y ≡ true → Refused Unsupported 0 ≡ move_verdict (station t) (entries t b) d x
+  pub move_11 : not y ≡ true → refuse Unsupported 0 ≡ move_verdict (station t) (entries t b) d x
   unfolding move_verdict first_of unless passes
   move_11 n = rw (sym known ∙ not-true y n) refl
 
   module _ (yes : not y ≡ false) (e : Bool) (deep : e ≡ not_shallower_or_d0 u x) where
-    pub move_12 : not e ≡ true → Refused Shallower 0 ≡ move_verdict (station t) (entries t b) d x
+    pub move_12 : not e ≡ true → refuse Shallower 0 ≡ move_verdict (station t) (entries t b) d x
     unfolding move_verdict first_of unless passes
     move_12 n = rw (← own, sym known ∙ not-false y yes, sym deep ∙ not-true e n) refl
 
     module _ (yes2 : not e ≡ false) (c : Bool) (up : c ≡ parent_allows (station t) (entries t b) d x) where
-      pub move_13 : (p : ℕ) → p ≡ ((station t).device d).parent → not c ≡ true → Refused ParentDeeper p ≡ move_verdict
+      pub move_13 : (p : ℕ) → p ≡ ((station t).device d).parent → not c ≡ true → refuse ParentDeeper p ≡ move_verdict
           (station t) (entries t b) d x
       unfolding move_verdict first_of unless passes
       move_13 p f n = rw (← own, sym known ∙ not-false y yes, sym deep ∙ not-false e yes2, sym up ∙ not-true c n, f) refl
@@ -154,7 +155,7 @@ module _ (t b : List ℕ) (r : Ready t b) (d x : ℕ) (h : d < count_d t) (u : E
         lowest_is : k ≡ least (child_bars (station t) (entries t b) d x) (station t).devices
         lowest_is = low ∙ ap (least (child_bars (station t) (entries t b) d x)) same
 
-        pub move_14 : k < n → Refused ChildShallower k ≡ move_verdict (station t) (entries t b) d x
+        pub move_14 : k < n → refuse ChildShallower k ≡ move_verdict (station t) (entries t b) d x
         unfolding move_verdict first_of unless passes
         move_14 l =
             rw (
@@ -163,14 +164,14 @@ module _ (t b : List ℕ) (r : Ready t b) (d x : ℕ) (h : d < count_d t) (u : E
               sym deep ∙ not-false e yes2,
               sym up ∙ not-false c yes3,
               lowest_stop (child_bars (station t) (entries t b) d x) (station t).devices k
-                  (Refused ChildShallower) lowest_is (omega (arith, same)),
+                  (refuse ChildShallower) lowest_is (omega (arith, same)),
             ) refl
 
         module _ (l : n ≤ k) (g : Bool) (w : g ≡ wake_allows u x) where
-          no_child_bars : lowest (child_bars (station t) (entries t b) d x) (station t).devices (Refused ChildShallower) ≡ Done 0
+          no_child_bars : lowest (child_bars (station t) (entries t b) d x) (station t).devices (refuse ChildShallower) ≡ Ok 0
           no_child_bars = lowest_none _ _ k _ lowest_is (omega (arith, same))
 
-          only_15 : move_verdict (station t) (entries t b) d x ≡ first_of (unless g TooDeepToWake 0 ∷ []) (Done 0)
+          only_15 : move_verdict (station t) (entries t b) d x ≡ first_of (unless g TooDeepToWake 0 ∷ []) (Ok 0)
           unfolding move_verdict first_of unless passes
           only_15 =
               rw (
@@ -182,11 +183,11 @@ module _ (t b : List ℕ) (r : Ready t b) (d x : ℕ) (h : d < count_d t) (u : E
                 ← w,
               ) refl
 
-          pub move_15 : not g ≡ true → Refused TooDeepToWake 0 ≡ move_verdict (station t) (entries t b) d x
+          pub move_15 : not g ≡ true → refuse TooDeepToWake 0 ≡ move_verdict (station t) (entries t b) d x
           unfolding first_of unless passes
           move_15 z = rw (only_15, not-true g z) refl
 
-          pub move_done : not g ≡ false → Done 0 ≡ move_verdict (station t) (entries t b) d x
+          pub move_done : not g ≡ false → Ok 0 ≡ move_verdict (station t) (entries t b) d x
           unfolding first_of unless passes
           move_done z = rw (only_15, not-false g z) refl
 
@@ -194,22 +195,22 @@ pub ruleset moving = (move_11, move_12, move_13, move_14, move_15, move_done)
 
 -- ---- 16 to 18
 module _ (s : Station) (entries : ℕ → Entry) (d x y : ℕ) (a : Bool) (from : a ≡ wake_from s d x) where
-  pub arm_16 : not a ≡ true → Refused NoWake 0 ≡ arm_verdict s entries d x y
+  pub arm_16 : not a ≡ true → refuse NoWake 0 ≡ arm_verdict s entries d x y
   unfolding arm_verdict first_of unless passes
   arm_16 n = rw (sym from ∙ not-true a n) refl
 
   module _ (yes : not a ≡ false) (b : Bool) (level : b ≡ wake_powered s d x) where
-    pub arm_17 : not b ≡ true → Refused WakeUnpowered 0 ≡ arm_verdict s entries d x y
+    pub arm_17 : not b ≡ true → refuse WakeUnpowered 0 ≡ arm_verdict s entries d x y
     unfolding arm_verdict first_of unless passes
     arm_17 n = rw (sym from ∙ not-false a yes, sym level ∙ not-true b n) refl
 
     module _ (yes2 : not b ≡ false) (c : Bool) (state : c ≡ wake_state s d x y) where
-      pub arm_18 : not c ≡ true → Refused BadWakeState 0 ≡ arm_verdict s entries d x y
+      pub arm_18 : not c ≡ true → refuse BadWakeState 0 ≡ arm_verdict s entries d x y
       unfolding arm_verdict first_of unless passes
       arm_18 n = rw (sym from ∙ not-false a yes, sym level ∙ not-false b yes2, sym state ∙ not-true c n) refl
 
       pub arm_18_shallower : not c ≡ false → (u : Entry) → u ≡ entries d → y < u.state
-          → Refused BadWakeState 0 ≡ arm_verdict s entries d x y
+          → refuse BadWakeState 0 ≡ arm_verdict s entries d x y
       unfolding arm_verdict first_of unless passes
       arm_18_shallower n u e h = rw (
         sym from ∙ not-false a yes,
@@ -219,7 +220,7 @@ module _ (s : Station) (entries : ℕ → Entry) (d x y : ℕ) (a : Bool) (from 
         lt-leb u.state y h,
       ) refl
 
-      pub arm_done : not c ≡ false → (u : Entry) → u ≡ entries d → u.state ≤ y → Done 0 ≡ arm_verdict s entries d x y
+      pub arm_done : not c ≡ false → (u : Entry) → u ≡ entries d → u.state ≤ y → Ok 0 ≡ arm_verdict s entries d x y
       unfolding arm_verdict first_of unless passes
       arm_done n u e h = rw (
         sym from ∙ not-false a yes,
@@ -233,23 +234,23 @@ pub ruleset arming = (entry_ready, arm_16, arm_17, arm_18, arm_18_shallower, arm
 
 -- ---- 10 to 18
 module _ (s : Station) (entries : ℕ → Entry) (q : Request) (f : Bool) (form : f ≡ form_good s q) where
-  pub asked_10 : not f ≡ true → Refused BadRequest 0 ≡ request_verdict s entries q
+  pub asked_10 : not f ≡ true → refuse BadRequest 0 ≡ request_verdict s entries q
   unfolding request_verdict first_of unless passes
   asked_10 n = rw (sym form ∙ not-true f n) refl
 
   pub asked_move : not f ≡ false → q.kind ≡ 1 → (v : Verdict) → v ≡ move_verdict s entries q.device q.a
       → v ≡ request_verdict s entries q
   unfolding request_verdict kind_verdict move_verdict
-  asked_move n k v e = e ∙ sym (rw (sym form ∙ not-false f n, k) (first_pass (unless true BadRequest 0) _ (Done 0) (unfold unless passes in
+  asked_move n k v e = e ∙ sym (rw (sym form ∙ not-false f n, k) (first_pass (unless true BadRequest 0) _ (Ok 0) (unfold unless passes in
       refl) ∙ first_alone _))
 
   pub asked_arm : not f ≡ false → q.kind ≡ 2 → (v : Verdict) → v ≡ arm_verdict s entries q.device q.a q.b
       → v ≡ request_verdict s entries q
   unfolding request_verdict kind_verdict arm_verdict
-  asked_arm n k v e = e ∙ sym (rw (sym form ∙ not-false f n, k) (first_pass (unless true BadRequest 0) _ (Done 0) (unfold unless passes in
+  asked_arm n k v e = e ∙ sym (rw (sym form ∙ not-false f n, k) (first_pass (unless true BadRequest 0) _ (Ok 0) (unfold unless passes in
       refl) ∙ first_alone _))
 
-  pub asked_disarm : not f ≡ false → (q.kind ≡ 1 → ⊥) → (q.kind ≡ 2 → ⊥) → Done 0 ≡ request_verdict s entries q
+  pub asked_disarm : not f ≡ false → (q.kind ≡ 1 → ⊥) → (q.kind ≡ 2 → ⊥) → Ok 0 ≡ request_verdict s entries q
   unfolding request_verdict kind_verdict first_of unless passes
   asked_disarm n k l = rw (sym form ∙ not-false f n, ne_eqb q.kind 1 k, ne_eqb q.kind 2 l) refl
 

@@ -13,7 +13,7 @@ ghost use Rattle.rules.specs.Request.{new_entry, numbers_good};
 ghost use Rattle.table.specs.Layout.{WellSized};
 ghost use Rattle.status.specs.Ready.{Ready};
 
-use rules::{Entry, Reason, Request, Verdict};
+use rules::{Entry, Reason, Refusal, Request, Verdict};
 
 // 10: whether kind and numbers are in range and unused ones zero.
 fn numbers_good(q: Request) -> bool
@@ -91,25 +91,22 @@ fn move_verdict(table: &[u8], devices: &[u8], d: usize, x: u8) -> Verdict
     let at = table::fields::start(table, d);
     let w = table::fields::width(table);
     if !power::supported(table, d, at, w, x) {
-        return Verdict::Refused(Reason::Unsupported, 0);
+        return Err(Refusal(Reason::Unsupported, 0));
     }
     if !not_shallower_or_d0(e, x) {
-        return Verdict::Refused(Reason::Shallower, 0);
+        return Err(Refusal(Reason::Shallower, 0));
     }
     if !status::consistency::parent_allows(table, devices, d, at, w, x) {
-        return Verdict::Refused(
-            Reason::ParentDeeper,
-            table::fields::parent(table, d) as usize,
-        );
+        return Err(Refusal(Reason::ParentDeeper, table::fields::parent(table, d) as usize));
     }
     let c = lowest_child(table, devices, d, x);
     if c < table::fields::devices(table) {
-        return Verdict::Refused(Reason::ChildShallower, c);
+        return Err(Refusal(Reason::ChildShallower, c));
     }
     if !wake_allows(e, x) {
-        return Verdict::Refused(Reason::TooDeepToWake, 0);
+        return Err(Refusal(Reason::TooDeepToWake, 0));
     }
-    Verdict::Done(0)
+    Ok(0)
 }
 
 // 12: whether the target is not shallower than the present state, or D0.
@@ -140,19 +137,19 @@ fn arm_verdict(table: &[u8], devices: &[u8], d: usize, x: u8, y: u8) -> Verdict
     let at = table::fields::start(table, d);
     let w = table::fields::width(table);
     if !power::wake::wake_from(table, d, at, w, x) {
-        return Verdict::Refused(Reason::NoWake, 0);
+        return Err(Refusal(Reason::NoWake, 0));
     }
     if !power::wake::wake_powered(table, d, at, w, x) {
-        return Verdict::Refused(Reason::WakeUnpowered, 0);
+        return Err(Refusal(Reason::WakeUnpowered, 0));
     }
     if !power::wake::wake_state(table, d, at, w, x, y) {
-        return Verdict::Refused(Reason::BadWakeState, 0);
+        return Err(Refusal(Reason::BadWakeState, 0));
     }
     let e = status::image::entry(devices, d);
     if e.state > y {
-        return Verdict::Refused(Reason::BadWakeState, 0);
+        return Err(Refusal(Reason::BadWakeState, 0));
     }
-    Verdict::Done(0)
+    Ok(0)
 }
 
 // 10 to 18.
@@ -161,7 +158,7 @@ pub fn request_verdict(table: &[u8], devices: &[u8], q: Request) -> Verdict
     ensures { result ≡ request_verdict (station table.now) (entries table.now devices.now) q }
 {
     if !form_good(table, q) {
-        return Verdict::Refused(Reason::BadRequest, 0);
+        return Err(Refusal(Reason::BadRequest, 0));
     }
     let d = q.device as usize;
     if q.kind == 1 {
@@ -170,7 +167,7 @@ pub fn request_verdict(table: &[u8], devices: &[u8], q: Request) -> Verdict
     if q.kind == 2 {
         return arm_verdict(table, devices, d, q.a as u8, q.b as u8);
     }
-    Verdict::Done(0)
+    Ok(0)
 }
 
 // The entry after an accepted request.

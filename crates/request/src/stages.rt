@@ -1,23 +1,20 @@
 // The checks of table, state, room and request, one after the other.
 ghost use Rattle.std.specs.Prelude.{◌≡◌};
-ghost use Rattle.rules.specs.declared.Verdict.TheVariants.{Done};
+ghost use Rattle.std.specs.Prelude.{Ok};
 ghost use Rattle.rules.specs.Table.{table_verdict};
 ghost use Rattle.rules.specs.Outcomes.{stages_verdict};
 
-use rules::{Reason, Request, Verdict};
+use rules::{Reason, Refusal, Request, Verdict};
 
 // The first refusal past the table, or done, of a table that is accepted. Apart from the table's answer, so that a caller can refuse what
 // is no table before it calls.
 pub fn past_table(table: &[u8], state: &[u8], room: bool, q: Request) -> Verdict
-    requires { table_verdict table.now ≡ Done 0 }
+    requires { table_verdict table.now ≡ Ok 0 }
     ensures { result ≡ stages_verdict room table.now state.now q }
 {
-    let of_state = status::check_state(table, state);
-    if !rules::passes(of_state) {
-        return of_state;
-    }
+    status::check_state(table, state)?;
     if !room {
-        return Verdict::Refused(Reason::NoRoom, 0);
+        return Err(Refusal(Reason::NoRoom, 0));
     }
     crate::request_verdict(table, state, q)
 }
@@ -26,9 +23,6 @@ pub fn past_table(table: &[u8], state: &[u8], room: bool, q: Request) -> Verdict
 pub fn verdict(table: &[u8], state: &[u8], room: bool, q: Request) -> Verdict
     ensures { result ≡ stages_verdict room table.now state.now q }
 {
-    let of_table = table::check_table(table);
-    if !rules::passes(of_table) {
-        return of_table;
-    }
+    table::check_table(table)?;
     past_table(table, state, room, q)
 }

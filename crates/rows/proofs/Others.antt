@@ -4,7 +4,7 @@ use mathlib.Core.List.{[], ◌++◌}
 use lib.ListN.{replicate}
 use Rattle.sets.specs.Sets.{member, union, minus, single, first_n, subset}
 use Rattle.words.specs.Words.{read_le, bytes_le, put, word_bytes, byte_words}
-use Rattle.rules.specs.declared.Verdict.TheVariants.{Done}
+use Rattle.std.specs.Prelude.{Ok}
 use Rattle.rules.specs.Index.{least_from, every, below, each_from, join_from}
 use Rattle.rules.specs.Answers.{passes, first_of, unless, lowest}
 use Rattle.rules.specs.Station.{version_good, version_width, width, device_start, resource_at, device_at, station_of}
@@ -69,7 +69,7 @@ others_hold = (refl, refl, refl, refl, refl, refl)
 -- the own call of device 33, whose entry is at byte 132
 pub last_device_holds :
     (plan_bytes long_table (replicate 264 0) (move 33 3) (blank 260)
-    ≡ record { verdict = Done 1; state = wide_image 34 0x03000000 0; plan = bytes 4 0x03210300 ++ blank 256 })
+    ≡ record { verdict = Ok 1; state = wide_image 34 0x03000000 0; plan = bytes 4 0x03210300 ++ blank 256 })
 unfolding member union minus subset read_le bytes_le put word_bytes byte_words least_from every below each_from passes first_of
     unless lowest version_good version_width width device_start resource_at device_at station_of header_good counts_good length_good first_bad
     resource_good parent_good present set_good sxd_good sxw_good deepest_good head_fields set_fields sxd_fields sxw_fields deepest_fields value_fields

@@ -6,8 +6,9 @@ use Prim.Native.Nat.{ℕ, ◌<◌, ◌≤◌}
 use native.Mathlib.Omega.{arith}
 use borrow.Author.Tests.{ltb-true, ltb-false, lt-ltb, le-ltb, not-true, not-false}
 use lib.Dec.{ltb}
-use Rattle.rules.specs.declared.Verdict.{Verdict}
-use Rattle.rules.specs.declared.Verdict.TheVariants.{Done, Refused}
+use Rattle.rules.specs.Verdict.{Verdict}
+use Rattle.std.specs.Prelude.{Ok}
+use Rattle.rules.specs.Verdict.{refuse}
 use Rattle.rules.specs.declared.Reason.{Reason}
 use Rattle.rules.specs.declared.Reason.TheVariants.{NotATable, TooMany, WrongLength, BadResource, BadDevice, BadObjects}
 use Rattle.rules.specs.declared.Reason.TheVariants.{BadState, Inconsistent, NoRoom, BadRequest, Unsupported, Shallower}
@@ -18,11 +19,11 @@ use Rattle.rules.specs.Answers.{reason_number, passes, first_of, unless, lowest}
 use Rattle.rules.proofs.Index.{none_below, no_hit}
 
 -- ---- what is done passes, and a refusal does not
-pub done_passes : (n : ℕ) → passes (Done n) ≡ true
+pub done_passes : (n : ℕ) → passes (Ok n) ≡ true
 unfolding passes
 done_passes n = refl
 
-pub refused_stops : (why : Reason) (at : ℕ) → passes (Refused why at) ≡ false
+pub refused_stops : (why : Reason) (at : ℕ) → passes (refuse why at) ≡ false
 unfolding passes
 refused_stops why at = refl
 
@@ -49,33 +50,33 @@ first_both v vs last e = go (passes v) refl
     go false p = absurd (true≢false (sym e ∙ ap passes (first_stop v vs last p) ∙ p))
 
 -- a chain that passes gives its last answer, and one that does not is the same whatever its last answer
-pub first_through : (vs : List Verdict) (last : Verdict) → passes (first_of vs (Done 0)) ≡ true → first_of vs last ≡ last
+pub first_through : (vs : List Verdict) (last : Verdict) → passes (first_of vs (Ok 0)) ≡ true → first_of vs last ≡ last
 first_through [] last e = first_none last
-first_through (v ∷ vs) last e = let b = first_both v vs (Done 0) e in first_pass v vs last b.0 ∙ first_through vs last b.1
+first_through (v ∷ vs) last e = let b = first_both v vs (Ok 0) e in first_pass v vs last b.0 ∙ first_through vs last b.1
 
-pub first_same : (vs : List Verdict) (last : Verdict) → passes (first_of vs (Done 0)) ≡ false → first_of vs last ≡ first_of vs (Done 0)
-first_same [] last e = absurd (true≢false (sym (ap passes (first_none (Done 0)) ∙ done_passes 0) ∙ e))
+pub first_same : (vs : List Verdict) (last : Verdict) → passes (first_of vs (Ok 0)) ≡ false → first_of vs last ≡ first_of vs (Ok 0)
+first_same [] last e = absurd (true≢false (sym (ap passes (first_none (Ok 0)) ∙ done_passes 0) ∙ e))
 first_same (v ∷ vs) last e = let rest = first_same vs last in go (passes v) refl rest
   where
-    go : (b : Bool) → passes v ≡ b → (passes (first_of vs (Done 0)) ≡ false → first_of vs last ≡ first_of vs (Done 0))
-        → first_of (v ∷ vs) last ≡ first_of (v ∷ vs) (Done 0)
-    go true p f = first_pass v vs last p ∙ f (sym (ap passes (first_pass v vs (Done 0) p)) ∙ e) ∙ sym (first_pass v vs (Done 0) p)
-    go false p f = first_stop v vs last p ∙ sym (first_stop v vs (Done 0) p)
+    go : (b : Bool) → passes v ≡ b → (passes (first_of vs (Ok 0)) ≡ false → first_of vs last ≡ first_of vs (Ok 0))
+        → first_of (v ∷ vs) last ≡ first_of (v ∷ vs) (Ok 0)
+    go true p f = first_pass v vs last p ∙ f (sym (ap passes (first_pass v vs (Ok 0) p)) ∙ e) ∙ sym (first_pass v vs (Ok 0) p)
+    go false p f = first_stop v vs last p ∙ sym (first_stop v vs (Ok 0) p)
 
 -- a chain alone in a chain is itself
-pub first_alone : (vs : List Verdict) → first_of (first_of vs (Done 0) ∷ []) (Done 0) ≡ first_of vs (Done 0)
-first_alone vs = go (passes (first_of vs (Done 0))) refl
+pub first_alone : (vs : List Verdict) → first_of (first_of vs (Ok 0) ∷ []) (Ok 0) ≡ first_of vs (Ok 0)
+first_alone vs = go (passes (first_of vs (Ok 0))) refl
   where
-    go : (b : Bool) → passes (first_of vs (Done 0)) ≡ b → first_of (first_of vs (Done 0) ∷ []) (Done 0) ≡ first_of vs (Done 0)
-    go true p = first_pass (first_of vs (Done 0)) [] (Done 0) p ∙ first_none (Done 0) ∙ sym (first_through vs (Done 0) p)
-    go false p = first_stop (first_of vs (Done 0)) [] (Done 0) p
+    go : (b : Bool) → passes (first_of vs (Ok 0)) ≡ b → first_of (first_of vs (Ok 0) ∷ []) (Ok 0) ≡ first_of vs (Ok 0)
+    go true p = first_pass (first_of vs (Ok 0)) [] (Ok 0) p ∙ first_none (Ok 0) ∙ sym (first_through vs (Ok 0) p)
+    go false p = first_stop (first_of vs (Ok 0)) [] (Ok 0) p
 
 -- ---- one check
-pub unless_of : (good : Bool) (why : Reason) (at : ℕ) → good ≡ true → unless good why at ≡ Done 0
+pub unless_of : (good : Bool) (why : Reason) (at : ℕ) → good ≡ true → unless good why at ≡ Ok 0
 unfolding unless
 unless_of good why at e = rw e
 
-pub unless_stop : (good : Bool) (why : Reason) (at : ℕ) → good ≡ false → unless good why at ≡ Refused why at
+pub unless_stop : (good : Bool) (why : Reason) (at : ℕ) → good ≡ false → unless good why at ≡ refuse why at
 unfolding unless
 unless_stop good why at e = rw e
 
@@ -85,7 +86,7 @@ unless_at true why at e = refl
 unless_at false why at e = absurd (true≢false (sym e ∙ ap passes (unless_stop false why at refl)))
 
 -- ---- a check of the numbers below n
-pub lowest_of_lem : (bad : ℕ → Bool) (n : ℕ) (refusal : ℕ → Verdict) → ((i : ℕ) → i < n → bad i ≡ false) → lowest bad n refusal ≡ Done 0
+pub lowest_of_lem : (bad : ℕ → Bool) (n : ℕ) (refusal : ℕ → Verdict) → ((i : ℕ) → i < n → bad i ≡ false) → lowest bad n refusal ≡ Ok 0
 unfolding lowest
 lowest_of_lem bad n refusal h = rw (le-ltb (least bad n) n (omega (arith, no_hit bad 0 n (λ j a b. h j (omega arith)))))
 
@@ -93,7 +94,7 @@ pub lowest_stop : (bad : ℕ → Bool) (n i : ℕ) (refusal : ℕ → Verdict) �
 unfolding lowest
 lowest_stop bad n i refusal e h = rw (← e, lt-ltb i n h)
 
-pub lowest_none : (bad : ℕ → Bool) (n i : ℕ) (refusal : ℕ → Verdict) → i ≡ least bad n → n ≤ i → lowest bad n refusal ≡ Done 0
+pub lowest_none : (bad : ℕ → Bool) (n i : ℕ) (refusal : ℕ → Verdict) → i ≡ least bad n → n ≤ i → lowest bad n refusal ≡ Ok 0
 unfolding lowest
 lowest_none bad n i refusal e h = rw (← e, le-ltb i n h)
 

@@ -1,8 +1,9 @@
 -- RULES.md 9.3: the number, place and count of each answer, and how a chain of checks comes to one.
 use Rattle.std.specs.Prelude.{ℕ, Bool, true, false, cond, List, [], ◌∷◌, ltb}
 use Rattle.rules.specs.Index.{least}
-use Rattle.rules.specs.declared.Verdict.{Verdict}
-use Rattle.rules.specs.declared.Verdict.TheVariants.{Done, Refused}
+use Rattle.rules.specs.Verdict.{Verdict}
+use Rattle.std.specs.Prelude.{Ok, Err}
+use Rattle.rules.specs.Verdict.{refuse}
 use Rattle.rules.specs.declared.Reason.{Reason}
 use Rattle.rules.specs.declared.Reason.TheVariants.{NotATable, TooMany, WrongLength, BadResource, BadDevice, BadObjects}
 use Rattle.rules.specs.declared.Reason.TheVariants.{BadState, Inconsistent, NoRoom, BadRequest, Unsupported, Shallower}
@@ -35,23 +36,23 @@ reason_number NoChoice = 21
 
 -- the number of the answer: 0 is done
 abbrev pub number_of : Verdict → ℕ
-number_of (Done n) = 0
-number_of (Refused why at) = reason_number why
+number_of (Ok n) = 0
+number_of (Err r) = reason_number r.0
 
 -- its place: that of the refusal, and 0 where it is done
 abbrev pub place_of : Verdict → ℕ
-place_of (Done n) = 0
-place_of (Refused why at) = at
+place_of (Ok n) = 0
+place_of (Err r) = r.1
 
 -- its count where it is done, of calls or of bytes written, else 0
 abbrev pub count_of : Verdict → ℕ
-count_of (Done n) = n
-count_of (Refused why at) = 0
+count_of (Ok n) = n
+count_of (Err r) = 0
 
 -- the answer is no refusal
 unfoldable pub passes : Verdict → Bool
-passes (Done n) = true
-passes (Refused why at) = false
+passes (Ok n) = true
+passes (Err r) = false
 
 -- the first refusal of a list of checks, in its order; without one, the last answer
 unfoldable pub first_of : List Verdict → Verdict → Verdict
@@ -60,8 +61,8 @@ first_of (v ∷ vs) last = elim (passes v) [ true ↦ first_of vs last | false �
 
 -- a check: the refusal with its place, unless it holds
 unfoldable pub unless : Bool → Reason → ℕ → Verdict
-unless good why at = cond good (Done 0) (Refused why at)
+unless good why at = cond good (Ok 0) (refuse why at)
 
 -- a check of the numbers below n: the refusal of the lowest bad one, if there is one
 unfoldable pub lowest : (ℕ → Bool) → ℕ → (ℕ → Verdict) → Verdict
-lowest bad n refusal = cond (ltb (least bad n) n) (refusal (least bad n)) (Done 0)
+lowest bad n refusal = cond (ltb (least bad n) n) (refusal (least bad n)) (Ok 0)

@@ -3,8 +3,9 @@ use Rattle.std.specs.Prelude.{ℕ, ◌*◌, Bool, true, false, not, List, [], �
 use Rattle.words.specs.Words.{word_bytes}
 use Rattle.rules.specs.declared.Call.{Call}
 use Rattle.rules.specs.declared.Entry.{Entry}
-use Rattle.rules.specs.declared.Verdict.{Verdict}
-use Rattle.rules.specs.declared.Verdict.TheVariants.{Done, Refused}
+use Rattle.rules.specs.Verdict.{Verdict}
+use Rattle.std.specs.Prelude.{Ok}
+use Rattle.rules.specs.Verdict.{refuse}
 use Rattle.rules.specs.declared.Reason.TheVariants.{Inconsistent, NoRoom}
 use Rattle.rules.specs.Answers.{first_of, unless, lowest}
 use Rattle.rules.specs.Station.{Station, width, station}
@@ -18,15 +19,15 @@ use Rattle.rules.specs.Outcomes.{Outcome, list_room, plan_outcome, list_verdict,
 
 -- 8 (RULES.md 12.1): the lowest device that breaks a rule of 4.3 other than that what it needs is on
 unfoldable pub but_power_verdict : Station → (ℕ → Entry) → Verdict
-but_power_verdict s entries = lowest (λ d. not (consistent_but_power s entries d)) s.devices (Refused Inconsistent)
+but_power_verdict s entries = lowest (λ d. not (consistent_but_power s entries d)) s.devices (refuse Inconsistent)
 
 -- 7, then that 8
 unfoldable pub state_but_power_verdict : List ℕ → List ℕ → Verdict
-state_but_power_verdict t b = first_of (values_verdict t b ∷ but_power_verdict (station t) (status t b).entries ∷ []) (Done 0)
+state_but_power_verdict t b = first_of (values_verdict t b ∷ but_power_verdict (station t) (status t b).entries ∷ []) (Ok 0)
 
 -- 1 to 8; then 9 without room, which only bring-up itself needs
 unfoldable pub bring_up_stages : Bool → List ℕ → List ℕ → Verdict
-bring_up_stages room t b = first_of (table_verdict t ∷ state_but_power_verdict t b ∷ unless room NoRoom 0 ∷ []) (Done 0)
+bring_up_stages room t b = first_of (table_verdict t ∷ state_but_power_verdict t b ∷ unless room NoRoom 0 ∷ []) (Ok 0)
 
 -- RULES.md 12.2: from the on-set to the needed set of the entries as they are; no device's own call
 unfoldable pub bring_up_calls : Station → Status → List Call

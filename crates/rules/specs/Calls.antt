@@ -6,8 +6,7 @@ use Rattle.rules.specs.declared.Wake.{Wake}
 use Rattle.rules.specs.declared.Wake.TheVariants.{Enable, Disable}
 use Rattle.rules.specs.declared.Call.{Call}
 use Rattle.rules.specs.declared.Call.TheVariants.{ResourceOn, ResourceOff, SetState, SetWake}
-use Rattle.rules.specs.declared.OptionalCall.{OptionalCall}
-use Rattle.rules.specs.declared.OptionalCall.TheVariants.{Is, NoCall}
+use Rattle.std.specs.Prelude.{Option, Some, None}
 use Rattle.rules.specs.Station.{Station, has_ps, has_dsw}
 use Rattle.rules.specs.declared.Entry.{Entry}
 use Rattle.rules.specs.declared.Change.{Change}
@@ -33,30 +32,30 @@ word_of (SetState d x) = word4 3 d x 0
 word_of (SetWake d k) = wake_word d k
 
 -- `_DSW`'s last two bytes: S and 128 + D, or two zeros
-unfoldable pub wake_of : ℕ → ℕ → ℕ → OptionalCall
+unfoldable pub wake_of : ℕ → ℕ → ℕ → Option Call
 wake_of d x y =
-    cond (eqb x 0 && eqb y 0) (Is (SetWake d Disable))
-    (cond (leb x 4 && leb 128 y && leb y 132) (Is (SetWake d (Enable x (y - 128)))) NoCall)
+    cond (eqb x 0 && eqb y 0) (Some (SetWake d Disable))
+    (cond (leb x 4 && leb 128 y && leb y 132) (Some (SetWake d (Enable x (y - 128)))) None)
 
 -- RULES.md 2.9: the call with these bytes, if there is one
-unfoldable pub call_of_bytes : ℕ → ℕ → ℕ → ℕ → OptionalCall
+unfoldable pub call_of_bytes : ℕ → ℕ → ℕ → ℕ → Option Call
 call_of_bytes a b c d =
-    cond (eqb a 1 && eqb c 0 && eqb d 0) (Is (ResourceOn b))
-    (cond (eqb a 2 && eqb c 0 && eqb d 0) (Is (ResourceOff b))
-    (cond (eqb a 3 && leb c 3 && eqb d 0) (Is (SetState b c))
-    (cond (eqb a 4) (wake_of b c d) NoCall)))
+    cond (eqb a 1 && eqb c 0 && eqb d 0) (Some (ResourceOn b))
+    (cond (eqb a 2 && eqb c 0 && eqb d 0) (Some (ResourceOff b))
+    (cond (eqb a 3 && leb c 3 && eqb d 0) (Some (SetState b c))
+    (cond (eqb a 4) (wake_of b c d) None)))
 
-unfoldable pub call_of : ℕ → OptionalCall
+unfoldable pub call_of : ℕ → Option Call
 call_of w = call_of_bytes (w % 0x100) (w / 0x100 % 0x100) (w / 0x1_0000 % 0x100) (w / 0x100_0000)
 
 -- a call, or none, as a list
-unfoldable pub list_of : OptionalCall → List Call
-list_of (Is c) = c ∷ []
-list_of NoCall = []
+unfoldable pub list_of : Option Call → List Call
+list_of (Some c) = c ∷ []
+list_of None = []
 
 -- the call where the test holds
-unfoldable pub only : Bool → Call → OptionalCall
-only b c = cond b (Is c) NoCall
+unfoldable pub only : Bool → Call → Option Call
+only b c = cond b (Some c) None
 
 -- the method that brings a device to state x: `_PSx`, and `_PS3` for D3cold
 unfoldable pub method_for : ℕ → ℕ
@@ -67,17 +66,17 @@ unfoldable pub calls_method : ℕ → ℕ → Bool
 calls_method state x = not (eqb x state) && not (eqb state 3 && eqb x 4)
 
 -- `_PSx` if the move calls a method and that method exists
-unfoldable pub move_call : Station → Entry → ℕ → ℕ → OptionalCall
+unfoldable pub move_call : Station → Entry → ℕ → ℕ → Option Call
 move_call s e d x = only (calls_method e.state x && has_ps (s.device d) (method_for x)) (SetState d (method_for x))
 
 -- on arming, `_DSW` on if present; on disarming, `_DSW` off if present and it was armed
-unfoldable pub wake_call : Station → Entry → Request → OptionalCall
+unfoldable pub wake_call : Station → Entry → Request → Option Call
 wake_call s e q =
     cond (is_arm q) (only (has_dsw (s.device q.device)) (SetWake q.device (Enable q.a q.b)))
     (only (has_dsw (s.device q.device) && is_armed e) (SetWake q.device Disable))
 
 -- RULES.md 6.2: the own call of the request's device, whose entry is e
-unfoldable pub own_call : Station → Entry → Request → OptionalCall
+unfoldable pub own_call : Station → Entry → Request → Option Call
 own_call s e q = cond (is_move q) (move_call s e q.device q.a) (wake_call s e q)
 
 -- RULES.md 6.3: moving to D0, or arming: the own call comes last; moving deeper, or disarming: first
@@ -153,7 +152,7 @@ status_needed s st = record { entries = st.entries; on = needed s st.entries }
 
 -- the calls from an on-set to a target set as one value: what is turned on, what is turned off, the own call or none and whether it comes
 -- last
-abbrev pub switching_of : OptionalCall → Bool → ℕ → ℕ → Switching
+abbrev pub switching_of : Option Call → Bool → ℕ → ℕ → Switching
 switching_of own last on target = record { added = to_turn_on on target; removed = to_turn_off on target; own = own; last = last }
 
 -- the words of all its calls

@@ -4,9 +4,9 @@ use Rattle.std.specs.Prelude.{ℕ, suc, ◌*◌, ◌/◌, ◌%◌, Bool, true, f
 use Rattle.sets.specs.Sets.{member}
 use Rattle.words.specs.Words.{byte_words}
 use Rattle.rules.specs.declared.Request.{Request}
-use Rattle.rules.specs.declared.Verdict.{Verdict}
-use Rattle.rules.specs.declared.OptionalCall.{OptionalCall}
-use Rattle.rules.specs.declared.OptionalCall.TheVariants.{Is, NoCall}
+use Rattle.rules.specs.Verdict.{Verdict}
+use Rattle.rules.specs.declared.Call.{Call}
+use Rattle.std.specs.Prelude.{Option, Some, None}
 use Rattle.rules.specs.Index.{every}
 use Rattle.rules.specs.Answers.{number_of, place_of, count_of}
 use Rattle.rules.specs.declared.Change.{Change}
@@ -64,9 +64,9 @@ leaves o a calls state plan =
     && same o.plan (calls ++ drop (length calls) plan)
 
 -- a word is read as the call with this word; one that is no call, as nothing
-unfoldable pub word_read : OptionalCall → List ℕ
-word_read (Is c) = word_of c ∷ []
-word_read NoCall = []
+unfoldable pub word_read : Option Call → List ℕ
+word_read (Some c) = word_of c ∷ []
+word_read None = []
 
 unfoldable pub words_read : List ℕ → List ℕ
 words_read [] = []

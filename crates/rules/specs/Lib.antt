@@ -1,4 +1,5 @@
 pub mod Index
+pub mod Verdict
 pub mod Answers
 pub mod Station
 pub mod Table

@@ -2,8 +2,8 @@
 use Rattle.std.specs.Prelude.{ℕ, ◌+◌, ◌*◌, ◌/◌, ◌%◌, Bool, true, cond, ◌&&◌, List, [], ◌∷◌, ◌++◌, map, length, take, drop, eqb, leb, ltb}
 use Rattle.words.specs.Words.{put, word_bytes, byte_words}
 use Rattle.rules.specs.declared.Request.{Request}
-use Rattle.rules.specs.declared.Verdict.{Verdict}
-use Rattle.rules.specs.declared.Verdict.TheVariants.{Done}
+use Rattle.rules.specs.Verdict.{Verdict}
+use Rattle.std.specs.Prelude.{Ok}
 use Rattle.rules.specs.declared.Reason.TheVariants.{BadState, NoRoom, NotConforming}
 use Rattle.rules.specs.Answers.{passes, first_of, unless}
 use Rattle.rules.specs.Station.{width, limit, record_size, count_d, device_start, station}
@@ -26,14 +26,14 @@ outcome v state plan state' plan' = record { verdict = v; state = cond (passes v
 
 -- a fresh state: 1 to 6, then 7 if the buffer has not an image's size
 unfoldable pub fresh_verdict : List ℕ → List ℕ → Verdict
-fresh_verdict t b = first_of (table_verdict t ∷ unless (eqb (length b) (image_size (width t))) BadState 0 ∷ []) (Done 0)
+fresh_verdict t b = first_of (table_verdict t ∷ unless (eqb (length b) (image_size (width t))) BadState 0 ∷ []) (Ok 0)
 
 unfoldable pub fresh : List ℕ → List ℕ → Outcome
 fresh t b = outcome (fresh_verdict t b) b [] (image_of (width t) (fresh_status (station t))) []
 
 -- 1 to 8 of any bytes: whether they are a table and a consistent state of it
 unfoldable pub table_and_state_verdict : List ℕ → List ℕ → Verdict
-table_and_state_verdict t b = first_of (table_verdict t ∷ state_verdict t b ∷ []) (Done 0)
+table_and_state_verdict t b = first_of (table_verdict t ∷ state_verdict t b ∷ []) (Ok 0)
 
 -- 10 to 18 of the request, on the bytes
 unfoldable pub request_stage : List ℕ → List ℕ → Request → Verdict
@@ -41,11 +41,11 @@ request_stage t b q = request_verdict (station t) (status t b).entries q
 
 -- RULES.md 9.2: 1 to 8; 9 without room, which only the planner needs
 unfoldable pub ready_verdict : Bool → List ℕ → List ℕ → Verdict
-ready_verdict room t b = first_of (table_verdict t ∷ state_verdict t b ∷ unless room NoRoom 0 ∷ []) (Done 0)
+ready_verdict room t b = first_of (table_verdict t ∷ state_verdict t b ∷ unless room NoRoom 0 ∷ []) (Ok 0)
 
 -- the checks of kinds 1 to 3, and the checker's of any kind, in their order: 1 to 9, then 10 to 18
 unfoldable pub stages_verdict : Bool → List ℕ → List ℕ → Request → Verdict
-stages_verdict room t b q = first_of (ready_verdict room t b ∷ request_stage t b q ∷ []) (Done 0)
+stages_verdict room t b q = first_of (ready_verdict room t b ∷ request_stage t b q ∷ []) (Ok 0)
 
 -- the words that one list has at most: one for each resource that there can be, and the own call
 abbrev pub list_room : ℕ → ℕ
@@ -53,7 +53,7 @@ list_room w = limit w + 1
 
 -- the answer of the stages, else done with the count of the words
 unfoldable pub plan_verdict : Verdict → List ℕ → Verdict
-plan_verdict stages words = first_of (stages ∷ []) (Done (length words))
+plan_verdict stages words = first_of (stages ∷ []) (Ok (length words))
 
 -- where it is done: the state b', and the words at the front of the plan, as `written` turns them into its elements
 unfoldable pub plan_outcome : (List ℕ → List ℕ) → Verdict → List ℕ → List ℕ → List ℕ → List ℕ → Outcome
@@ -73,7 +73,7 @@ sleep_stage t b q = sleep_verdict (station t) (status t b).entries q
 
 -- the checks of sleep entry in their order: 1 to 9, then 10, 20 and 21
 unfoldable pub sleep_stages : Bool → List ℕ → List ℕ → Request → Verdict
-sleep_stages room t b q = first_of (ready_verdict room t b ∷ sleep_stage t b q ∷ []) (Done 0)
+sleep_stages room t b q = first_of (ready_verdict room t b ∷ sleep_stage t b q ∷ []) (Ok 0)
 
 -- the lists of requests, one after the other, each from the state that those before it leave; and the state that all of them leave
 unfoldable pub planned_each : List ℕ → List ℕ → List Request → List ℕ
@@ -121,7 +121,7 @@ plan_bytes t b q plan =
 
 -- the answer of the stages, then 19 for a list that does not conform
 unfoldable pub list_verdict : Verdict → Bool → Verdict
-list_verdict stages conforms = first_of (stages ∷ unless conforms NotConforming 0 ∷ []) (Done 0)
+list_verdict stages conforms = first_of (stages ∷ unless conforms NotConforming 0 ∷ []) (Ok 0)
 
 -- a test of words on a list of bytes, four a word; it fails where the length is no multiple of four
 unfoldable pub of_bytes : (List ℕ → Bool) → List ℕ → Bool

@@ -1,8 +1,9 @@
 -- RULES.md 5: which requests are refused, answers 10 to 18, and what an accepted one changes. No rule here looks at the on-set.
 use Rattle.std.specs.Prelude.{ℕ, Bool, ◌&&◌, ◌||◌, not, cond, [], ◌∷◌, eqb, leb, ltb}
 use Rattle.rules.specs.declared.Request.{Request}
-use Rattle.rules.specs.declared.Verdict.{Verdict}
-use Rattle.rules.specs.declared.Verdict.TheVariants.{Done, Refused}
+use Rattle.rules.specs.Verdict.{Verdict}
+use Rattle.std.specs.Prelude.{Ok}
+use Rattle.rules.specs.Verdict.{refuse}
 use Rattle.rules.specs.declared.Reason.TheVariants.{BadRequest, Unsupported, Shallower, ParentDeeper, ChildShallower}
 use Rattle.rules.specs.declared.Reason.TheVariants.{TooDeepToWake, NoWake, WakeUnpowered, BadWakeState}
 use Rattle.rules.specs.Answers.{first_of, unless, lowest}
@@ -49,10 +50,10 @@ move_verdict s entries d x =
     (unless (supported s d x) Unsupported 0
     ∷ unless (not_shallower_or_d0 (entries d) x) Shallower 0
     ∷ unless (parent_allows s entries d x) ParentDeeper (s.device d).parent
-    ∷ lowest (child_bars s entries d x) s.devices (Refused ChildShallower)
+    ∷ lowest (child_bars s entries d x) s.devices (refuse ChildShallower)
     ∷ unless (wake_allows (entries d) x) TooDeepToWake 0
     ∷ [])
-    (Done 0)
+    (Ok 0)
 
 -- 16 to 18 (RULES.md 5.3): arm device d for S = x, D = y; D is not shallower than the present state
 unfoldable pub arm_verdict : Station → (ℕ → Entry) → ℕ → ℕ → ℕ → Verdict
@@ -62,16 +63,16 @@ arm_verdict s entries d x y =
     ∷ unless (wake_powered s d x) WakeUnpowered 0
     ∷ unless (wake_state s d x y && leb (entries d).state y) BadWakeState 0
     ∷ [])
-    (Done 0)
+    (Ok 0)
 
 -- what follows 10: the move's checks, those of arming, or none
 unfoldable pub kind_verdict : Station → (ℕ → Entry) → Request → Verdict
 kind_verdict s entries q =
-    cond (is_move q) (move_verdict s entries q.device q.a) (cond (is_arm q) (arm_verdict s entries q.device q.a q.b) (Done 0))
+    cond (is_move q) (move_verdict s entries q.device q.a) (cond (is_arm q) (arm_verdict s entries q.device q.a q.b) (Ok 0))
 
 -- 10 to 18
 unfoldable pub request_verdict : Station → (ℕ → Entry) → Request → Verdict
-request_verdict s entries q = first_of (unless (form_good s q) BadRequest 0 ∷ kind_verdict s entries q ∷ []) (Done 0)
+request_verdict s entries q = first_of (unless (form_good s q) BadRequest 0 ∷ kind_verdict s entries q ∷ []) (Ok 0)
 
 -- an entry in another state
 abbrev pub in_state : Entry → ℕ → Entry

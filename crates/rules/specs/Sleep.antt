@@ -5,8 +5,9 @@ use Rattle.rules.specs.declared.Call.{Call}
 use Rattle.rules.specs.declared.Call.TheVariants.{ResourceOff}
 use Rattle.rules.specs.declared.Entry.{Entry}
 use Rattle.rules.specs.declared.Request.{Request}
-use Rattle.rules.specs.declared.Verdict.{Verdict}
-use Rattle.rules.specs.declared.Verdict.TheVariants.{Done, Refused}
+use Rattle.rules.specs.Verdict.{Verdict}
+use Rattle.std.specs.Prelude.{Ok}
+use Rattle.rules.specs.Verdict.{refuse}
 use Rattle.rules.specs.declared.Reason.TheVariants.{BadRequest, ArmedForOther, NoChoice}
 use Rattle.rules.specs.Index.{least, every}
 use Rattle.rules.specs.Answers.{first_of, unless, lowest}
@@ -73,13 +74,13 @@ unfoldable pub armed_verdict : Station → (ℕ → Entry) → Request → Verdi
 armed_verdict s entries q =
     first_of
     (unless (sleep_form_good q) BadRequest 0
-    ∷ lowest (λ d. armed_for_other (entries d) q.a) s.devices (Refused ArmedForOther)
+    ∷ lowest (λ d. armed_for_other (entries d) q.a) s.devices (refuse ArmedForOther)
     ∷ [])
-    (Done 0)
+    (Ok 0)
 
 -- 10, 20 and 21
 unfoldable pub sleep_verdict : Station → (ℕ → Entry) → Request → Verdict
-sleep_verdict s entries q = first_of (armed_verdict s entries q ∷ unless (has_choice s entries q.a) NoChoice 0 ∷ []) (Done 0)
+sleep_verdict s entries q = first_of (armed_verdict s entries q ∷ unless (has_choice s entries q.a) NoChoice 0 ∷ []) (Ok 0)
 
 -- the request that moves device d to state y
 abbrev pub move_to : ℕ → ℕ → Request

@@ -2,8 +2,9 @@
 use Rattle.std.specs.Prelude.{ℕ, ◌+◌, ◌*◌, ◌^◌, Bool, ◌&&◌, ◌||◌, not, List, [], ◌∷◌, ◌++◌, length, get_or, eqb, leb, ltb}
 use Rattle.sets.specs.Sets.{subset, first_n}
 use Rattle.words.specs.Words.{read_le, bytes_le}
-use Rattle.rules.specs.declared.Verdict.{Verdict}
-use Rattle.rules.specs.declared.Verdict.TheVariants.{Done, Refused}
+use Rattle.rules.specs.Verdict.{Verdict}
+use Rattle.std.specs.Prelude.{Ok}
+use Rattle.rules.specs.Verdict.{refuse}
 use Rattle.rules.specs.declared.Reason.TheVariants.{BadState, Inconsistent}
 use Rattle.rules.specs.Index.{every, below, join_from}
 use Rattle.rules.specs.Answers.{first_of, unless, lowest}
@@ -114,8 +115,8 @@ values_verdict t b = unless (image_good t b) BadState 0
 
 -- 8: the lowest device that is not consistent
 unfoldable pub consistency_verdict : Station → Status → Verdict
-consistency_verdict s st = lowest (λ d. not (consistent s st d)) s.devices (Refused Inconsistent)
+consistency_verdict s st = lowest (λ d. not (consistent s st d)) s.devices (refuse Inconsistent)
 
 -- 7, then 8
 unfoldable pub state_verdict : List ℕ → List ℕ → Verdict
-state_verdict t b = first_of (values_verdict t b ∷ consistency_verdict (station t) (status t b) ∷ []) (Done 0)
+state_verdict t b = first_of (values_verdict t b ∷ consistency_verdict (station t) (status t b) ∷ []) (Ok 0)

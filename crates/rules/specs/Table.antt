@@ -1,7 +1,8 @@
 -- RULES.md 2.2 to 2.6: which bytes are a good table, answers 1 to 6.
 use Rattle.std.specs.Prelude.{ℕ, ◌+◌, ◌*◌, ◌%◌, ◌^◌, Bool, true, false, ◌&&◌, ◌||◌, not, cond, List, [], ◌∷◌, ◌++◌, length, get_or, eqb, leb, ltb}
-use Rattle.rules.specs.declared.Verdict.{Verdict}
-use Rattle.rules.specs.declared.Verdict.TheVariants.{Done, Refused}
+use Rattle.rules.specs.Verdict.{Verdict}
+use Rattle.std.specs.Prelude.{Ok}
+use Rattle.rules.specs.Verdict.{refuse}
 use Rattle.rules.specs.declared.Reason.TheVariants.{NotATable, TooMany, WrongLength, BadResource, BadDevice, BadObjects}
 use Rattle.rules.specs.Index.{each}
 use Rattle.rules.specs.Answers.{first_of, unless, lowest}
@@ -133,7 +134,7 @@ objects_good v =
 
 -- 5 or 6 of a device that is not good, 5 unless its fields are good
 unfoldable pub fields_or_objects : Bool → ℕ → Verdict
-fields_or_objects fields d = Refused (cond fields BadObjects BadDevice) d
+fields_or_objects fields d = refuse (cond fields BadObjects BadDevice) d
 
 abbrev pub device_refusal : List ℕ → ℕ → Verdict
 device_refusal t d = fields_or_objects (fields_good t d) d
@@ -148,7 +149,7 @@ table_verdict t =
     (unless (header_good t) NotATable 0
     ∷ unless (counts_good t) TooMany 0
     ∷ unless (length_good t) WrongLength 0
-    ∷ lowest (λ r. not (resource_good t (resource_start r))) (count_r t) (Refused BadResource)
+    ∷ lowest (λ r. not (resource_good t (resource_start r))) (count_r t) (refuse BadResource)
     ∷ lowest (λ d. not (device_good t d)) (count_d t) (device_refusal t)
     ∷ [])
-    (Done 0)
+    (Ok 0)

@@ -1,8 +1,9 @@
 -- RULES.md 11.5 and 11.6: write and describe, which an editor of stations calls, each as a total function of all that it is lent.
 use Rattle.std.specs.Prelude.{ℕ, ◌+◌, ◌*◌, Bool, cond, ◌&&◌, not, List, [], ◌∷◌, length, leb}
 use Rattle.words.specs.Words.{put}
-use Rattle.rules.specs.declared.Verdict.{Verdict}
-use Rattle.rules.specs.declared.Verdict.TheVariants.{Done, Refused}
+use Rattle.rules.specs.Verdict.{Verdict}
+use Rattle.std.specs.Prelude.{Ok}
+use Rattle.rules.specs.Verdict.{refuse}
 use Rattle.rules.specs.declared.Reason.TheVariants.{NotATable, TooMany, BadResource, NoRoom}
 use Rattle.rules.specs.Answers.{passes, first_of, unless, lowest}
 use Rattle.rules.specs.Station.{version_good, version_width, table_size, count_r, count_d}
@@ -28,11 +29,11 @@ described_device_good resources ds d = described_fields_good resources ds d && o
 unfoldable pub records_verdict : List ℕ → List ℕ → Verdict
 records_verdict rs ds =
     first_of
-    (lowest (λ r. not (described_resource_good rs r)) (described_r rs) (Refused BadResource)
+    (lowest (λ r. not (described_resource_good rs r)) (described_r rs) (refuse BadResource)
     ∷ lowest (λ d. not (described_device_good (described_r rs) ds d)) (described_d ds)
     (λ d. fields_or_objects (described_fields_good (described_r rs) ds d) d)
     ∷ [])
-    (Done 0)
+    (Ok 0)
 
 -- the bytes of the table; of lists that are refused too, since 9 comes before the records
 abbrev pub written_size : ℕ → List ℕ → List ℕ → ℕ
@@ -51,7 +52,7 @@ write_verdict version rs ds room =
     ∷ unless (leb (written_size version rs ds) room) NoRoom 0
     ∷ records_verdict rs ds
     ∷ [])
-    (Done (written_size version rs ds))
+    (Ok (written_size version rs ds))
 
 -- what the writer answers, and what it leaves in the lent buffer: the table at its front, or what it was lent
 pub record Written : Type 0 where
@@ -72,7 +73,7 @@ unfoldable pub describe_verdict : List ℕ → ℕ → ℕ → Verdict
 describe_verdict t roomR roomD =
     first_of
     (table_verdict t ∷ unless (leb (4 * count_r t) roomR && leb (described_size * count_d t) roomD) NoRoom 0 ∷ [])
-    (Done (lists_size t))
+    (Ok (lists_size t))
 
 -- what describing answers, and what it leaves in the two lent buffers
 pub record Described : Type 0 where

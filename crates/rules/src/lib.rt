@@ -2,7 +2,7 @@
 #![tactic(auto)]
 
 ghost use Rattle.std.specs.Prelude.{◌≡◌};
-ghost use Rattle.rules.specs.Answers.{reason_number, number_of, place_of, count_of, passes};
+ghost use Rattle.rules.specs.Answers.{reason_number, number_of, place_of, count_of};
 
 // What `_DSW` is told: to let the device wake the system from sleep state `sleep` while it is in device state `state`, or to stop.
 #[derive(Clone, Copy)]
@@ -22,13 +22,6 @@ pub enum Call {
     SetState { device: u8, method: u8 },
     // `_DSW` of a device
     SetWake { device: u8, wake: Wake },
-}
-
-// A call or none: what a plan word says, and what a request asks of its device's own methods.
-#[derive(Clone, Copy)]
-pub enum OptionalCall {
-    Is(Call),
-    NoCall,
 }
 
 // A request as the board makes it: any four numbers.
@@ -55,7 +48,7 @@ pub struct Entry {
 pub struct Switching {
     pub added: u64,
     pub removed: u64,
-    pub own: OptionalCall,
+    pub own: Option<Call>,
     pub last: bool,
 }
 
@@ -84,7 +77,7 @@ pub struct WideState {
 // Why a table, a state, a request, a list, a description or a buffer is refused, in the order of the answers' numbers, 1 to 21.
 #[derive(Clone, Copy)]
 pub enum Reason {
-    NotATable,
+    NotATable = 1,
     TooMany,
     WrongLength,
     // the place is the resource
@@ -115,41 +108,18 @@ pub enum Reason {
     NoChoice,
 }
 
-// An answer: done with a count, of the calls in a plan or of the bytes that write and describe have written, else 0; or refused with a
-// place, 0 where the reason names none.
+// A refusal: the reason, and the place, 0 where the reason names none.
 #[derive(Clone, Copy)]
-pub enum Verdict {
-    Done(usize),
-    Refused(Reason, usize),
-}
+pub struct Refusal(pub Reason, pub usize);
+
+// An answer: done with a count, of the calls in a plan or of the bytes that write and describe have written, else 0; or refused.
+pub type Verdict = Result<usize, Refusal>;
 
 // The number of a refusal (RULES.md 9.3).
 fn reason_number(why: Reason) -> u8
     ensures { result ≡ reason_number why }
 {
-    match why {
-        Reason::NotATable => 1,
-        Reason::TooMany => 2,
-        Reason::WrongLength => 3,
-        Reason::BadResource => 4,
-        Reason::BadDevice => 5,
-        Reason::BadObjects => 6,
-        Reason::BadState => 7,
-        Reason::Inconsistent => 8,
-        Reason::NoRoom => 9,
-        Reason::BadRequest => 10,
-        Reason::Unsupported => 11,
-        Reason::Shallower => 12,
-        Reason::ParentDeeper => 13,
-        Reason::ChildShallower => 14,
-        Reason::TooDeepToWake => 15,
-        Reason::NoWake => 16,
-        Reason::WakeUnpowered => 17,
-        Reason::BadWakeState => 18,
-        Reason::NotConforming => 19,
-        Reason::ArmedForOther => 20,
-        Reason::NoChoice => 21,
-    }
+    why as u8
 }
 
 // The number of an answer.
@@ -157,8 +127,8 @@ pub fn number(v: Verdict) -> u8
     ensures { result ≡ number_of v }
 {
     match v {
-        Verdict::Done(_) => 0,
-        Verdict::Refused(why, _) => reason_number(why),
+        Ok(_) => 0,
+        Err(Refusal(why, _)) => reason_number(why),
     }
 }
 
@@ -167,8 +137,8 @@ pub fn place(v: Verdict) -> usize
     ensures { result ≡ place_of v }
 {
     match v {
-        Verdict::Done(_) => 0,
-        Verdict::Refused(_, at) => at,
+        Ok(_) => 0,
+        Err(Refusal(_, at)) => at,
     }
 }
 
@@ -176,18 +146,5 @@ pub fn place(v: Verdict) -> usize
 pub fn count(v: Verdict) -> usize
     ensures { result ≡ count_of v }
 {
-    match v {
-        Verdict::Done(n) => n,
-        Verdict::Refused(_, _) => 0,
-    }
-}
-
-// Whether an answer is no refusal.
-pub fn passes(v: Verdict) -> bool
-    ensures { result ≡ passes v }
-{
-    match v {
-        Verdict::Done(_) => true,
-        Verdict::Refused(_, _) => false,
-    }
+    v.unwrap_or(0)
 }

@@ -9,8 +9,9 @@ use lib.Dec.{leb}
 use lib.ListN.{length}
 use Rattle.sets.proofs.Laws.{decide}
 use Rattle.rules.specs.declared.Request.{Request}
-use Rattle.rules.specs.declared.Verdict.{Verdict}
-use Rattle.rules.specs.declared.Verdict.TheVariants.{Done, Refused}
+use Rattle.rules.specs.Verdict.{Verdict}
+use Rattle.std.specs.Prelude.{Ok, Err}
+use Rattle.rules.specs.Verdict.{refuse}
 use Rattle.rules.specs.declared.Reason.{Reason}
 use Rattle.rules.specs.declared.Reason.TheVariants.{NotATable, TooMany, WrongLength, BadResource, BadDevice, BadObjects, BadState}
 use Rattle.rules.specs.declared.Reason.TheVariants.{Inconsistent, NoRoom, BadRequest, Unsupported, Shallower, ParentDeeper}
@@ -65,8 +66,8 @@ reason_small ArmedForOther = omega arith
 reason_small NoChoice = omega arith
 
 number_small : (v : Verdict) → number_of v < 0x100
-number_small (Done n) = omega arith
-number_small (Refused why at) = reason_small why
+number_small (Ok n) = omega arith
+number_small (Err r) = reason_small r.0
 
 reads : (n c p : ℕ) → n < 0x100 → c < 0x1_0000 → ((n + 0x100 * c + 0x100_0000 * p) % 0x100 ≡ n)
     × ((n + 0x100 * c + 0x100_0000 * p) / 0x100 % 0x1_0000 ≡ c) × ((n + 0x100 * c + 0x100_0000 * p) / 0x100_0000 ≡ p)

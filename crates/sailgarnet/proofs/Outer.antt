@@ -22,8 +22,7 @@ use Rattle.laws.proofs.Stages.{stages_of, bring_up_of}
 use Rattle.switching.specs.Written.{WrittenPlan}
 use Rattle.request.specs.Permitted.{PermittedRequest}
 use Rattle.bringup.specs.Passed.{BringUpState}
-use Rattle.sailgarnet.specs.declared.buffers.ListWords.{ListWords}
-use Rattle.sailgarnet.specs.declared.buffers.ListWords.TheVariants.{Words, NotAList}
+use Rattle.std.specs.Prelude.{Option, Some, None}
 use Rattle.sailgarnet.specs.Lists.{words_in_bytes}
 use Rattle.switching.proofs.Short.{list_short, up_list_short, up_short}
 use Rattle.planner.proofs.Room.{room_65, words_65, bytes_room}
@@ -31,15 +30,15 @@ use Rattle.planner.proofs.Room.{room_65, words_65, bytes_room}
 -- ---- lists
 
 -- what the count of a list says of its length
-is_list : ListWords → Bool
-is_list (Words k) = true
-is_list NotAList = false
+is_list : Option ℕ → Bool
+is_list (Some k) = true
+is_list None = false
 
-count_none : (n : ℕ) → words_in_bytes n ≡ NotAList → eqb (n % 4) 0 && leb (n / 4) 65 ≡ false
+count_none : (n : ℕ) → words_in_bytes n ≡ None → eqb (n % 4) 0 && leb (n / 4) 65 ≡ false
 unfolding words_in_bytes is_list
 count_none n e = decide (eqb (n % 4) 0 && leb (n / 4) 65) (λ p. absurd (true≢false (ap is_list (rw p at e)))) (λ p. p)
 
-count_some : (n k : ℕ) → words_in_bytes n ≡ Words k → (n % 4 ≡ 0) × (k ≡ n / 4) × (k ≤ 65)
+count_some : (n k : ℕ) → words_in_bytes n ≡ Some k → (n % 4 ≡ 0) × (k ≡ n / 4) × (k ≤ 65)
 unfolding words_in_bytes is_list
 count_some n k e =
     decide (eqb (n % 4) 0 && leb (n / 4) 65)
@@ -49,19 +48,19 @@ count_some n k e =
     (eqb-true (n % 4) 0 both.0, sym same, omega (arith, leb-true (n / 4) 65 both.1)))
     (λ p. absurd (true≢false (sym (ap is_list (rw p at e)))))
   where
-    inside : (j : ℕ) → Words j ≡ Words k → j ≡ k
+    inside : (j : ℕ) → Some j ≡ Some k → j ≡ k
     inside j p = cc
 
 -- from the code's two tests
-pub count_odd : (n : ℕ) → (n % 4 ≡ 0 → ⊥) → NotAList ≡ words_in_bytes n
+pub count_odd : (n : ℕ) → (n % 4 ≡ 0 → ⊥) → None ≡ words_in_bytes n
 unfolding words_in_bytes is_list
 count_odd n h = rw (ne_eqb (n % 4) 0 h) refl
 
-pub count_long : (n : ℕ) → 65 < n / 4 → NotAList ≡ words_in_bytes n
+pub count_long : (n : ℕ) → 65 < n / 4 → None ≡ words_in_bytes n
 unfolding words_in_bytes is_list
 count_long n h = rw (lt-leb (n / 4) 65 h, and-false) refl
 
-pub count_is : (n : ℕ) → n % 4 ≡ 0 → n / 4 ≤ 65 → Words (n / 4) ≡ words_in_bytes n
+pub count_is : (n : ℕ) → n % 4 ≡ 0 → n / 4 ≤ 65 → Some (n / 4) ≡ words_in_bytes n
 unfolding words_in_bytes is_list
 count_is n h k = rw (eq-eqb (n % 4) 0 h, le-leb (n / 4) 65 k) refl
 
@@ -78,8 +77,8 @@ pub bring_up_short : (t b : List ℕ) → BringUpState t b → Short (conforming
 bring_up_short t b g ws e = omega (arith, room_65 t, up_list_short t b (bring_up_of true t b g.passed).0 ws e)
 
 -- c is the count of a list
-module _ (test : List ℕ → Bool) (list : List ℕ) (c : ListWords) (is : c ≡ words_in_bytes (length list)) where
-  pub no_list : Short test → c ≡ NotAList → false ≡ of_bytes test list
+module _ (test : List ℕ → Bool) (list : List ℕ) (c : Option ℕ) (is : c ≡ words_in_bytes (length list)) where
+  pub no_list : Short test → c ≡ None → false ≡ of_bytes test list
   unfolding of_bytes
   no_list short e =
       let n = length list / 4 in
@@ -91,7 +90,7 @@ module _ (test : List ℕ → Bool) (list : List ℕ) (c : ListWords) (is : c �
       (λ y. sym y)))
       (λ p. rw p refl)
 
-  pub list_is : (n : ℕ) → c ≡ Words n → (r : Bool) (d ws : List ℕ) → ws ≡ put d 0 (byte_words n list) → r ≡ test (take n ws)
+  pub list_is : (n : ℕ) → c ≡ Some n → (r : Bool) (d ws : List ℕ) → ws ≡ put d 0 (byte_words n list) → r ≡ test (take n ws)
       → r ≡ of_bytes test list
   unfolding of_bytes
   list_is n e r d ws w f =
@@ -99,11 +98,11 @@ module _ (test : List ℕ → Bool) (list : List ℕ) (c : ListWords) (is : c �
       let words : take n ws ≡ byte_words n list = ap (take n) w ∙ take_put d (byte_words n list) n (byte_words_length n list) in
       rw (eq-eqb (length list % 4) 0 k.0, ← k.1) (f ∙ ap test words)
 
-pub list_inside : (list : List ℕ) (c : ListWords) (n : ℕ) → c ≡ words_in_bytes (length list) → c ≡ Words n → 4 * n ≤ length list
+pub list_inside : (list : List ℕ) (c : Option ℕ) (n : ℕ) → c ≡ words_in_bytes (length list) → c ≡ Some n → 4 * n ≤ length list
 list_inside list c n is e = let k = count_some (length list) n (sym is ∙ e) in omega (arith, k.1)
 
 -- it fits a buffer of 65 words
-pub list_65 : (k : ℕ) (c : ListWords) (n m : ℕ) → c ≡ words_in_bytes k → c ≡ Words n → m ≡ 65 → n ≤ m
+pub list_65 : (k : ℕ) (c : Option ℕ) (n m : ℕ) → c ≡ words_in_bytes k → c ≡ Some n → m ≡ 65 → n ≤ m
 list_65 k c n m is e f = omega (arith, (count_some k n (sym is ∙ e)).2)
 
 -- the words that were read are as many as were asked for

@@ -1,7 +1,7 @@
 -- What the functions for C take and give: a request as four numbers (RULES.md 2.8), an answer as one (RULES.md 9.5).
 use Rattle.std.specs.Prelude.{◌≡◌, ℕ, ◌+◌, ◌*◌, ◌/◌, ◌%◌}
 use Rattle.rules.specs.declared.Request.{Request}
-use Rattle.rules.specs.declared.Verdict.{Verdict}
+use Rattle.rules.specs.Verdict.{Verdict}
 use Rattle.rules.specs.Answers.{number_of, place_of, count_of}
 
 abbrev pub asked : ℕ → ℕ → ℕ → ℕ → Request

@@ -4,7 +4,7 @@ ghost use Rattle.std.specs.Prelude.{◌≡◌, true, false};
 ghost use Rattle.rules.specs.Station.{station};
 ghost use Rattle.rules.specs.Status.{status};
 ghost use Rattle.rules.specs.Check.{conforming_to};
-ghost use Rattle.rules.specs.declared.Verdict.TheVariants.{Done};
+ghost use Rattle.std.specs.Prelude.{Ok};
 ghost use Rattle.rules.specs.Table.{table_verdict};
 ghost use Rattle.rules.specs.Sleep.{is_sleep};
 ghost use Rattle.request.specs.Permitted.{PermittedRequest};
@@ -15,40 +15,34 @@ ghost use Rattle.laws.specs.BringUp.{BringUpCheckedBytes};
 ghost use Rattle.bringup.specs.Passed.{BringUpState};
 ghost use Rattle.sailgarnet.specs.Lists.{words_in_bytes};
 
-use rules::{Reason, Request, Verdict};
+use rules::{Reason, Refusal, Request, Verdict};
 
 // Plans a request of any kind but 4 on a plan of bytes, for an accepted table.
 fn request_bytes(table: &[u8], state: &mut [u8], q: Request, plan: &mut [u8]) -> Verdict
-    requires { (is_sleep q ≡ false) × (table_verdict table.now ≡ Done 0) }
+    requires { (is_sleep q ≡ false) × (table_verdict table.now ≡ Ok 0) }
     ensures { (result ≡ (plan_bytes table.now state.old q plan.old).verdict)
         × (state.new ≡ (plan_bytes table.now state.old q plan.old).state)
         × (plan.new ≡ (plan_bytes table.now state.old q plan.old).plan) }
 {
     let room = plan.len() >= 4 * switching::write::room(table);
-    let v = request::stages::past_table(table, state, room, q);
-    if !rules::passes(v) {
-        return v;
-    }
+    request::stages::past_table(table, state, room, q)?;
     let mut calls = [0u32; 65];
     let n = planner::plan::write_plan(table, state, q, &mut calls);
     words::write_words(&calls, n, plan, 0);
-    Verdict::Done(n)
+    Ok(n)
 }
 
 // Plans sleep entry on a plan of bytes, for an accepted table.
 fn sleep_bytes(table: &[u8], state: &mut [u8], q: Request, plan: &mut [u8]) -> Verdict
-    requires { (is_sleep q ≡ true) × (table_verdict table.now ≡ Done 0) }
+    requires { (is_sleep q ≡ true) × (table_verdict table.now ≡ Ok 0) }
     ensures { (result ≡ (plan_bytes table.now state.old q plan.old).verdict)
         × (state.new ≡ (plan_bytes table.now state.old q plan.old).state)
         × (plan.new ≡ (plan_bytes table.now state.old q plan.old).plan) }
 {
     let room = plan.len() >= 4 * planner::moves::room(table);
     let mut chosen = [0u8; 64];
-    let v = sleep::stages::past_table(table, state, room, q, &mut chosen);
-    if !rules::passes(v) {
-        return v;
-    }
-    Verdict::Done(crate::moves::write_choice(table, state, &chosen, plan))
+    sleep::stages::past_table(table, state, room, q, &mut chosen)?;
+    Ok(crate::moves::write_choice(table, state, &chosen, plan))
 }
 
 // Plans one request on a plan of bytes.
@@ -58,36 +52,26 @@ pub fn plan_bytes(table: &[u8], state: &mut [u8], q: Request, plan: &mut [u8]) -
         × (plan.new ≡ (plan_bytes table.now state.old q plan.old).plan) }
 {
     if !table::header::header_good(table) {
-        return Verdict::Refused(Reason::NotATable, 0);
+        return Err(Refusal(Reason::NotATable, 0));
     }
-    let of_table = table::check_past_header(table);
-    if !rules::passes(of_table) {
-        return of_table;
-    }
+    table::check_past_header(table)?;
     if q.kind == 4 {
         return sleep_bytes(table, state, q, plan);
     }
     request_bytes(table, state, q, plan)
 }
 
-// How many words a list of bytes has, or that it cannot conform.
-#[derive(Clone, Copy)]
-pub enum ListWords {
-    Words(usize),
-    NotAList,
-}
-
 // The words of so many bytes: a list that conforms has whole words, and no more than a plan.
-fn words_in(bytes: usize) -> ListWords
+fn words_in(bytes: usize) -> Option<usize>
     ensures { result ≡ words_in_bytes bytes }
 {
     if bytes % 4 != 0 {
-        return ListWords::NotAList;
+        return None;
     }
     if bytes / 4 > 65 {
-        return ListWords::NotAList;
+        return None;
     }
-    ListWords::Words(bytes / 4)
+    Some(bytes / 4)
 }
 
 // Whether a list of bytes is that of a request which has passed every check.
@@ -96,7 +80,7 @@ fn conforming(table: &[u8], state: &[u8], q: Request, list: &[u8]) -> bool
     ensures { result ≡ of_bytes (conforming_to (station table.now) (status table.now state.now) q)
         list.now }
 {
-    let ListWords::Words(n) = words_in(list.len()) else {
+    let Some(n) = words_in(list.len()) else {
         return false;
     };
     if n > 33 {
@@ -115,20 +99,14 @@ pub fn check_bytes(table: &[u8], state: &[u8], q: Request, list: &[u8]) -> Verdi
     ensures demand { Demand3Bytes table.now state.now q list.now }
 {
     if !table::header::header_good(table) {
-        return Verdict::Refused(Reason::NotATable, 0);
+        return Err(Refusal(Reason::NotATable, 0));
     }
-    let of_table = table::check_past_header(table);
-    if !rules::passes(of_table) {
-        return of_table;
-    }
-    let v = request::stages::past_table(table, state, true, q);
-    if !rules::passes(v) {
-        return v;
-    }
+    table::check_past_header(table)?;
+    request::stages::past_table(table, state, true, q)?;
     if !conforming(table, state, q, list) {
-        return Verdict::Refused(Reason::NotConforming, 0);
+        return Err(Refusal(Reason::NotConforming, 0));
     }
-    Verdict::Done(0)
+    Ok(0)
 }
 
 // Bring-up on a plan of bytes.
@@ -138,21 +116,15 @@ pub fn bring_up_bytes(table: &[u8], state: &mut [u8], plan: &mut [u8]) -> Verdic
         × (plan.new ≡ (bring_up_bytes table.now state.old plan.old).plan) }
 {
     if !table::header::header_good(table) {
-        return Verdict::Refused(Reason::NotATable, 0);
+        return Err(Refusal(Reason::NotATable, 0));
     }
-    let of_table = table::check_past_header(table);
-    if !rules::passes(of_table) {
-        return of_table;
-    }
+    table::check_past_header(table)?;
     let room = plan.len() >= 4 * switching::write::room(table);
-    let v = bringup::stages::past_table(table, state, room);
-    if !rules::passes(v) {
-        return v;
-    }
+    bringup::stages::past_table(table, state, room)?;
     let mut calls = [0u32; 65];
     let n = bringup::bring_up::write_bring_up(table, state, &mut calls);
     words::write_words(&calls, n, plan, 0);
-    Verdict::Done(n)
+    Ok(n)
 }
 
 // Whether a list of bytes conforms to the bring-up of a state that has passed every check.
@@ -161,7 +133,7 @@ fn conforming_to_bring_up(table: &[u8], state: &[u8], list: &[u8]) -> bool
     ensures { result ≡ of_bytes (conforming_to_bring_up (station table.now) (status table.now state.now))
         list.now }
 {
-    let ListWords::Words(n) = words_in(list.len()) else {
+    let Some(n) = words_in(list.len()) else {
         return false;
     };
     if n > 33 {
@@ -180,18 +152,12 @@ pub fn check_bring_up_bytes(table: &[u8], state: &[u8], list: &[u8]) -> Verdict
     ensures checked { BringUpCheckedBytes table.now state.now list.now }
 {
     if !table::header::header_good(table) {
-        return Verdict::Refused(Reason::NotATable, 0);
+        return Err(Refusal(Reason::NotATable, 0));
     }
-    let of_table = table::check_past_header(table);
-    if !rules::passes(of_table) {
-        return of_table;
-    }
-    let v = bringup::stages::past_table(table, state, true);
-    if !rules::passes(v) {
-        return v;
-    }
+    table::check_past_header(table)?;
+    bringup::stages::past_table(table, state, true)?;
     if !conforming_to_bring_up(table, state, list) {
-        return Verdict::Refused(Reason::NotConforming, 0);
+        return Err(Refusal(Reason::NotConforming, 0));
     }
-    Verdict::Done(0)
+    Ok(0)
 }

@@ -9,8 +9,9 @@ use lib.Dec.{eqb, leb, ltb}
 use Rattle.sets.proofs.Laws.{decide}
 use Rattle.rules.specs.declared.Entry.{Entry}
 use Rattle.rules.specs.declared.Request.{Request}
-use Rattle.rules.specs.declared.Verdict.{Verdict}
-use Rattle.rules.specs.declared.Verdict.TheVariants.{Done, Refused}
+use Rattle.rules.specs.Verdict.{Verdict}
+use Rattle.std.specs.Prelude.{Ok}
+use Rattle.rules.specs.Verdict.{refuse}
 use Rattle.rules.specs.declared.Reason.{Reason}
 use Rattle.rules.specs.declared.Reason.TheVariants.{NotATable, BadRequest, ArmedForOther, NoChoice}
 use Rattle.rules.specs.Index.{every, least}
@@ -44,23 +45,23 @@ form_small q f form n =
     let y = both_true low (eqb q.device 0) x.0 in
     omega (arith, leb-true q.a 4 (both_true (leb 1 q.a) (leb q.a 4) y.0).1)
 
-module _ (t b : List ℕ) (q : Request) (why : Reason) (at : ℕ) (armed : armed_verdict (station t) (entries t b) q ≡ Refused why at) where
-  armed_stops : Refused why at ≡ sleep_verdict (station t) (entries t b) q
+module _ (t b : List ℕ) (q : Request) (why : Reason) (at : ℕ) (armed : armed_verdict (station t) (entries t b) q ≡ refuse why at) where
+  armed_stops : refuse why at ≡ sleep_verdict (station t) (entries t b) q
   unfolding sleep_verdict
-  armed_stops = sym (first_stop _ _ (Done 0) (ap passes armed ∙ refused_stops why at) ∙ armed)
+  armed_stops = sym (first_stop _ _ (Ok 0) (ap passes armed ∙ refused_stops why at) ∙ armed)
 
   left_stops : (chosen : List ℕ) → chosen ≡ states_left t b q chosen
   unfolding states_left
   left_stops chosen = rw (ap passes armed ∙ refused_stops why at) refl
 
 module _ (t b : List ℕ) (q : Request) (f : Bool) (form : f ≡ sleep_form_good q) where
-  armed_10 : not f ≡ true → armed_verdict (station t) (entries t b) q ≡ Refused BadRequest 0
+  armed_10 : not f ≡ true → armed_verdict (station t) (entries t b) q ≡ refuse BadRequest 0
   unfolding armed_verdict
   armed_10 n =
       let stop = unless_stop (sleep_form_good q) BadRequest 0 (sym form ∙ not-true f n) in
-      first_stop (unless (sleep_form_good q) BadRequest 0) _ (Done 0) (ap passes stop ∙ refused_stops BadRequest 0) ∙ stop
+      first_stop (unless (sleep_form_good q) BadRequest 0) _ (Ok 0) (ap passes stop ∙ refused_stops BadRequest 0) ∙ stop
 
-  pub answer_10 : not f ≡ true → Refused BadRequest 0 ≡ sleep_verdict (station t) (entries t b) q
+  pub answer_10 : not f ≡ true → refuse BadRequest 0 ≡ sleep_verdict (station t) (entries t b) q
   answer_10 n = armed_stops t b q BadRequest 0 (armed_10 n)
 
   pub left_10 : not f ≡ true → (chosen : List ℕ) → chosen ≡ states_left t b q chosen
@@ -69,17 +70,17 @@ module _ (t b : List ℕ) (q : Request) (f : Bool) (form : f ≡ sleep_form_good
   -- d is the lowest device that is armed for another sleep state, n the number of devices
   module _ (good : not f ≡ false) (d n : ℕ) (low : d ≡ least (other t b q.a) (count_d t)) (all : n ≡ count_d t) where
     to_armed : armed_verdict (station t) (entries t b) q
-        ≡ first_of (lowest (other t b q.a) (station t).devices (Refused ArmedForOther) ∷ []) (Done 0)
+        ≡ first_of (lowest (other t b q.a) (station t).devices (refuse ArmedForOther) ∷ []) (Ok 0)
     unfolding armed_verdict
-    to_armed = first_pass _ _ (Done 0) (ap passes (unless_of _ BadRequest 0 (sym form ∙ not-false f good)) ∙ done_passes 0)
+    to_armed = first_pass _ _ (Ok 0) (ap passes (unless_of _ BadRequest 0 (sym form ∙ not-false f good)) ∙ done_passes 0)
 
-    armed_20 : d < n → armed_verdict (station t) (entries t b) q ≡ Refused ArmedForOther d
+    armed_20 : d < n → armed_verdict (station t) (entries t b) q ≡ refuse ArmedForOther d
     unfolding station_of
     armed_20 h =
-        let stop = lowest_stop (other t b q.a) (count_d t) d (Refused ArmedForOther) low (omega arith) in
-        to_armed ∙ first_stop _ _ (Done 0) (ap passes stop ∙ refused_stops ArmedForOther d) ∙ stop
+        let stop = lowest_stop (other t b q.a) (count_d t) d (refuse ArmedForOther) low (omega arith) in
+        to_armed ∙ first_stop _ _ (Ok 0) (ap passes stop ∙ refused_stops ArmedForOther d) ∙ stop
 
-    pub answer_20 : d < n → Refused ArmedForOther d ≡ sleep_verdict (station t) (entries t b) q
+    pub answer_20 : d < n → refuse ArmedForOther d ≡ sleep_verdict (station t) (entries t b) q
     answer_20 h = armed_stops t b q ArmedForOther d (armed_20 h)
 
     pub left_20 : d < n → (chosen : List ℕ) → chosen ≡ states_left t b q chosen
@@ -88,8 +89,8 @@ module _ (t b : List ℕ) (q : Request) (f : Bool) (form : f ≡ sleep_form_good
     armed_0 : n ≤ d → passes (armed_verdict (station t) (entries t b) q) ≡ true
     unfolding station_of
     armed_0 h =
-        let pass = lowest_none (other t b q.a) (count_d t) d (Refused ArmedForOther) low (omega arith) in
-        ap passes (to_armed ∙ first_pass _ _ (Done 0) (ap passes pass ∙ done_passes 0) ∙ first_none (Done 0)) ∙ done_passes 0
+        let pass = lowest_none (other t b q.a) (count_d t) d (refuse ArmedForOther) low (omega arith) in
+        ap passes (to_armed ∙ first_pass _ _ (Ok 0) (ap passes pass ∙ done_passes 0) ∙ first_none (Ok 0)) ∙ done_passes 0
 
     pub left_chosen : n ≤ d → (chosen chosen' : List ℕ) → chosen' ≡ least_each t b q.a chosen → chosen' ≡ states_left t b q chosen
     unfolding states_left
@@ -103,19 +104,19 @@ module _ (t b : List ℕ) (q : Request) (f : Bool) (form : f ≡ sleep_form_good
       choice_is = test ∙ every_ext _ _ (count_d t) (λ k l. ap (λ (y : ℕ). ltb y 5) (filled_at _ chosen₀ chosen (count_d t) k least l))
 
       to_choice : sleep_verdict (station t) (entries t b) q
-          ≡ first_of (unless (has_choice (station t) (entries t b) q.a) NoChoice 0 ∷ []) (Done 0)
+          ≡ first_of (unless (has_choice (station t) (entries t b) q.a) NoChoice 0 ∷ []) (Ok 0)
       unfolding sleep_verdict
-      to_choice = first_pass _ _ (Done 0) (armed_0 h)
+      to_choice = first_pass _ _ (Ok 0) (armed_0 h)
 
-      pub answer_21 : not c ≡ true → Refused NoChoice 0 ≡ sleep_verdict (station t) (entries t b) q
+      pub answer_21 : not c ≡ true → refuse NoChoice 0 ≡ sleep_verdict (station t) (entries t b) q
       answer_21 y =
           let stop = unless_stop (has_choice (station t) (entries t b) q.a) NoChoice 0 (sym choice_is ∙ not-true c y) in
-          sym (to_choice ∙ first_stop _ _ (Done 0) (ap passes stop ∙ refused_stops NoChoice 0) ∙ stop)
+          sym (to_choice ∙ first_stop _ _ (Ok 0) (ap passes stop ∙ refused_stops NoChoice 0) ∙ stop)
 
-      pub answer_0 : not c ≡ false → Done 0 ≡ sleep_verdict (station t) (entries t b) q
+      pub answer_0 : not c ≡ false → Ok 0 ≡ sleep_verdict (station t) (entries t b) q
       answer_0 y =
           let pass = unless_of (has_choice (station t) (entries t b) q.a) NoChoice 0 (sym choice_is ∙ not-false c y) in
-          sym (to_choice ∙ first_pass _ _ (Done 0) (ap passes pass ∙ done_passes 0) ∙ first_none (Done 0))
+          sym (to_choice ∙ first_pass _ _ (Ok 0) (ap passes pass ∙ done_passes 0) ∙ first_none (Ok 0))
 
 pub ruleset answers = (answer_10, answer_20, answer_21, answer_0)
 
@@ -137,16 +138,16 @@ module _ (t b : List ℕ) (q : Request) (room : Bool) where
   sleep_table v p e f n = ready_stops room t b _ v (ready_table t v p e f b room n) (sym f ∙ not-true p n)
 
   -- h: whether the header is good
-  pub sleep_header : (h : Bool) → h ≡ header_good t → not h ≡ true → Refused NotATable 0 ≡ sleep_stages room t b q
-  sleep_header h e n = sleep_table (Refused NotATable 0) false (no_table t h e n) (sym (refused_stops NotATable 0)) refl
+  pub sleep_header : (h : Bool) → h ≡ header_good t → not h ≡ true → refuse NotATable 0 ≡ sleep_stages room t b q
+  sleep_header h e n = sleep_table (refuse NotATable 0) false (no_table t h e n) (sym (refused_stops NotATable 0)) refl
 
 -- ---- 1 to 9, then these. The checks of requests answer 10 to kind 4 exactly where 1 to 9 pass
-sleep_bad : (s : Station) (entries : ℕ → Entry) (q : Request) → is_sleep q ≡ true → request_verdict s entries q ≡ Refused BadRequest 0
+sleep_bad : (s : Station) (entries : ℕ → Entry) (q : Request) → is_sleep q ≡ true → request_verdict s entries q ≡ refuse BadRequest 0
 unfolding request_verdict form_good numbers_good
 sleep_bad s entries q k =
     let bad : form_good s q ≡ false = rw (eqb-true q.kind 4 k) (and-false (ltb q.device s.devices)) in
     let stop = unless_stop (form_good s q) BadRequest 0 bad in
-    first_stop _ _ (Done 0) (ap passes stop ∙ refused_stops BadRequest 0) ∙ stop
+    first_stop _ _ (Ok 0) (ap passes stop ∙ refused_stops BadRequest 0) ∙ stop
 
 module _ (t b : List ℕ) (room : Bool) (q : Request) (k : is_sleep q ≡ true) (v : Verdict) (e : v ≡ stages_verdict room t b q) (n : ℕ)
     (f : n ≡ number_of v) where
@@ -154,8 +155,8 @@ module _ (t b : List ℕ) (room : Bool) (q : Request) (k : is_sleep q ≡ true) 
   unfolding stages_verdict request_stage
   ready_ten p =
       let bad = sleep_bad (station t) (status t b).entries q k in
-      let all : v ≡ Refused BadRequest 0 =
-      e ∙ first_pass _ _ (Done 0) p ∙ first_stop _ [] (Done 0) (ap passes bad ∙ refused_stops BadRequest 0) ∙ bad in
+      let all : v ≡ refuse BadRequest 0 =
+      e ∙ first_pass _ _ (Ok 0) p ∙ first_stop _ [] (Ok 0) (ap passes bad ∙ refused_stops BadRequest 0) ∙ bad in
       f ∙ ap number_of all
 
   ten_ready : n ≡ 10 → passes (ready_verdict room t b) ≡ true
@@ -163,7 +164,7 @@ module _ (t b : List ℕ) (room : Bool) (q : Request) (k : is_sleep q ≡ true) 
   ten_ready z =
       decide (passes (ready_verdict room t b)) (λ p. p)
       (λ p.
-      let same : v ≡ ready_verdict room t b = e ∙ first_stop _ _ (Done 0) p in
+      let same : v ≡ ready_verdict room t b = e ∙ first_stop _ _ (Ok 0) p in
       absurd (omega (arith, z, f, ap number_of same, ready_below room t b q)))
 
   not_ready : (n ≡ 10 → ⊥) → passes (ready_verdict room t b) ≡ false
@@ -171,7 +172,7 @@ module _ (t b : List ℕ) (room : Bool) (q : Request) (k : is_sleep q ≡ true) 
 
   pub sleep_stop : (n ≡ 10 → ⊥) → v ≡ sleep_stages room t b q
   unfolding sleep_stages stages_verdict
-  sleep_stop z = e ∙ first_stop _ _ (Done 0) (not_ready z) ∙ sym (first_stop _ _ (Done 0) (not_ready z))
+  sleep_stop z = e ∙ first_stop _ _ (Ok 0) (not_ready z) ∙ sym (first_stop _ _ (Ok 0) (not_ready z))
 
   pub stages_stop : (n ≡ 10 → ⊥) → (chosen : List ℕ) → chosen ≡ stages_left room t b q chosen
   unfolding stages_left
@@ -184,7 +185,7 @@ module _ (t b : List ℕ) (room : Bool) (q : Request) (k : is_sleep q ≡ true) 
 
     pub sleep_last : (x : Verdict) → x ≡ sleep_verdict (station t) (entries t b) q → x ≡ sleep_stages room t b q
     unfolding sleep_stages sleep_stage status_of sleep_verdict
-    sleep_last x i = i ∙ sym (first_pass _ _ (Done 0) (ten_ready z) ∙ first_alone _)
+    sleep_last x i = i ∙ sym (first_pass _ _ (Ok 0) (ten_ready z) ∙ first_alone _)
 
     pub stages_last : (chosen chosen' : List ℕ) → chosen' ≡ states_left t b q chosen → chosen' ≡ stages_left room t b q chosen
     unfolding stages_left

@@ -12,7 +12,7 @@ ghost use Rattle.rules.specs.Sleep.{sleep_form_good, armed_for_other, sleep_verd
 ghost use Rattle.status.specs.Ready.{Ready};
 ghost use Rattle.sleep.specs.Chosen.{states_left};
 
-use rules::{Entry, Reason, Request, Verdict};
+use rules::{Entry, Reason, Refusal, Request, Verdict};
 
 // 10: the sleep state is 1 to 4, and the other two numbers are zero.
 fn form_good(q: Request) -> bool
@@ -65,16 +65,16 @@ pub fn verdict(table: &[u8], devices: &[u8], q: Request, chosen: &mut [u8]) -> V
         × (chosen.new ≡ states_left table.now devices.now q chosen.old) }
 {
     if !form_good(q) {
-        return Verdict::Refused(Reason::BadRequest, 0);
+        return Err(Refusal(Reason::BadRequest, 0));
     }
     let x = q.a as u8;
     let d = lowest_other(table, devices, x);
     if d < table::fields::devices(table) {
-        return Verdict::Refused(Reason::ArmedForOther, d);
+        return Err(Refusal(Reason::ArmedForOther, d));
     }
     crate::choice::choose(table, devices, x, chosen);
     if !crate::choice::has_choice(table, chosen) {
-        return Verdict::Refused(Reason::NoChoice, 0);
+        return Err(Refusal(Reason::NoChoice, 0));
     }
-    Verdict::Done(0)
+    Ok(0)
 }

@@ -8,8 +8,9 @@ use borrow.Author.Tests.{eq-eqb, ne_eqb, not-true, not-false}
 use lib.Dec.{eqb, ltb}
 use lib.ListN.{length}
 use Rattle.sets.proofs.Laws.{decide}
-use Rattle.rules.specs.declared.Verdict.{Verdict}
-use Rattle.rules.specs.declared.Verdict.TheVariants.{Done, Refused}
+use Rattle.rules.specs.Verdict.{Verdict}
+use Rattle.std.specs.Prelude.{Ok}
+use Rattle.rules.specs.Verdict.{refuse}
 use Rattle.rules.specs.declared.Reason.TheVariants.{BadState, Inconsistent}
 use Rattle.rules.specs.Index.{least}
 use Rattle.rules.specs.Answers.{passes, first_of, unless, lowest}
@@ -48,19 +49,19 @@ pub ruleset image_laws = (sized_done, length_bad, entries_bad, on_last)
 
 -- ---- a check of numbered things ends a chain as it is
 lowest_last : (bad : ℕ → Bool) (n : ℕ) (refusal : ℕ → Verdict) → ((i : ℕ) → passes (refusal i) ≡ false)
-    → first_of (lowest bad n refusal ∷ []) (Done 0) ≡ lowest bad n refusal
+    → first_of (lowest bad n refusal ∷ []) (Ok 0) ≡ lowest bad n refusal
 unfolding lowest passes
 lowest_last bad n refusal r =
-    decide (ltb (least bad n) n) (λ e. rw e (first_stop (refusal (least bad n)) [] (Done 0) (r (least bad n))))
-    (λ e. rw e (first_pass (Done 0) [] (Done 0) refl ∙ (unfold first_of in refl)))
+    decide (ltb (least bad n) n) (λ e. rw e (first_stop (refusal (least bad n)) [] (Ok 0) (r (least bad n))))
+    (λ e. rw e (first_pass (Ok 0) [] (Ok 0) refl ∙ (unfold first_of in refl)))
 
 -- ---- 7 and 8; g is what the test of the image returned
 module _ (t b : List ℕ) (g : Bool) (i : g ≡ image_good t b) where
-  pub state_values : not g ≡ true → Refused BadState 0 ≡ state_verdict t b
+  pub state_values : not g ≡ true → refuse BadState 0 ≡ state_verdict t b
   unfolding state_verdict values_verdict unless first_of passes
   state_values n = rw (← i, not-true g n) refl
 
-  pub but_power_values : not g ≡ true → Refused BadState 0 ≡ state_but_power_verdict t b
+  pub but_power_values : not g ≡ true → refuse BadState 0 ≡ state_but_power_verdict t b
   unfolding state_but_power_verdict values_verdict unless first_of passes
   but_power_values n = rw (← i, not-true g n) refl
 
@@ -72,7 +73,7 @@ module _ (t b : List ℕ) (g : Bool) (i : g ≡ image_good t b) where
     pub image_long : length b ≡ image_size (width t)
     image_long = values.long
 
-    pub ready_by : table_verdict t ≡ Done 0 → Ready t b
+    pub ready_by : table_verdict t ≡ Ok 0 → Ready t b
     unfolding status_of
     ready_by e =
         let a = accepted t (rw e (done_passes 0)) in
@@ -87,34 +88,34 @@ module _ (t b : List ℕ) (g : Bool) (i : g ≡ image_good t b) where
         → v ≡ state_verdict t b
     unfolding state_verdict values_verdict status_of consistency_verdict
     state_is on v r c =
-        rw (← i, not-false g n, ← r, unless_of true BadState 0 refl, first_pass (Done 0) _ (Done 0) (done_passes 0))
-        (c ∙ with_power (station t) (status_with t b on) ∙ sym (lowest_last _ (station t).devices (Refused Inconsistent) (refused_stops Inconsistent)))
+        rw (← i, not-false g n, ← r, unless_of true BadState 0 refl, first_pass (Ok 0) _ (Ok 0) (done_passes 0))
+        (c ∙ with_power (station t) (status_with t b on) ∙ sym (lowest_last _ (station t).devices (refuse Inconsistent) (refused_stops Inconsistent)))
 
     -- whatever is on
     pub but_power_is : (on : ℕ) (v : Verdict) → v ≡ consistency_verdict_with false (station t) (status_with t b on) → v ≡ state_but_power_verdict t b
     unfolding state_but_power_verdict values_verdict status_of but_power_verdict
     but_power_is on v c =
-        rw (← i, not-false g n, unless_of true BadState 0 refl, first_pass (Done 0) _ (Done 0) (done_passes 0))
+        rw (← i, not-false g n, unless_of true BadState 0 refl, first_pass (Ok 0) _ (Ok 0) (done_passes 0))
         (c ∙ without_power (station t) (status_with t b on)
-        ∙ sym (lowest_last _ (station t).devices (Refused Inconsistent) (refused_stops Inconsistent)))
+        ∙ sym (lowest_last _ (station t).devices (refuse Inconsistent) (refused_stops Inconsistent)))
 
 pub ruleset state_laws = (sized_done, image_long, ready_by, state_values, state_is)
 
 pub ruleset but_power_laws = (sized_done, ready_by, but_power_values, but_power_is)
 
 -- ---- 1 to 8; v is what the check of the table answered, p whether that passes
-state_alone : (t b : List ℕ) → first_of (state_verdict t b ∷ []) (Done 0) ≡ state_verdict t b
+state_alone : (t b : List ℕ) → first_of (state_verdict t b ∷ []) (Ok 0) ≡ state_verdict t b
 unfolding state_verdict
 state_alone t b = first_alone _
 
 module _ (t b : List ℕ) (v : Verdict) (p : Bool) (e : v ≡ table_verdict t) (f : p ≡ passes v) where
   pub table_first : not p ≡ true → v ≡ table_and_state_verdict t b
   unfolding table_and_state_verdict
-  table_first n = rw (← e) (sym (first_stop v _ (Done 0) (sym f ∙ not-true p n)))
+  table_first n = rw (← e) (sym (first_stop v _ (Ok 0) (sym f ∙ not-true p n)))
 
   pub state_second : not p ≡ false → (u : Verdict) → u ≡ state_verdict t b → u ≡ table_and_state_verdict t b
   unfolding table_and_state_verdict
-  state_second n u g = g ∙ sym (rw (← e) (first_pass v _ (Done 0) (sym f ∙ not-false p n) ∙ state_alone t b))
+  state_second n u g = g ∙ sym (rw (← e) (first_pass v _ (Ok 0) (sym f ∙ not-false p n) ∙ state_alone t b))
 
 pub ruleset both_laws = (table_passed, table_first, state_second)
 
@@ -122,7 +123,7 @@ pub ruleset both_laws = (table_passed, table_first, state_second)
 module _ (t b : List ℕ) (v : Verdict) (p : Bool) (e : v ≡ table_verdict t) (f : p ≡ passes v) where
   fresh_first : not p ≡ true → fresh_verdict t b ≡ v
   unfolding fresh_verdict
-  fresh_first n = rw (← e) (first_stop v _ (Done 0) (sym f ∙ not-true p n))
+  fresh_first n = rw (← e) (first_stop v _ (Ok 0) (sym f ∙ not-true p n))
 
   pub fresh_refused : not p ≡ true → v ≡ (fresh t b).verdict
   unfolding fresh outcome
@@ -132,14 +133,14 @@ module _ (t b : List ℕ) (v : Verdict) (p : Bool) (e : v ≡ table_verdict t) (
   unfolding fresh outcome
   fresh_refused_state n = rw (fresh_first n, ← f, not-true p n) refl
 
-  fresh_second : not p ≡ false → (good : Bool) → eqb (length b) (image_size (width t)) ≡ good → fresh_verdict t b ≡ cond good (Done 0)
-      (Refused BadState 0)
+  fresh_second : not p ≡ false → (good : Bool) → eqb (length b) (image_size (width t)) ≡ good → fresh_verdict t b ≡ cond good (Ok 0)
+      (refuse BadState 0)
   unfolding fresh_verdict
-  fresh_second n true q = rw (← e, first_pass v _ (Done 0) (sym f ∙ not-false p n), q) (unfold unless first_of passes in refl)
-  fresh_second n false q = rw (← e, first_pass v _ (Done 0) (sym f ∙ not-false p n), q) (unfold unless first_of passes in refl)
+  fresh_second n true q = rw (← e, first_pass v _ (Ok 0) (sym f ∙ not-false p n), q) (unfold unless first_of passes in refl)
+  fresh_second n false q = rw (← e, first_pass v _ (Ok 0) (sym f ∙ not-false p n), q) (unfold unless first_of passes in refl)
 
   module _ (k : ℕ) (z : k ≡ image_size (width t)) (n : not p ≡ false) where
-    pub fresh_length : (length b ≡ k → ⊥) → Refused BadState 0 ≡ (fresh t b).verdict
+    pub fresh_length : (length b ≡ k → ⊥) → refuse BadState 0 ≡ (fresh t b).verdict
     unfolding fresh outcome
     fresh_length l = sym (fresh_second n false (ne_eqb (length b) (image_size (width t)) (rw z at l)))
 
@@ -147,7 +148,7 @@ module _ (t b : List ℕ) (v : Verdict) (p : Bool) (e : v ≡ table_verdict t) (
     unfolding fresh outcome passes
     fresh_length_state l = rw (fresh_second n false (ne_eqb (length b) (image_size (width t)) (rw z at l))) refl
 
-    pub fresh_done : length b ≡ k → Done 0 ≡ (fresh t b).verdict
+    pub fresh_done : length b ≡ k → Ok 0 ≡ (fresh t b).verdict
     unfolding fresh outcome
     fresh_done l = sym (fresh_second n true (eq-eqb (length b) (image_size (width t)) (l ∙ z)))
 

@@ -10,7 +10,8 @@ use lib.Dec.{eqb, leb, ltb}
 use lib.ListN.{length, get_or}
 use Rattle.sets.specs.Sets.{subset}
 use Rattle.rules.specs.declared.Entry.{Entry}
-use Rattle.rules.specs.declared.Verdict.TheVariants.{Done, Refused}
+use Rattle.std.specs.Prelude.{Ok}
+use Rattle.rules.specs.Verdict.{refuse}
 use Rattle.rules.specs.declared.Reason.TheVariants.{Inconsistent}
 use Rattle.rules.specs.Answers.{lowest}
 use Rattle.rules.specs.Station.{Station, width, limit, count_d, station_of, station}
@@ -151,15 +152,15 @@ pub ruleset keep_laws = (
 
 -- ---- all devices
 module _ (power : Bool) (s : Station) (st : Status) (n i : ℕ) (look : Looking (consistent_with power s st) n i) (all : n ≡ s.devices) where
-  pub inconsistent : (b : Bool) → i < n → b ≡ consistent_with power s st i → not b ≡ true → Refused Inconsistent i ≡ consistency_verdict_with power s st
+  pub inconsistent : (b : Bool) → i < n → b ≡ consistent_with power s st i → not b ≡ true → refuse Inconsistent i ≡ consistency_verdict_with power s st
   unfolding consistency_verdict_with
-  inconsistent b h e t = lowest_found (consistent_with power s st) n i b (Refused Inconsistent) look h e t
-      ∙ ap (λ (k : ℕ). lowest (λ j. not (consistent_with power s st j)) k (Refused Inconsistent)) all
+  inconsistent b h e t = lowest_found (consistent_with power s st) n i b (refuse Inconsistent) look h e t
+      ∙ ap (λ (k : ℕ). lowest (λ j. not (consistent_with power s st j)) k (refuse Inconsistent)) all
 
-  pub consistent_all : n ≤ i → Done 0 ≡ consistency_verdict_with power s st
+  pub consistent_all : n ≤ i → Ok 0 ≡ consistency_verdict_with power s st
   unfolding consistency_verdict_with
-  consistent_all h = lowest_all (consistent_with power s st) n i (Refused Inconsistent) look h
-      ∙ ap (λ (k : ℕ). lowest (λ j. not (consistent_with power s st j)) k (Refused Inconsistent)) all
+  consistent_all h = lowest_all (consistent_with power s st) n i (refuse Inconsistent) look h
+      ∙ ap (λ (k : ℕ). lowest (λ j. not (consistent_with power s st j)) k (refuse Inconsistent)) all
 
 -- with a look at power it is answer 8, and without one answer 8 of bring-up
 pub with_power : (s : Station) (st : Status) → consistency_verdict_with true s st ≡ consistency_verdict s st
@@ -169,6 +170,6 @@ with_power s st = refl
 pub without_power : (s : Station) (st : Status) → consistency_verdict_with false s st ≡ but_power_verdict s st.entries
 unfolding consistency_verdict_with but_power_verdict consistent_with
 without_power s st =
-    ap (λ (f : ℕ → Bool). lowest f s.devices (Refused Inconsistent)) (fun_ext λ d. ap not (and-true (consistent_but_power s st.entries d)))
+    ap (λ (f : ℕ → Bool). lowest f s.devices (refuse Inconsistent)) (fun_ext λ d. ap not (and-true (consistent_but_power s st.entries d)))
 
 pub ruleset turn_laws = (devices_are, inconsistent, consistent_all)

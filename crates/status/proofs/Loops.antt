@@ -4,8 +4,8 @@ use mathlib.Core.Bool.{Bool, true, false, not}
 use Prim.Native.Nat.{ℕ, ◌+◌, ◌-◌, ◌≤◌, ◌<◌}
 use native.Mathlib.Omega.{arith}
 use borrow.Author.Tests.{le-ltb}
-use Rattle.rules.specs.declared.Verdict.{Verdict}
-use Rattle.rules.specs.declared.Verdict.TheVariants.{Done}
+use Rattle.rules.specs.Verdict.{Verdict}
+use Rattle.std.specs.Prelude.{Ok}
 use Rattle.rules.specs.Index.{least_from, least}
 use Rattle.rules.specs.Answers.{lowest}
 use Rattle.rules.proofs.Index.{starts, found, next, done}
@@ -30,7 +30,7 @@ module _ (good : ℕ → Bool) (n : ℕ) where
       (found (λ j. not (good j)) i n _ (not b) inv h (ap not e) t) h)
 
   -- none does
-  pub lowest_all : (i : ℕ) (refusal : ℕ → Verdict) → Looking good n i → n ≤ i → Done 0 ≡ lowest (λ j. not (good j)) n refusal
+  pub lowest_all : (i : ℕ) (refusal : ℕ → Verdict) → Looking good n i → n ≤ i → Ok 0 ≡ lowest (λ j. not (good j)) n refusal
   unfolding lowest
   lowest_all i refusal inv h = rw (le-ltb (least (λ j. not (good j)) n) n (omega (arith, done (λ j. not (good j)) i n _ inv h))) refl
 

@@ -2,8 +2,8 @@
 -- as the code asks for it.
 use Rattle.std.specs.Prelude.{ℕ, ◌≤◌, ◌<◌, ◌≡◌, Bool, true, not, ◌&&◌, ◌||◌, List, length}
 use Rattle.rules.specs.declared.Entry.{Entry}
-use Rattle.rules.specs.declared.Verdict.{Verdict}
-use Rattle.rules.specs.declared.Verdict.TheVariants.{Refused}
+use Rattle.rules.specs.Verdict.{Verdict}
+use Rattle.rules.specs.Verdict.{refuse}
 use Rattle.rules.specs.declared.Reason.TheVariants.{Inconsistent}
 use Rattle.rules.specs.Answers.{lowest}
 use Rattle.rules.specs.Station.{Station, width, limit, count_d, station}
@@ -28,7 +28,7 @@ consistent_with power s st d = consistent_but_power s st.entries d && (not power
 
 -- 8 with the lowest device that is not, or done
 unfoldable pub consistency_verdict_with : Bool → Station → Status → Verdict
-consistency_verdict_with power s st = lowest (λ d. not (consistent_with power s st d)) s.devices (Refused Inconsistent)
+consistency_verdict_with power s st = lowest (λ d. not (consistent_with power s st d)) s.devices (refuse Inconsistent)
 
 -- the status of these bytes with another entry for device d and an on-set
 abbrev pub entry_with : List ℕ → List ℕ → ℕ → Entry → ℕ → Status

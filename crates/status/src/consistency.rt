@@ -98,8 +98,8 @@ pub fn consistency(table: &[u8], devices: &[u8], on: u64, power: bool) -> rules:
         i += 1;
         next += size;
         if !consistent(table, devices, on, power, d, at, w) {
-            return rules::Verdict::Refused(rules::Reason::Inconsistent, d);
+            return Err(rules::Refusal(rules::Reason::Inconsistent, d));
         }
     }
-    rules::Verdict::Done(0)
+    Ok(0)
 }

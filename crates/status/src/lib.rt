@@ -8,17 +8,17 @@ pub mod state;
 pub mod values;
 
 ghost use Rattle.std.specs.Prelude.{◌≡◌};
-ghost use Rattle.rules.specs.declared.Verdict.TheVariants.{Done};
+ghost use Rattle.std.specs.Prelude.{Ok};
 ghost use Rattle.rules.specs.Table.{table_verdict};
 ghost use Rattle.rules.specs.Status.{image_good, state_verdict};
 ghost use Rattle.rules.specs.BringUp.{state_but_power_verdict};
 ghost use Rattle.rules.specs.Outcomes.{fresh, table_and_state_verdict};
 
-use rules::{Reason, Verdict};
+use rules::{Reason, Refusal, Verdict};
 
 // Whether an image has its size and every value is in range: else it is answered 7.
 pub fn image_good(table: &[u8], image: &[u8]) -> bool
-    requires { table_verdict table.now ≡ Done 0 }
+    requires { table_verdict table.now ≡ Ok 0 }
     ensures { result ≡ image_good table.now image.now }
 {
     if image.len() != crate::image::size(table) {
@@ -32,11 +32,11 @@ pub fn image_good(table: &[u8], image: &[u8]) -> bool
 
 // 7 and 8 of an image, for an accepted table.
 pub fn check_state(table: &[u8], image: &[u8]) -> Verdict
-    requires { table_verdict table.now ≡ Done 0 }
+    requires { table_verdict table.now ≡ Ok 0 }
     ensures { result ≡ state_verdict table.now image.now }
 {
     if !image_good(table, image) {
-        return Verdict::Refused(Reason::BadState, 0);
+        return Err(Refusal(Reason::BadState, 0));
     }
     let on = crate::image::on_set(table, image);
     crate::consistency::consistency(table, image, on, true)
@@ -44,11 +44,11 @@ pub fn check_state(table: &[u8], image: &[u8]) -> Verdict
 
 // The same without rule 4 of RULES.md 4.3, and so whatever is on.
 pub fn check_but_power(table: &[u8], image: &[u8]) -> Verdict
-    requires { table_verdict table.now ≡ Done 0 }
+    requires { table_verdict table.now ≡ Ok 0 }
     ensures { result ≡ state_but_power_verdict table.now image.now }
 {
     if !image_good(table, image) {
-        return Verdict::Refused(Reason::BadState, 0);
+        return Err(Refusal(Reason::BadState, 0));
     }
     crate::consistency::consistency(table, image, 0, false)
 }
@@ -57,10 +57,7 @@ pub fn check_but_power(table: &[u8], image: &[u8]) -> Verdict
 pub fn verdict(table: &[u8], image: &[u8]) -> Verdict
     ensures { result ≡ table_and_state_verdict table.now image.now }
 {
-    let of_table = table::check_table(table);
-    if !rules::passes(of_table) {
-        return of_table;
-    }
+    table::check_table(table)?;
     check_state(table, image)
 }
 
@@ -69,13 +66,10 @@ pub fn fresh(table: &[u8], state: &mut [u8]) -> Verdict
     ensures { (result ≡ (fresh table.now state.old).verdict)
         × (state.new ≡ (fresh table.now state.old).state) }
 {
-    let verdict = table::check_table(table);
-    if !rules::passes(verdict) {
-        return verdict;
-    }
+    table::check_table(table)?;
     if state.len() != crate::image::size(table) {
-        return Verdict::Refused(Reason::BadState, 0);
+        return Err(Refusal(Reason::BadState, 0));
     }
     crate::image::write_fresh(table, state);
-    Verdict::Done(0)
+    Ok(0)
 }

@@ -8,8 +8,9 @@ use borrow.Author.Tests.{not-true, not-false}
 use lib.ListN.{length, take}
 use Rattle.words.specs.Words.{put, word_bytes}
 use Rattle.words.proofs.Put.{take_put}
-use Rattle.rules.specs.declared.Verdict.{Verdict}
-use Rattle.rules.specs.declared.Verdict.TheVariants.{Done, Refused}
+use Rattle.rules.specs.Verdict.{Verdict}
+use Rattle.std.specs.Prelude.{Ok}
+use Rattle.rules.specs.Verdict.{refuse}
 use Rattle.rules.specs.declared.Reason.TheVariants.{NotConforming}
 use Rattle.rules.specs.Answers.{passes}
 use Rattle.rules.specs.Outcomes.{Outcome, outcome, plan_verdict, plan_outcome, list_verdict}
@@ -44,7 +45,7 @@ module _ (checks v : Verdict) (p : Bool) (e : v ≡ checks) (f : p ≡ passes v)
         record { verdict = sym same; state = rw no refl; plan = rw no refl }
 
     pub outcome_written : not p ≡ false → (n : ℕ) (b' plan' : List ℕ) → n ≡ length list → b' ≡ after → plan' ≡ put plan 0 (written list)
-        → Answered (Done n) b' plan' (plan_outcome written checks b plan after list)
+        → Answered (Ok n) b' plan' (plan_outcome written checks b plan after list)
     outcome_written k n b' plan' c s w =
         let is = plan_outcome_lem written checks b plan after list (answer_passed v checks p e f k) in
         record {
@@ -65,7 +66,7 @@ module _ (checks v : Verdict) (p : Bool) (e : v ≡ checks) (f : p ≡ passes v)
         sym (first_pass _ _ _ (answer_passed v checks p e f n)
         ∙ rw (← g, unless_stop c NotConforming 0 (not-true c z)) (first_stop _ _ _ (refused_stops NotConforming 0)))
 
-    pub list_done : not c ≡ false → Done 0 ≡ list_verdict checks test
+    pub list_done : not c ≡ false → Ok 0 ≡ list_verdict checks test
     unfolding list_verdict
     list_done z =
         sym (first_pass _ _ _ (answer_passed v checks p e f n)

@@ -9,7 +9,8 @@ use lib.Pow.{pow_mono}
 use Rattle.sets.specs.Sets.{member, minus}
 use Rattle.sets.proofs.Bits.{both}
 use Rattle.sets.proofs.Laws.{member_minus, minus_lt}
-use Rattle.rules.specs.declared.OptionalCall.{OptionalCall}
+use Rattle.rules.specs.declared.Call.{Call}
+use Rattle.std.specs.Prelude.{Option}
 use Rattle.rules.specs.Station.{Station, width, Wide, count_r}
 use Rattle.rules.specs.Calls.{word_of, list_of, to_turn_on, to_turn_off, turn_on, turn_off, arrange, switch_calls, switching_of, switching_words}
 use Rattle.table.specs.Layout.{WellSized}
@@ -26,7 +27,7 @@ narrow_fits t w a z e h n l =
     lt_of_lt_of_le l (pow_mono few)
 
 -- from its parts
-pub switching_is : (own : OptionalCall) (last : Bool) (on target u v : ℕ) → u ≡ minus target on → v ≡ minus on target
+pub switching_is : (own : Option Call) (last : Bool) (on target u v : ℕ) → u ≡ minus target on → v ≡ minus on target
     → record { added = u; removed = v; own = own; last = last } ≡ switching_of own last on target
 unfolding to_turn_on to_turn_off
 switching_is own last on target u v e f = rw (e, f) refl
@@ -38,7 +39,7 @@ minus_disjoint x y r =
     rw (member_minus x y r, member_minus y x r)
     (both (λ (a b : Bool). (a && not b) && (b && not a) ≡ false) refl refl refl refl (member x r) (member y r))
 
-module _ (own : OptionalCall) (last : Bool) (on target : ℕ) where
+module _ (own : Option Call) (last : Bool) (on target : ℕ) where
   pub switching_good : (t : List ℕ) → on < 2 ^ count_r t → target < 2 ^ count_r t → OptionalInRange own
       → GoodSwitching t (switching_of own last on target)
   unfolding to_turn_on to_turn_off

@@ -19,8 +19,7 @@ use Rattle.laws.proofs.Take.{take_stop, take_short, take_bad, take_one}
 use Rattle.table.specs.Layout.{WellSized}
 use Rattle.table.proofs.Readers.{resources_few}
 use Rattle.calls.specs.Switch.{switch_word}
-use Rattle.switching.specs.declared.decode.OptionalResource.{OptionalResource}
-use Rattle.switching.specs.declared.decode.OptionalResource.TheVariants.{Resource, NoResource}
+use Rattle.std.specs.Prelude.{Option, Some, None}
 use Rattle.switching.specs.Decode.{switched}
 use Rattle.switching.specs.Phases.{follows, take_phase, comes_next}
 use Rattle.switching.proofs.Switched.{come_none, come_names, come_is}
@@ -83,14 +82,14 @@ module _ (s : Station) (off : Bool) (todo : ℕ) (first : Bool) (last : ℕ) whe
           sym (ap (take_phase s off todo first last) (drop-cons l i 0 h) ∙ take_bad _ _ todo first last w _
           (ne_eqb todo 0 (omega arith)) m) ∙ inv
 
-      pub phase_other : (found : OptionalResource) → found ≡ switched off (call_of w) → found ≡ NoResource → refused ≡ v
+      pub phase_other : (found : Option ℕ) → found ≡ switched off (call_of w) → found ≡ None → refused ≡ v
       phase_other found e f = stops (come_none s off todo first last w (sym e ∙ f))
 
       -- and switches r, a number of one byte
-      module _ (found : OptionalResource) (n r : ℕ) (e : found ≡ switched off (call_of w)) (f : found ≡ Resource n)
+      module _ (found : Option ℕ) (n r : ℕ) (e : found ≡ switched off (call_of w)) (f : found ≡ Some n)
           (same : r ≡ n) (u : r < 256) where
-        says : switched off (call_of w) ≡ Resource r
-        says = sym e ∙ f ∙ ap Resource (sym same)
+        says : switched off (call_of w) ≡ Some r
+        says = sym e ∙ f ∙ ap Some (sym same)
 
         pub phase_bad : (b : Bool) → b ≡ comes_next s off todo first last r → not b ≡ true → refused ≡ v
         phase_bad b m z = stops (come_is s off todo first last w r u says ∙ sym m ∙ not-true b z)

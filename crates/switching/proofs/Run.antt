@@ -12,8 +12,7 @@ use Rattle.words.specs.Words.{put}
 use Rattle.words.proofs.Put.{put_none, put_put, length_put, sets_put}
 use Rattle.rules.specs.Station.{Station, width, count_r, station_of, station}
 use Rattle.rules.specs.declared.Call.{Call}
-use Rattle.rules.specs.declared.OptionalCall.{OptionalCall}
-use Rattle.rules.specs.declared.OptionalCall.TheVariants.{Is, NoCall}
+use Rattle.std.specs.Prelude.{Option, Some, None}
 use Rattle.rules.specs.declared.Switching.{Switching}
 use Rattle.rules.specs.Calls.{word_of, list_of, members_from, earlier, order_in, rising, arrange, switching_words}
 use Rattle.rules.specs.Outcomes.{list_room}
@@ -27,16 +26,16 @@ use Rattle.switching.specs.Switching.{Disjoint, GoodSwitching}
 
 -- ---- the own call's word
 
-pub own_room : (o : OptionalCall) (c : Call) (at n : ℕ) → at + length (list_of o) ≤ n → o ≡ Is c → at < n
+pub own_room : (o : Option Call) (c : Call) (at n : ℕ) → at + length (list_of o) ≤ n → o ≡ Some c → at < n
 unfolding list_of
 own_room o c at n h e = omega (arith, rw e at h)
 
-pub own_word : (o : OptionalCall) (c : Call) (w at : ℕ) (d : List ℕ) → at + length (list_of o) ≤ length d → o ≡ Is c → w ≡ word_of c
+pub own_word : (o : Option Call) (c : Call) (w at : ℕ) (d : List ℕ) → at + length (list_of o) ≤ length d → o ≡ Some c → w ≡ word_of c
     → (at + 1 ≡ at + length (map word_of (list_of o))) × (set d at w ≡ put d at (map word_of (list_of o)))
 unfolding list_of
 own_word o c w at d h e f = rw (e, f) (refl, sets_put d at (word_of c ∷ []) (rw e at h))
 
-pub no_own_word : (o : OptionalCall) (at : ℕ) (d : List ℕ) → o ≡ NoCall → (at ≡ at + length (map word_of (list_of o)))
+pub no_own_word : (o : Option Call) (at : ℕ) (d : List ℕ) → o ≡ None → (at ≡ at + length (map word_of (list_of o)))
     × (d ≡ put d at (map word_of (list_of o)))
 unfolding list_of
 no_own_word o at d e = rw e (omega arith, sym (put_none d at))
@@ -98,10 +97,10 @@ phase_fits t on off h =
     let s = station t in
     unfold station_of in omega (arith, phase_long s on off, switch_long false s on, switch_long true s off, rising_fit s on off h)
 
-pub own_long : (o : OptionalCall) → length (list_of o) ≤ 1
+pub own_long : (o : Option Call) → length (list_of o) ≤ 1
 unfolding list_of
-own_long (Is c) = omega arith
-own_long NoCall = omega arith
+own_long (Some c) = omega arith
+own_long None = omega arith
 
 -- ---- all words
 

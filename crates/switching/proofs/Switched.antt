@@ -7,34 +7,34 @@ use borrow.Author.Tests.{eqb-true, eq-eqb}
 use lib.Dec.{eqb}
 use Rattle.sets.proofs.Laws.{decide}
 use Rattle.rules.specs.declared.Call.TheVariants.{ResourceOn, ResourceOff, SetState, SetWake}
-use Rattle.rules.specs.declared.OptionalCall.{OptionalCall}
-use Rattle.rules.specs.declared.OptionalCall.TheVariants.{Is, NoCall}
+use Rattle.rules.specs.declared.Call.{Call}
+use Rattle.std.specs.Prelude.{Option, Some, None}
 use Rattle.rules.specs.Station.{Station}
 use Rattle.rules.specs.Calls.{call_of}
 use Rattle.rules.specs.Check.{on_word, off_word, resource_in, may_come}
 use Rattle.calls.specs.Switch.{switch_word}
 use Rattle.calls.proofs.Inverse.{call_of_word, word_of_call}
-use Rattle.switching.specs.declared.decode.OptionalResource.TheVariants.{Resource, NoResource}
+use Rattle.std.specs.Prelude.{Some, None}
 use Rattle.switching.specs.Decode.{switched_by, switched}
 use Rattle.switching.specs.Phases.{follows, comes_next}
 
-not_none : (r : ℕ) → Resource r ≡ NoResource → ⊥
+not_none : (r : ℕ) → Some r ≡ None → ⊥
 not_none r e = let z : ◌≡◌ {A = ℕ} 0 1 = cc in omega arith
 
-word_switches : (off : Bool) (r : ℕ) → r < 256 → switched off (call_of (switch_word off r)) ≡ Resource r
+word_switches : (off : Bool) (r : ℕ) → r < 256 → switched off (call_of (switch_word off r)) ≡ Some r
 unfolding switch_word switched switched_by
 word_switches true r h = ap (switched true) (call_of_word (ResourceOff r) h)
 word_switches false r h = ap (switched false) (call_of_word (ResourceOn r) h)
 
-switches_word : (w r : ℕ) (off : Bool) (o : OptionalCall) → call_of w ≡ o → switched off o ≡ Resource r → w ≡ switch_word off r
+switches_word : (w r : ℕ) (off : Bool) (o : Option Call) → call_of w ≡ o → switched off o ≡ Some r → w ≡ switch_word off r
 unfolding switch_word switched switched_by
-switches_word w r true (Is (ResourceOff n)) e h = let z : n ≡ r = cc in sym (word_of_call w (ResourceOff n) e) ∙ ap off_word z
-switches_word w r false (Is (ResourceOff n)) e h = absurd (not_none r (sym h))
-switches_word w r true (Is (ResourceOn n)) e h = absurd (not_none r (sym h))
-switches_word w r false (Is (ResourceOn n)) e h = let z : n ≡ r = cc in sym (word_of_call w (ResourceOn n) e) ∙ ap on_word z
-switches_word w r off (Is (SetState d x)) e h = absurd (not_none r (sym h))
-switches_word w r off (Is (SetWake d k)) e h = absurd (not_none r (sym h))
-switches_word w r off NoCall e h = absurd (not_none r (sym h))
+switches_word w r true (Some (ResourceOff n)) e h = let z : n ≡ r = cc in sym (word_of_call w (ResourceOff n) e) ∙ ap off_word z
+switches_word w r false (Some (ResourceOff n)) e h = absurd (not_none r (sym h))
+switches_word w r true (Some (ResourceOn n)) e h = absurd (not_none r (sym h))
+switches_word w r false (Some (ResourceOn n)) e h = let z : n ≡ r = cc in sym (word_of_call w (ResourceOn n) e) ∙ ap on_word z
+switches_word w r off (Some (SetState d x)) e h = absurd (not_none r (sym h))
+switches_word w r off (Some (SetWake d k)) e h = absurd (not_none r (sym h))
+switches_word w r off None e h = absurd (not_none r (sym h))
 
 -- the resource that the word names by its second byte
 names : (off : Bool) (r : ℕ) → r < 256 → resource_in (switch_word off r) ≡ r
@@ -44,7 +44,7 @@ names false r h = omega arith
 
 -- ---- so the test of a word is the test of what it switches
 module _ (s : Station) (off : Bool) (todo : ℕ) (first : Bool) (last w : ℕ) where
-  pub come_none : switched off (call_of w) ≡ NoResource → may_come (switch_word off) (follows s off) todo first last w ≡ false
+  pub come_none : switched off (call_of w) ≡ None → may_come (switch_word off) (follows s off) todo first last w ≡ false
   unfolding may_come
   come_none e =
       decide (eqb w (switch_word off (resource_in w)))
@@ -52,7 +52,7 @@ module _ (s : Station) (off : Bool) (todo : ℕ) (first : Bool) (last w : ℕ) w
       absurd (not_none (resource_in w) (sym is ∙ e)))
       (λ p. rw p refl)
 
-  module _ (r : ℕ) (h : r < 256) (e : switched off (call_of w) ≡ Resource r) where
+  module _ (r : ℕ) (h : r < 256) (e : switched off (call_of w) ≡ Some r) where
     is_word : w ≡ switch_word off r
     is_word = switches_word w r off (call_of w) refl e
 

@@ -2,17 +2,17 @@
 use Rattle.std.specs.Prelude.{ℕ, ◌≤◌, ◌≡◌, Bool, true, false, not, cond, ◌&&◌, ◌||◌, List, [], map, length, drop}
 use Rattle.sets.specs.Sets.{member}
 use Rattle.rules.specs.declared.Switching.{Switching}
-use Rattle.rules.specs.declared.OptionalCall.{OptionalCall}
+use Rattle.rules.specs.declared.Call.{Call}
+use Rattle.std.specs.Prelude.{Option}
 use Rattle.rules.specs.Station.{Station}
 use Rattle.rules.specs.Calls.{word_of, list_of}
 use Rattle.rules.specs.Check.{Rest, left, refused, and_then, take_words, take_set, is_end, not_lower, not_higher}
 use Rattle.calls.specs.Switch.{switch_word}
-use Rattle.switching.specs.declared.Taken.{Taken}
-use Rattle.switching.specs.declared.Taken.TheVariants.{UpTo, Refused}
+use Rattle.std.specs.Prelude.{Option, Some, None}
 
 -- a phase that came up to a place of the list leaves what stands from there on; one that is refused leaves nothing to go on with
-abbrev pub Leaves : List ℕ → Taken → Rest → Type 0
-Leaves ws (UpTo i) rest = (left (drop i ws) ≡ rest) × (i ≤ length ws)
+abbrev pub Leaves : List ℕ → Option ℕ → Rest → Type 0
+Leaves ws (Some i) rest = (left (drop i ws) ≡ rest) × (i ≤ length ws)
 Leaves ws Refused rest = refused ≡ rest
 
 -- r may follow the resource before it
@@ -29,7 +29,7 @@ unfoldable pub comes_next : Station → Bool → ℕ → Bool → ℕ → ℕ �
 comes_next s off todo first last r = member todo r && (first || follows s off last r)
 
 -- the own call's word where it is due here, none elsewhere
-unfoldable pub own_words : Bool → OptionalCall → List ℕ
+unfoldable pub own_words : Bool → Option Call → List ℕ
 own_words here own = cond here (map word_of (list_of own)) []
 
 -- the words that turn one set on, then those that turn another off, stand at the front

@@ -3,52 +3,45 @@ ghost use Rattle.std.specs.Prelude.{◌≡◌};
 ghost use Rattle.rules.specs.Calls.{call_of};
 ghost use Rattle.switching.specs.Decode.{switched_by, switched};
 
-use rules::{Call, OptionalCall};
-
-// A resource or none.
-#[derive(Clone, Copy)]
-pub enum OptionalResource {
-    Resource(u8),
-    NoResource,
-}
+use rules::Call;
 
 // The resource that a call turns off, or on.
-fn switched_by(off: bool, call: Call) -> OptionalResource
+fn switched_by(off: bool, call: Call) -> Option<u8>
     ensures { result ≡ switched_by off call }
 {
     match call {
         Call::ResourceOn(r) => {
             if off {
-                return OptionalResource::NoResource;
+                return None;
             }
-            OptionalResource::Resource(r)
+            Some(r)
         }
         Call::ResourceOff(r) => {
             if off {
-                return OptionalResource::Resource(r);
+                return Some(r);
             }
-            OptionalResource::NoResource
+            None
         }
         Call::SetState {
             device: _,
             method: _,
-        } => OptionalResource::NoResource,
-        Call::SetWake { device: _, wake: _ } => OptionalResource::NoResource,
+        } => None,
+        Call::SetWake { device: _, wake: _ } => None,
     }
 }
 
 // The same of a call or none.
-fn switched_in(off: bool, said: OptionalCall) -> OptionalResource
+fn switched_in(off: bool, said: Option<Call>) -> Option<u8>
     ensures { result ≡ switched off said }
 {
     match said {
-        OptionalCall::Is(call) => switched_by(off, call),
-        OptionalCall::NoCall => OptionalResource::NoResource,
+        Some(call) => switched_by(off, call),
+        None => None,
     }
 }
 
 // The resource that a word turns off, or on.
-pub fn switched(off: bool, word: u32) -> OptionalResource
+pub fn switched(off: bool, word: u32) -> Option<u8>
     ensures { result ≡ switched off (call_of word) }
 {
     switched_in(off, calls::call_of(word))

@@ -13,14 +13,7 @@ ghost use Rattle.rules.specs.Station.{count_r};
 ghost use Rattle.rules.specs.Calls.{switching_of};
 ghost use Rattle.table.specs.Layout.{WellSized};
 
-use rules::{OptionalCall, Switching};
-
-// How far a phase took its words from the front of a list: up to a place, or that a word cannot stand where it stands.
-#[derive(Clone, Copy)]
-pub enum Taken {
-    UpTo(usize),
-    Refused,
-}
+use rules::{Call, Switching};
 
 // What is in a and not in b, of sets of a table's resources: as words of 32 bits in version 1, of 64 bits in version 2.
 pub fn difference(table: &[u8], a: u64, b: u64) -> u64
@@ -34,7 +27,7 @@ pub fn difference(table: &[u8], a: u64, b: u64) -> u64
 }
 
 // The calls from an on-set to a target set by value; the own call and its place are taken as they are.
-pub fn switching(table: &[u8], own: OptionalCall, last: bool, on: u64, target: u64) -> Switching
+pub fn switching(table: &[u8], own: Option<Call>, last: bool, on: u64, target: u64) -> Switching
     requires { WellSized table.now × (on < 2 ^ count_r table.now) × (target < 2 ^ count_r table.now) }
     ensures { result ≡ switching_of own last on target }
 {

@@ -5,8 +5,6 @@ ghost use Rattle.rules.specs.Station.{count_r, station};
 ghost use Rattle.table.specs.Layout.{WellSized};
 ghost use Rattle.switching.specs.Phases.{Leaves, follows, take_phase, comes_next};
 
-use crate::Taken;
-use crate::decode::OptionalResource;
 
 // Whether r's resourceorder may follow the last one's: not higher for OFFs, not lower for ONs.
 fn in_order(table: &[u8], off: bool, last: usize, r: usize) -> bool
@@ -36,7 +34,7 @@ fn comes_next(table: &[u8], off: bool, left: u64, first: bool, last: usize, r: u
 }
 
 // The place after the words that switch each resource of the set, from `at` on.
-pub fn take_phase(table: &[u8], off: bool, set: u64, list: &[u32], at: usize) -> Taken
+pub fn take_phase(table: &[u8], off: bool, set: u64, list: &[u32], at: usize) -> Option<usize>
     requires { WellSized table.now × (set < 2 ^ count_r table.now) × (at ≤ length list.now) }
     ensures { Leaves list.now result (take_phase (station table.now) off set true 0
         (drop at list.now)) }
@@ -47,19 +45,19 @@ pub fn take_phase(table: &[u8], off: bool, set: u64, list: &[u32], at: usize) ->
     let mut i = at;
     while left > 0 {
         if i >= list.len() {
-            return Taken::Refused;
+            return None;
         }
-        let OptionalResource::Resource(number) = crate::decode::switched(off, list[i]) else {
-            return Taken::Refused;
+        let Some(number) = crate::decode::switched(off, list[i]) else {
+            return None;
         };
         let r = words::wide(number);
         if !comes_next(table, off, left, first, last, r) {
-            return Taken::Refused;
+            return None;
         }
         left = sets::without(left, r);
         first = false;
         last = r as usize;
         i += 1;
     }
-    Taken::UpTo(i)
+    Some(i)
 }

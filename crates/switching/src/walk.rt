@@ -8,47 +8,46 @@ ghost use Rattle.calls.specs.Ranges.{InRange, OptionalInRange};
 ghost use Rattle.switching.specs.Switching.{GoodSwitching};
 ghost use Rattle.switching.specs.Phases.{Leaves, own_words, take_phases, walked};
 
-use crate::Taken;
 use crate::take::take_phase;
-use rules::{Call, OptionalCall, Switching};
+use rules::{Call, Switching};
 
 // The place after a call's word. Words are compared: a word is this call's exactly if it decodes to the call (`says_call` of crates/calls).
-fn take_call(call: Call, list: &[u32], at: usize) -> Taken
+fn take_call(call: Call, list: &[u32], at: usize) -> Option<usize>
     requires { InRange call × (at ≤ length list.now) }
     ensures { Leaves list.now result (take_words (word_of call ∷ []) (drop at list.now)) }
 {
     if at >= list.len() {
-        return Taken::Refused;
+        return None;
     }
     if !calls::says(list[at], call) {
-        return Taken::Refused;
+        return None;
     }
-    Taken::UpTo(at + 1)
+    Some(at + 1)
 }
 
 // The place after the own call, where it is due here and there is one.
-fn take_own(own: OptionalCall, here: bool, list: &[u32], at: usize) -> Taken
+fn take_own(own: Option<Call>, here: bool, list: &[u32], at: usize) -> Option<usize>
     requires { OptionalInRange own × (at ≤ length list.now) }
     ensures { Leaves list.now result (take_words (own_words here own) (drop at list.now)) }
 {
     if !here {
-        return Taken::UpTo(at);
+        return Some(at);
     }
     match own {
-        OptionalCall::Is(call) => take_call(call, list, at),
-        OptionalCall::NoCall => Taken::UpTo(at),
+        Some(call) => take_call(call, list, at),
+        None => Some(at),
     }
 }
 
 // The place after the words that turn one set on, then those that turn another off.
-fn take_phases(table: &[u8], added: u64, removed: u64, list: &[u32], at: usize) -> Taken
+fn take_phases(table: &[u8], added: u64, removed: u64, list: &[u32], at: usize) -> Option<usize>
     requires { WellSized table.now × (added < 2 ^ count_r table.now) × (removed < 2 ^ count_r table.now)
         × (at ≤ length list.now) }
     ensures { Leaves list.now result (take_phases (station table.now) added removed
         (drop at list.now)) }
 {
-    let Taken::UpTo(offs) = take_phase(table, false, added, list, at) else {
-        return Taken::Refused;
+    let Some(offs) = take_phase(table, false, added, list, at) else {
+        return None;
     };
     take_phase(table, true, removed, list, offs)
 }
@@ -58,7 +57,7 @@ pub fn walk_phases(table: &[u8], added: u64, removed: u64, list: &[u32]) -> bool
     requires { WellSized table.now × (added < 2 ^ count_r table.now) × (removed < 2 ^ count_r table.now) }
     ensures { result ≡ is_end (take_phases (station table.now) added removed list.now) }
 {
-    let Taken::UpTo(end) = take_phases(table, added, removed, list, 0) else {
+    let Some(end) = take_phases(table, added, removed, list, 0) else {
         return false;
     };
     end == list.len()
@@ -70,13 +69,13 @@ pub fn walk(table: &[u8], c: Switching, list: &[u32]) -> bool
     ensures { result ≡ walked (station table.now) c list.now }
 {
     let own = c.own;
-    let Taken::UpTo(first) = take_own(own, !c.last, list, 0) else {
+    let Some(first) = take_own(own, !c.last, list, 0) else {
         return false;
     };
-    let Taken::UpTo(last) = take_phases(table, c.added, c.removed, list, first) else {
+    let Some(last) = take_phases(table, c.added, c.removed, list, first) else {
         return false;
     };
-    let Taken::UpTo(end) = take_own(own, c.last, list, last) else {
+    let Some(end) = take_own(own, c.last, list, last) else {
         return false;
     };
     end == list.len()

@@ -11,7 +11,7 @@ ghost use Rattle.switching.specs.Switching.{GoodSwitching};
 
 use calls::order::emit;
 use calls::word_of;
-use rules::{OptionalCall, Switching};
+use rules::{Call, Switching};
 
 // The words that a list has room for in a plan.
 pub fn room(table: &[u8]) -> usize
@@ -22,17 +22,17 @@ pub fn room(table: &[u8]) -> usize
 }
 
 // The own call's word, if there is one. The answer is the place after it.
-fn write_own(own: OptionalCall, plan: &mut [u32], at: usize) -> usize
+fn write_own(own: Option<Call>, plan: &mut [u32], at: usize) -> usize
     requires { OptionalInRange own × (at + length (list_of own) ≤ length plan.old) }
     ensures { (result ≡ at + length (map word_of (list_of own)))
         × (plan.new ≡ put plan.old at (map word_of (list_of own))) }
 {
     match own {
-        OptionalCall::Is(call) => {
+        Some(call) => {
             plan[at] = word_of(call);
             at + 1
         }
-        OptionalCall::NoCall => at,
+        None => at,
     }
 }
 

@@ -9,8 +9,9 @@ use native.Mathlib.Omega.{arith}
 use borrow.Author.Tests.{eqb-true, leb-true, eq-eqb, lt-ltb, le-ltb, le-leb, lt-leb, not-true, not-false}
 use lib.Dec.{eqb, leb}
 use lib.ListN.{length, get_or, take, drop}
-use Rattle.rules.specs.declared.Verdict.{Verdict}
-use Rattle.rules.specs.declared.Verdict.TheVariants.{Done, Refused}
+use Rattle.rules.specs.Verdict.{Verdict}
+use Rattle.std.specs.Prelude.{Ok}
+use Rattle.rules.specs.Verdict.{refuse}
 use Rattle.rules.specs.declared.Reason.{Reason}
 use Rattle.rules.specs.declared.Reason.TheVariants.{NotATable, TooMany, WrongLength, BadResource, BadDevice, BadObjects}
 use Rattle.rules.specs.Index.{least}
@@ -61,11 +62,11 @@ module _ (t : List ℕ) where
     unfolding fields_good bad_field
     fields_test n s g h = rw (g, h, e, i, f) refl
 
-  pub refused_6 : (d : ℕ) (f : Bool) → f ≡ fields_good t d → f ≡ true → Refused BadObjects d ≡ device_refusal t d
+  pub refused_6 : (d : ℕ) (f : Bool) → f ≡ fields_good t d → f ≡ true → refuse BadObjects d ≡ device_refusal t d
   unfolding fields_or_objects
   refused_6 d f e p = rw (← e, p)
 
-  pub refused_5 : (d : ℕ) (f : Bool) → f ≡ fields_good t d → f ≡ false → Refused BadDevice d ≡ device_refusal t d
+  pub refused_5 : (d : ℕ) (f : Bool) → f ≡ fields_good t d → f ≡ false → refuse BadDevice d ≡ device_refusal t d
   unfolding fields_or_objects
   refused_5 d f e p = rw (← e, p)
 
@@ -147,7 +148,7 @@ module _ (rest : List Verdict) (last : Verdict) where
   pub unless_passed : (good : Bool) (why : Reason) (at : ℕ) → good ≡ true → first_of (unless good why at ∷ rest) last ≡ first_of rest last
   unless_passed good why at p = first_pass (unless good why at) rest last (ap passes (unless_of good why at p) ∙ done_passes 0)
 
-  pub unless_refused : (good : Bool) (why : Reason) (at : ℕ) → good ≡ false → Refused why at ≡ first_of (unless good why at ∷ rest) last
+  pub unless_refused : (good : Bool) (why : Reason) (at : ℕ) → good ≡ false → refuse why at ≡ first_of (unless good why at ∷ rest) last
   unless_refused good why at p =
       let s = unless_stop good why at p in
       sym (first_stop (unless good why at) rest last (ap passes s ∙ refused_stops why at) ∙ s)
@@ -168,7 +169,7 @@ module _ (t : List ℕ) where
   devices_check = lowest (λ d. not (device_good t d)) (count_d t) (device_refusal t)
 
   abbrev resources_check : Verdict
-  resources_check = lowest (λ r. not (resource_good t (resource_start r))) (count_r t) (Refused BadResource)
+  resources_check = lowest (λ r. not (resource_good t (resource_start r))) (count_r t) (refuse BadResource)
 
   abbrev length_check : Verdict
   length_check = unless (length_good t) WrongLength 0
@@ -176,24 +177,24 @@ module _ (t : List ℕ) where
   abbrev counts_check : Verdict
   counts_check = unless (counts_good t) TooMany 0
 
-  past_header : header_good t ≡ true → first_of (counts_check ∷ length_check ∷ resources_check ∷ devices_check ∷ []) (Done 0) ≡ table_verdict t
+  past_header : header_good t ≡ true → first_of (counts_check ∷ length_check ∷ resources_check ∷ devices_check ∷ []) (Ok 0) ≡ table_verdict t
   unfolding table_verdict
   past_header h = sym (unless_passed _ _ (header_good t) NotATable 0 h)
 
   past_counts : header_good t ≡ true → counts_good t ≡ true → first_of (length_check ∷ resources_check ∷ devices_check ∷ [])
-      (Done 0) ≡ table_verdict t
+      (Ok 0) ≡ table_verdict t
   past_counts h c = sym (unless_passed _ _ (counts_good t) TooMany 0 c) ∙ past_header h
 
   -- b is the answer of the function that checks
-  pub no_table : (b : Bool) → b ≡ header_good t → not b ≡ true → Refused NotATable 0 ≡ table_verdict t
+  pub no_table : (b : Bool) → b ≡ header_good t → not b ≡ true → refuse NotATable 0 ≡ table_verdict t
   unfolding table_verdict
   no_table b e p = unless_refused _ _ (header_good t) NotATable 0 (sym e ∙ not-true b p)
 
-  pub too_many : (b : Bool) → header_good t ≡ true → b ≡ counts_good t → not b ≡ true → Refused TooMany 0 ≡ table_verdict t
+  pub too_many : (b : Bool) → header_good t ≡ true → b ≡ counts_good t → not b ≡ true → refuse TooMany 0 ≡ table_verdict t
   too_many b h e p = unless_refused _ _ (counts_good t) TooMany 0 (sym e ∙ not-true b p) ∙ past_header h
 
   pub wrong_length : (c b : Bool) → header_good t ≡ true → c ≡ counts_good t → not c ≡ false → b ≡ length_good t → not b ≡ true
-      → Refused WrongLength 0 ≡ table_verdict t
+      → refuse WrongLength 0 ≡ table_verdict t
   wrong_length c b h f y e p = unless_refused _ _ (length_good t) WrongLength 0 (sym e ∙ not-true b p)
       ∙ past_counts h (sym f ∙ not-false c y)
 
@@ -201,7 +202,7 @@ module _ (t : List ℕ) where
   module _ (sized : WellSized t) (h : header_good t ≡ true) (r m : ℕ)
       (e : r ≡ least (λ i. not (resource_good t (resource_start i))) (count_r t))
       (f : m ≡ count_r t) where
-    past_length : first_of (resources_check ∷ devices_check ∷ []) (Done 0) ≡ table_verdict t
+    past_length : first_of (resources_check ∷ devices_check ∷ []) (Ok 0) ≡ table_verdict t
     unfolding counts_good length_good
     past_length =
         let counts : counts_good t ≡ true = rw (
@@ -211,19 +212,19 @@ module _ (t : List ℕ) where
         ) refl in
         sym (unless_passed _ _ (length_good t) WrongLength 0 (eq-eqb _ _ sized.long)) ∙ past_counts h counts
 
-    pub bad_resource : r < m → Refused BadResource r ≡ table_verdict t
-    bad_resource p = lowest_refused _ _ _ (count_r t) m r (Refused BadResource) e f _ refl (refused_stops BadResource r) p ∙ past_length
+    pub bad_resource : r < m → refuse BadResource r ≡ table_verdict t
+    bad_resource p = lowest_refused _ _ _ (count_r t) m r (refuse BadResource) e f _ refl (refused_stops BadResource r) p ∙ past_length
 
     module _ (p : m ≤ r) (q n : ℕ) (g : q ≡ least (λ i. not (device_good t i)) (count_d t)) (k : n ≡ count_d t) where
-      past_resources : first_of (devices_check ∷ []) (Done 0) ≡ table_verdict t
-      past_resources = sym (lowest_passed _ _ _ (count_r t) m r (Refused BadResource) e f p) ∙ past_length
+      past_resources : first_of (devices_check ∷ []) (Ok 0) ≡ table_verdict t
+      past_resources = sym (lowest_passed _ _ _ (count_r t) m r (refuse BadResource) e f p) ∙ past_length
 
       pub bad_device : (v : Verdict) → v ≡ device_refusal t q → q < n → v ≡ table_verdict t
       bad_device v o u = lowest_refused _ _ _ (count_d t) n q (device_refusal t) g k v o (ap passes o ∙ refuses (fields_good t q) q) u
           ∙ past_resources
 
-      pub all_pass : n ≤ q → Done 0 ≡ table_verdict t
-      all_pass u = sym (lowest_passed _ _ _ (count_d t) n q (device_refusal t) g k u ∙ first_none (Done 0)) ∙ past_resources
+      pub all_pass : n ≤ q → Ok 0 ≡ table_verdict t
+      all_pass u = sym (lowest_passed _ _ _ (count_d t) n q (device_refusal t) g k u ∙ first_none (Ok 0)) ∙ past_resources
 
 pub ruleset table_answers = (long_of, version_of_lem, header_passed, no_table, too_many, wrong_length, bad_resource, bad_device, all_pass)
 
@@ -242,7 +243,7 @@ sized_of t e =
       wide = width_wide t;
     }
 
-pub sized_done : (t : List ℕ) (n : ℕ) → table_verdict t ≡ Done n → WellSized t
+pub sized_done : (t : List ℕ) (n : ℕ) → table_verdict t ≡ Ok n → WellSized t
 sized_done t n e = sized_of t (ap passes e ∙ done_passes n)
 
 pub accepted_is : (t : List ℕ) (v : Verdict) (b : Bool) → v ≡ table_verdict t → b ≡ passes v → b ≡ passes (table_verdict t)
@@ -259,11 +260,11 @@ pub version_told : (t : List ℕ) (b : Bool) → b ≡ passes (table_verdict t) 
 version_told t b e p = (sized_told t b e p).version
 
 -- a table that passes is done
-table_done : (t : List ℕ) → passes (table_verdict t) ≡ true → table_verdict t ≡ Done 0
+table_done : (t : List ℕ) → passes (table_verdict t) ≡ true → table_verdict t ≡ Ok 0
 unfolding table_verdict
-table_done t e = first_through _ (Done 0) e
+table_done t e = first_through _ (Ok 0) e
 
-pub table_passed : (t : List ℕ) (v : Verdict) (b : Bool) → v ≡ table_verdict t → b ≡ passes v → not b ≡ false → table_verdict t ≡ Done 0
+pub table_passed : (t : List ℕ) (v : Verdict) (b : Bool) → v ≡ table_verdict t → b ≡ passes v → not b ≡ false → table_verdict t ≡ Ok 0
 table_passed t v b e f p = table_done t (sym (accepted_is t v b e f) ∙ not-false b p)
 
 pub sized_passed : (t : List ℕ) (v : Verdict) (b : Bool) → v ≡ table_verdict t → b ≡ passes v → not b ≡ false → WellSized t

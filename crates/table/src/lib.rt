@@ -12,7 +12,7 @@ ghost use Rattle.rules.specs.Table.{header_good, counts_good, length_good, resou
 ghost use Rattle.rules.specs.Outcomes.{record_part};
 ghost use Rattle.table.specs.Layout.{WellSized};
 
-use rules::{Reason, Verdict};
+use rules::{Reason, Refusal, Verdict};
 
 // 2: at most as many resources and devices as the width allows.
 fn counts_good(table: &[u8]) -> bool
@@ -69,9 +69,9 @@ fn refusal(table: &[u8], d: usize) -> Verdict
     ensures { result ≡ device_refusal table.now d }
 {
     if fields_good(table, d) {
-        return Verdict::Refused(Reason::BadObjects, d);
+        return Err(Refusal(Reason::BadObjects, d));
     }
-    Verdict::Refused(Reason::BadDevice, d)
+    Err(Refusal(Reason::BadDevice, d))
 }
 
 // Answers 4 to 6 of bytes that pass 1 to 3.
@@ -81,13 +81,13 @@ fn check_records(table: &[u8]) -> Verdict
 {
     let r = lowest_resource(table);
     if r < crate::fields::resources(table) {
-        return Verdict::Refused(Reason::BadResource, r);
+        return Err(Refusal(Reason::BadResource, r));
     }
     let d = lowest_device(table);
     if d < crate::fields::devices(table) {
         return refusal(table, d);
     }
-    Verdict::Done(0)
+    Ok(0)
 }
 
 // Answers 2 to 6 of bytes whose header is good.
@@ -96,10 +96,10 @@ pub fn check_past_header(table: &[u8]) -> Verdict
     ensures { result ≡ table_verdict table.now }
 {
     if !counts_good(table) {
-        return Verdict::Refused(Reason::TooMany, 0);
+        return Err(Refusal(Reason::TooMany, 0));
     }
     if !length_good(table) {
-        return Verdict::Refused(Reason::WrongLength, 0);
+        return Err(Refusal(Reason::WrongLength, 0));
     }
     check_records(table)
 }
@@ -109,7 +109,7 @@ pub fn check_table(table: &[u8]) -> Verdict
     ensures { result ≡ table_verdict table.now }
 {
     if !crate::header::header_good(table) {
-        return Verdict::Refused(Reason::NotATable, 0);
+        return Err(Refusal(Reason::NotATable, 0));
     }
     check_past_header(table)
 }
@@ -118,7 +118,7 @@ pub fn check_table(table: &[u8]) -> Verdict
 pub fn accepted(table: &[u8]) -> bool
     ensures { result ≡ passes (table_verdict table.now) }
 {
-    rules::passes(check_table(table))
+    check_table(table).is_ok()
 }
 
 // A device's own bytes of the table; empty if the table is refused or the number is not below D.

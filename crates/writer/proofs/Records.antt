@@ -9,8 +9,9 @@ use native.Mathlib.Omega.{arith}
 use borrow.Author.Tests.{leb-true, le-leb, lt-leb, not-true, not-false}
 use lib.Dec.{eqb, leb}
 use lib.ListN.{length}
-use Rattle.rules.specs.declared.Verdict.{Verdict}
-use Rattle.rules.specs.declared.Verdict.TheVariants.{Done, Refused}
+use Rattle.rules.specs.Verdict.{Verdict}
+use Rattle.std.specs.Prelude.{Ok}
+use Rattle.rules.specs.Verdict.{refuse}
 use Rattle.rules.specs.declared.Reason.TheVariants.{NotATable, TooMany, BadResource, BadDevice, BadObjects, NoRoom}
 use Rattle.rules.specs.Index.{least}
 use Rattle.rules.specs.Answers.{passes, first_of, unless, lowest}
@@ -63,11 +64,11 @@ module _ (resources : ℕ) (ds : List ℕ) (d : ℕ) where
       rw (le-leb (described_size * d + described_size) (length ds) h, e, f) (value_good described_width resources d (described_device ds d))
 
   module _ (f : Bool) (e : f ≡ described_fields_good resources ds d) where
-    pub refused_6 : f ≡ true → Refused BadObjects d ≡ fields_or_objects (described_fields_good resources ds d) d
+    pub refused_6 : f ≡ true → refuse BadObjects d ≡ fields_or_objects (described_fields_good resources ds d) d
     unfolding fields_or_objects
     refused_6 p = rw (← e, p) refl
 
-    pub refused_5 : f ≡ false → Refused BadDevice d ≡ fields_or_objects (described_fields_good resources ds d) d
+    pub refused_5 : f ≡ false → refuse BadDevice d ≡ fields_or_objects (described_fields_good resources ds d) d
     unfolding fields_or_objects
     refused_5 p = rw (← e, p) refl
 
@@ -101,15 +102,15 @@ module _ (rs ds : List ℕ) (resources r : ℕ) (c : resources ≡ described_r r
   devices_check = lowest (λ d. not (described_device_good (described_r rs) ds d)) (described_d ds)
       (λ d. fields_or_objects (described_fields_good (described_r rs) ds d) d)
 
-  pub bad_resource : r < resources → Refused BadResource r ≡ records_verdict rs ds
+  pub bad_resource : r < resources → refuse BadResource r ≡ records_verdict rs ds
   unfolding records_verdict
-  bad_resource p = lowest_refused _ _ _ (described_r rs) resources r (Refused BadResource) e c _ refl (refused_stops BadResource r) p
+  bad_resource p = lowest_refused _ _ _ (described_r rs) resources r (refuse BadResource) e c _ refl (refused_stops BadResource r) p
 
   module _ (p : resources ≤ r) (d n : ℕ) (g : d ≡ least (λ i. not (described_device_good resources ds i)) (described_d ds))
       (k : n ≡ described_d ds) where
-    past_resources : first_of (devices_check ∷ []) (Done 0) ≡ records_verdict rs ds
+    past_resources : first_of (devices_check ∷ []) (Ok 0) ≡ records_verdict rs ds
     unfolding records_verdict
-    past_resources = sym (lowest_passed _ _ _ (described_r rs) resources r (Refused BadResource) e c p)
+    past_resources = sym (lowest_passed _ _ _ (described_r rs) resources r (refuse BadResource) e c p)
 
     same : d ≡ least (λ i. not (described_device_good (described_r rs) ds i)) (described_d ds)
     same = rw c at g
@@ -120,8 +121,8 @@ module _ (rs ds : List ℕ) (resources r : ℕ) (c : resources ≡ described_r r
         lowest_refused _ _ _ (described_d ds) n d _ same k v w (ap passes w ∙ refuses (described_fields_good (described_r rs) ds d) d) u
         ∙ past_resources
 
-    pub all_good_lem : n ≤ d → Done 0 ≡ records_verdict rs ds
-    all_good_lem u = sym (lowest_passed _ _ _ (described_d ds) n d _ same k u ∙ first_none (Done 0)) ∙ past_resources
+    pub all_good_lem : n ≤ d → Ok 0 ≡ records_verdict rs ds
+    all_good_lem u = sym (lowest_passed _ _ _ (described_d ds) n d _ same k u ∙ first_none (Ok 0)) ∙ past_resources
 
 pub ruleset records_answers = (bad_resource, bad_device, all_good_lem)
 
@@ -148,9 +149,9 @@ module _ (version : ℕ) (rs ds : List ℕ) (room : ℕ) (g : Bool) (e : g ≡ v
   room_check = unless (leb (written_size version rs ds) room) NoRoom 0
 
   abbrev done : Verdict
-  done = Done (written_size version rs ds)
+  done = Ok (written_size version rs ds)
 
-  pub bad_version : not g ≡ true → Refused NotATable 0 ≡ write_verdict version rs ds room
+  pub bad_version : not g ≡ true → refuse NotATable 0 ≡ write_verdict version rs ds room
   unfolding write_verdict
   bad_version p = unless_refused _ _ (version_good version) NotATable 0 (sym e ∙ not-true g p)
 
@@ -163,7 +164,7 @@ module _ (version : ℕ) (rs ds : List ℕ) (room : ℕ) (g : Bool) (e : g ≡ v
     unfolding described_counts_good
     counts_are = rw (x, y, z) refl
 
-    pub too_many : not (leb r (8 * w) && leb d (8 * w)) ≡ true → Refused TooMany 0 ≡ write_verdict version rs ds room
+    pub too_many : not (leb r (8 * w) && leb d (8 * w)) ≡ true → refuse TooMany 0 ≡ write_verdict version rs ds room
     too_many q = unless_refused _ _ (described_counts_good version rs ds) TooMany 0 (sym counts_are ∙ not-true _ q) ∙ past_version
 
     module _ (q : not (leb r (8 * w) && leb d (8 * w)) ≡ false) where
@@ -174,7 +175,7 @@ module _ (version : ℕ) (rs ds : List ℕ) (room : ℕ) (g : Bool) (e : g ≡ v
         size_is : size ≡ written_size version rs ds
         size_is = s ∙ rw (x, y, z) refl
 
-        pub no_room_lem : room < size → Refused NoRoom 0 ≡ write_verdict version rs ds room
+        pub no_room_lem : room < size → refuse NoRoom 0 ≡ write_verdict version rs ds room
         no_room_lem h =
             unless_refused _ _ (leb (written_size version rs ds) room) NoRoom 0 (lt-leb (written_size version rs ds) room (rw size_is at h))
             ∙ past_counts
@@ -188,7 +189,7 @@ module _ (version : ℕ) (rs ds : List ℕ) (room : ℕ) (g : Bool) (e : g ≡ v
           pub record_refused : not b ≡ true → v ≡ write_verdict version rs ds room
           record_refused o = f ∙ sym (first_stop _ _ _ (ap passes (sym f) ∙ sym k ∙ not-true b o)) ∙ past_room
 
-          pub all_pass : not b ≡ false → Done size ≡ write_verdict version rs ds room
-          all_pass o = ap Done size_is ∙ sym (first_pass _ _ _ (ap passes (sym f) ∙ sym k ∙ not-false b o) ∙ first_none done) ∙ past_room
+          pub all_pass : not b ≡ false → Ok size ≡ write_verdict version rs ds room
+          all_pass o = ap Ok size_is ∙ sym (first_pass _ _ _ (ap passes (sym f) ∙ sym k ∙ not-false b o) ∙ first_none done) ∙ past_room
 
 pub ruleset write_answers = (bad_version, too_many, small_r, small_d, few, no_room_lem, record_refused, all_pass)

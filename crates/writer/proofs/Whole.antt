@@ -12,8 +12,9 @@ use lib.ListN.{length, take, drop, length-append, length-drop}
 use lib.Seq.{length-take-le}
 use Rattle.words.specs.Words.{bytes_le, put}
 use Rattle.words.proofs.Put.{length_put, put_then}
-use Rattle.rules.specs.declared.Verdict.{Verdict}
-use Rattle.rules.specs.declared.Verdict.TheVariants.{Done, Refused}
+use Rattle.rules.specs.Verdict.{Verdict}
+use Rattle.std.specs.Prelude.{Ok}
+use Rattle.rules.specs.Verdict.{refuse}
 use Rattle.rules.specs.declared.Reason.TheVariants.{NoRoom}
 use Rattle.rules.specs.Index.{join}
 use Rattle.rules.specs.Answers.{passes, first_of, unless}
@@ -110,16 +111,16 @@ module _ (t rs ds : List ℕ) (v : Verdict) (b : Bool) (e : v ≡ table_verdict 
 
     module _ (r d : ℕ) (y : r ≡ count_r t) (z : d ≡ count_d t) where
       past_table : first_of (unless (leb (4 * count_r t) (length rs) && leb (described_size * count_d t) (length ds)) NoRoom 0 ∷ [])
-          (Done (lists_size t)) ≡ describe_verdict t (length rs) (length ds)
+          (Ok (lists_size t)) ≡ describe_verdict t (length rs) (length ds)
       unfolding describe_verdict
       past_table = sym (first_pass (table_verdict t) _ _ (ap passes (sym e) ∙ sym f ∙ not-false b p))
 
       pub describe_short : not (leb (4 * r) (length rs) && leb (54 * d) (length ds)) ≡ true
-          → (Refused NoRoom 0 ≡ (describe t rs ds).verdict) × (rs ≡ (describe t rs ds).resources) × (ds ≡ (describe t rs ds).devices)
+          → (refuse NoRoom 0 ≡ (describe t rs ds).verdict) × (rs ≡ (describe t rs ds).resources) × (ds ≡ (describe t rs ds).devices)
       unfolding describe
       describe_short q =
-          let is : Refused NoRoom 0 ≡ describe_verdict t (length rs) (length ds) =
-          unless_refused [] (Done (lists_size t)) (leb (4 * count_r t) (length rs) && leb (described_size * count_d t) (length ds)) NoRoom 0
+          let is : refuse NoRoom 0 ≡ describe_verdict t (length rs) (length ds) =
+          unless_refused [] (Ok (lists_size t)) (leb (4 * count_r t) (length rs) && leb (described_size * count_d t) (length ds)) NoRoom 0
           (rw (y, z) at (not-true (leb (4 * r) (length rs) && leb (54 * d) (length ds)) q)) ∙ past_table in
           let stops : passes (describe_verdict t (length rs) (length ds)) ≡ false = ap passes (sym is) ∙ refused_stops NoRoom 0 in
           (is, rw stops refl, rw stops refl)
@@ -146,13 +147,13 @@ module _ (t rs ds : List ℕ) (v : Verdict) (b : Bool) (e : v ≡ table_verdict 
         devices_have_room n u = (sized, rw (← z, u) rooms.1)
 
         pub describe_done : (a l : List ℕ) → a ≡ put rs 0 (take (8 + 4 * r - 8) (drop 8 t)) → l ≡ put ds 0 (devices_of t)
-            → (Done (4 * r + 54 * d) ≡ (describe t rs ds).verdict) × (a ≡ (describe t rs ds).resources) × (l ≡ (describe t rs ds).devices)
+            → (Ok (4 * r + 54 * d) ≡ (describe t rs ds).verdict) × (a ≡ (describe t rs ds).resources) × (l ≡ (describe t rs ds).devices)
         unfolding describe resources_of
         describe_done a l o u =
-            let is : Done (4 * r + 54 * d) ≡ describe_verdict t (length rs) (length ds) =
-            rw (y, z) (sym (unless_passed [] (Done (lists_size t))
+            let is : Ok (4 * r + 54 * d) ≡ describe_verdict t (length rs) (length ds) =
+            rw (y, z) (sym (unless_passed [] (Ok (lists_size t))
             (leb (4 * count_r t) (length rs) && leb (described_size * count_d t) (length ds))
             NoRoom 0 (rw (y, z) at (not-false (leb (4 * r) (length rs) && leb (54 * d) (length ds)) q))
-            ∙ first_none (Done (lists_size t)))) ∙ past_table in
+            ∙ first_none (Ok (lists_size t)))) ∙ past_table in
             let done : passes (describe_verdict t (length rs) (length ds)) ≡ true = ap passes (sym is) ∙ done_passes (4 * r + 54 * d) in
             (is, o ∙ rw (done, add-sub_cancel_left, y) refl, u ∙ rw done refl)

@@ -8,7 +8,7 @@ ghost use Rattle.rules.specs.Describe.{described_width, described_r, described_d
 ghost use Rattle.rules.specs.Write.{described_resource_good, described_fields_good, described_device_good, records_verdict, write_verdict};
 ghost use Rattle.writer.specs.WithinLimits.{WithinLimits};
 
-use rules::{Reason, Verdict};
+use rules::{Reason, Refusal, Verdict};
 
 // The number of described resources; one that is cut short counts.
 pub fn resources(rs: &[u8]) -> usize
@@ -58,9 +58,9 @@ fn refusal(ds: &[u8], d: usize, resources: usize) -> Verdict
     ensures { result ≡ fields_or_objects (described_fields_good resources ds.now d) d }
 {
     if fields_good(ds, d, resources) {
-        return Verdict::Refused(Reason::BadObjects, d);
+        return Err(Refusal(Reason::BadObjects, d));
     }
-    Verdict::Refused(Reason::BadDevice, d)
+    Err(Refusal(Reason::BadDevice, d))
 }
 
 // Answers 4 to 6 of lists that are not too long.
@@ -71,13 +71,13 @@ fn check_records(rs: &[u8], ds: &[u8]) -> Verdict
     let resources = resources(rs);
     let r = lowest_resource(rs);
     if r < resources {
-        return Verdict::Refused(Reason::BadResource, r);
+        return Err(Refusal(Reason::BadResource, r));
     }
     let d = lowest_device(ds, resources);
     if d < devices(ds) {
         return refusal(ds, d, resources);
     }
-    Verdict::Done(0)
+    Ok(0)
 }
 
 // The answer for any lists and a buffer of so many bytes, done with the bytes of the table.
@@ -85,22 +85,19 @@ pub fn verdict(version: u32, rs: &[u8], ds: &[u8], room: usize) -> Verdict
     ensures { result ≡ write_verdict version rs.now ds.now room }
 {
     if !table::header::version_good(version) {
-        return Verdict::Refused(Reason::NotATable, 0);
+        return Err(Refusal(Reason::NotATable, 0));
     }
     let w = table::header::version_width(version);
     let resources = resources(rs);
     let devices = devices(ds);
     let few = (resources <= 8 * w) & (devices <= 8 * w);
     if !few {
-        return Verdict::Refused(Reason::TooMany, 0);
+        return Err(Refusal(Reason::TooMany, 0));
     }
     let size = table::fields::size(w, resources, devices);
     if room < size {
-        return Verdict::Refused(Reason::NoRoom, 0);
+        return Err(Refusal(Reason::NoRoom, 0));
     }
-    let records = check_records(rs, ds);
-    if !rules::passes(records) {
-        return records;
-    }
-    Verdict::Done(size)
+    check_records(rs, ds)?;
+    Ok(size)
 }

@@ -6,7 +6,7 @@ ghost use Rattle.rules.specs.Describe.{described_size, devices_of};
 ghost use Rattle.rules.specs.Write.{describe};
 ghost use Rattle.table.specs.Layout.{WellSized};
 
-use rules::{Reason, Verdict};
+use rules::{Reason, Refusal, Verdict};
 
 // The devices of a table, 54 bytes each.
 fn describe_devices(table: &[u8], out: &mut [u8])
@@ -31,18 +31,15 @@ pub fn describe(table: &[u8], resources: &mut [u8], devices: &mut [u8]) -> Verdi
         × (resources.new ≡ (describe table.now resources.old devices.old).resources)
         × (devices.new ≡ (describe table.now resources.old devices.old).devices) }
 {
-    let verdict = table::check_table(table);
-    if !rules::passes(verdict) {
-        return verdict;
-    }
+    table::check_table(table)?;
     let r = 4 * table::fields::resources(table);
     let d = 54 * table::fields::devices(table);
     let room = (r <= resources.len()) & (d <= devices.len());
     if !room {
-        return Verdict::Refused(Reason::NoRoom, 0);
+        return Err(Refusal(Reason::NoRoom, 0));
     }
     let end = 8 + r;
     words::copy(&table[8..end], resources, 0);
     describe_devices(table, devices);
-    Verdict::Done(r + d)
+    Ok(r + d)
 }

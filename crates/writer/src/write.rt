@@ -31,15 +31,12 @@ pub fn write(version: u32, rs: &[u8], ds: &[u8], table: &mut [u8]) -> Verdict
     ensures { (result ≡ (write version rs.now ds.now table.old).verdict)
         × (table.new ≡ (write version rs.now ds.now table.old).table) }
 {
-    let verdict = crate::check::verdict(version, rs, ds, table.len());
-    if !rules::passes(verdict) {
-        return verdict;
-    }
+    let size = crate::check::verdict(version, rs, ds, table.len())?;
     let w = table::header::version_width(version);
     let r = crate::check::resources(rs);
     let d = crate::check::devices(ds);
     table::header::write_header(version, r, d, table);
     words::copy(rs, table, 8);
     write_devices(ds, table, 8 + 4 * r, w);
-    verdict
+    Ok(size)
 }

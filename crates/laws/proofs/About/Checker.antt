@@ -13,7 +13,7 @@ use Rattle.sets.proofs.Laws.{decide}
 use Rattle.words.specs.Words.{byte_words}
 use Rattle.rules.specs.declared.Entry.{Entry}
 use Rattle.rules.specs.declared.Request.{Request}
-use Rattle.rules.specs.declared.Verdict.{Verdict}
+use Rattle.rules.specs.Verdict.{Verdict}
 use Rattle.rules.specs.Answers.{number_of, count_of}
 use Rattle.rules.specs.Calls.{own_last}
 use Rattle.rules.specs.Execution.{execution}

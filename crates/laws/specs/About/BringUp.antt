@@ -1,7 +1,7 @@
 -- From what bring-up promises: it moves no device, leaves on what is needed and nothing else, and gives 8 for nothing that it mends.
 use Rattle.std.specs.Prelude.{ℕ, ◌*◌, ◌≤◌, ◌<◌, ◌≡◌, List, ◌++◌, map, ◌≢◌, length, drop}
-use Rattle.rules.specs.declared.Verdict.{Verdict}
-use Rattle.rules.specs.declared.Verdict.TheVariants.{Done}
+use Rattle.rules.specs.Verdict.{Verdict}
+use Rattle.std.specs.Prelude.{Ok}
 use Rattle.rules.specs.Answers.{number_of}
 use Rattle.rules.specs.Station.{width, station}
 use Rattle.rules.specs.Table.{table_verdict}
@@ -33,7 +33,7 @@ pub record NoWrongBringUp (size : ℕ) (written : List ℕ → List ℕ) (bring_
       ++ drop (size * count) plan
   -- a second and a third time there are no calls, and nothing changes
   pub again : number ≡ 0 → (p p' : List ℕ) → size * list_room (width t) ≤ length p → size * list_room (width t) ≤ length p'
-      → bring_up t (bring_up t b' p).state p' ≡ record { verdict = Done 0; state = b'; plan = p' }
+      → bring_up t (bring_up t b' p).state p' ≡ record { verdict = Ok 0; state = b'; plan = p' }
 
 abbrev pub FromBringsUp : Type 0
 FromBringsUp =

@@ -5,8 +5,8 @@ use Rattle.sets.specs.Sets.{member}
 use Rattle.words.specs.Words.{byte_words}
 use Rattle.rules.specs.declared.Request.{Request}
 use Rattle.rules.specs.declared.Call.{Call}
-use Rattle.rules.specs.declared.OptionalCall.TheVariants.{Is}
-use Rattle.rules.specs.declared.Verdict.{Verdict}
+use Rattle.std.specs.Prelude.{Some}
+use Rattle.rules.specs.Verdict.{Verdict}
 use Rattle.rules.specs.Answers.{number_of, count_of}
 use Rattle.rules.specs.Station.{station}
 use Rattle.rules.specs.Power.{needs, needed}
@@ -46,7 +46,7 @@ pub record NoWrongPoint (t b : List ℕ) (q : Request) (ws : List ℕ) : Type 0 
   pub dropped : (n r : ℕ) → member (needed (station t) (status t b).entries) r ≡ true
       → member (end_set (station t) (status t b).entries q) r ≡ true → execution (member (status t b).on) (take n ws) r ≢ false
   -- nowhere does the device's own method stand with a need of the device off: where it comes last a need from after, else one from before
-  pub unpowered : (c : Call) → own_call (station t) ((status t b).entries q.device) q ≡ Is c
+  pub unpowered : (c : Call) → own_call (station t) ((status t b).entries q.device) q ≡ Some c
       → (n r : ℕ) → n < length ws → get_or ws n 0 ≡ word_of c
       → member (needs (station t) q.device (cond (own_last q) (entries_after (status t b).entries q q.device)
       ((status t b).entries q.device))) r ≡ true → execution (member (status t b).on) (take n ws) r ≢ false

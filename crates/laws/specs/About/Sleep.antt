@@ -2,7 +2,7 @@
 use Rattle.std.specs.Prelude.{ℕ, ◌*◌, ◌≤◌, ◌<◌, ◌≡◌, true, false, List, ◌∷◌, ◌++◌, map, ◌≢◌, leb, length, take}
 use Rattle.sets.specs.Sets.{member}
 use Rattle.rules.specs.declared.Request.{Request}
-use Rattle.rules.specs.declared.Verdict.TheVariants.{Done}
+use Rattle.std.specs.Prelude.{Ok}
 use Rattle.rules.specs.Answers.{number_of}
 use Rattle.rules.specs.Station.{width, station}
 use Rattle.rules.specs.Power.{is_armed, needed}
@@ -67,7 +67,7 @@ pub record NoWrongSleep (size : ℕ) (written : List ℕ → List ℕ) (plan_on 
   pub lost : number ≡ 0 → (r : ℕ) → ((station t).resource r).level < q.a → member (status t b').on r ≢ true
   -- a second and a third time there are no calls, and nothing changes
   pub again : number ≡ 0 → (p p' : List ℕ) → size * plan_room (width t) q ≤ length p → size * plan_room (width t) q ≤ length p'
-      → plan_on t (plan_on t b' q p).state q p' ≡ record { verdict = Done 0; state = b'; plan = p' }
+      → plan_on t (plan_on t b' q p).state q p' ≡ record { verdict = Ok 0; state = b'; plan = p' }
 
 abbrev pub FromInTurn : Type 0
 FromInTurn = (t b : List ℕ) (qs : List Request) (words b' : List ℕ) → InTurn t b qs words b' → NoWrongMoves t b qs words b'

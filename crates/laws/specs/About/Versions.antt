@@ -2,7 +2,7 @@
 -- requests leads to states that differ.
 use Rattle.std.specs.Prelude.{ℕ, ◌*◌, ◌≤◌, ◌≡◌, List, map, ◌≢◌, length, take}
 use Rattle.rules.specs.declared.Request.{Request}
-use Rattle.rules.specs.declared.Verdict.{Verdict}
+use Rattle.rules.specs.Verdict.{Verdict}
 use Rattle.rules.specs.Answers.{count_of}
 use Rattle.rules.specs.Status.{status_of}
 use Rattle.rules.specs.Outcomes.{Outcome, list_room, plan_room, fresh, plan_words, plan_bytes, check_words, check_bytes}

@@ -1,7 +1,7 @@
 -- From the inverse laws: what is written and described again, or described and written again, is the same and nothing else changes; and the
 -- writer answers otherwise than the reader only for want of room.
 use Rattle.std.specs.Prelude.{ℕ, ◌+◌, ◌*◌, ◌%◌, ◌^◌, ◌≤◌, ◌<◌, ◌≡◌, List, ◌++◌, ◌≢◌, ◌⊎◌, length, take, drop}
-use Rattle.rules.specs.declared.Verdict.{Verdict}
+use Rattle.rules.specs.Verdict.{Verdict}
 use Rattle.rules.specs.Answers.{number_of, place_of, count_of}
 use Rattle.rules.specs.Station.{version_width, version_of, limit, count_r, count_d}
 use Rattle.rules.specs.Table.{table_verdict}

@@ -11,7 +11,7 @@ devices-requires c = search sized_told
 pub returns-then-d-devices : goal.returns-then-d-devices
 returns-then-d-devices c = search (rules, record_part_lem)
 
--- Refused bytes and numbers past D have no record; else the part is the device's own bytes.
+-- refuse bytes and numbers past D have no record; else the part is the device's own bytes.
 pub start-at-requires : goal.start-at-requires
 start-at-requires c = (search sized_told, search rules)
 

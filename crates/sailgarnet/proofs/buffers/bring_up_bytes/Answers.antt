@@ -3,7 +3,7 @@ use mathlib.Core.Path.{ap}
 use mathlib.Core.Path.{refl, sym}
 use mathlib.Core.Bool.{false}
 use borrow.Author.Rules.{rules}
-use Rattle.rules.specs.declared.Verdict.TheVariants.{Refused}
+use Rattle.rules.specs.Verdict.{refuse}
 use Rattle.rules.specs.declared.Reason.TheVariants.{NotATable}
 use Rattle.rules.proofs.Answers.{refused_stops}
 use Rattle.table.proofs.Verdicts.{header_passed, table_passed, sized_passed}
@@ -18,7 +18,7 @@ use Rattle.sailgarnet.proofs.buffers.bring_up_bytes.Goals as goal
 pub returns-then-not-header_good : goal.returns-then-not-header_good
 returns-then-not-header_good c =
     let stop = stop_header _ _ _ _ c.header_good.ensures (ap not c.if-not-header_good.true) in
-    parts (bytes_refused _ _ _ _ refl (Refused NotATable 0) false (sym (refused_stops NotATable 0)) stop refl)
+    parts (bytes_refused _ _ _ _ refl (refuse NotATable 0) false (sym (refused_stops NotATable 0)) stop refl)
 
 pub check_past_header-of_table-requires : goal.check_past_header-of_table-requires
 check_past_header-of_table-requires c = search (rules, header_passed)

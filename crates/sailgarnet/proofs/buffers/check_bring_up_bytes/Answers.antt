@@ -3,7 +3,7 @@ use mathlib.Core.Path.{ap}
 use mathlib.Core.Path.{refl, sym}
 use mathlib.Core.Bool.{false}
 use borrow.Author.Rules.{rules}
-use Rattle.rules.specs.declared.Verdict.TheVariants.{Refused}
+use Rattle.rules.specs.Verdict.{refuse}
 use Rattle.rules.specs.declared.Reason.TheVariants.{NotATable}
 use Rattle.rules.proofs.Answers.{refused_stops}
 use Rattle.laws.proofs.BringUpLists.{bring_up_checked_bytes}
@@ -15,7 +15,7 @@ use Rattle.sailgarnet.proofs.buffers.check_bring_up_bytes.Goals as goal
 pub returns-then-not-header_good : goal.returns-then-not-header_good
 returns-then-not-header_good c =
     record {
-      answer = check_bytes_refused _ _ _ (Refused NotATable 0) false (stop_header _ _ _ _ c.header_good.ensures (ap not c.if-not-header_good.true))
+      answer = check_bytes_refused _ _ _ (refuse NotATable 0) false (stop_header _ _ _ _ c.header_good.ensures (ap not c.if-not-header_good.true))
           (sym (refused_stops NotATable 0)) refl;
       checked = bring_up_checked_bytes _ _ _;
     }

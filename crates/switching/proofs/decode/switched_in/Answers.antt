@@ -2,10 +2,10 @@ use Rattle.switching.specs.Decode.{switched}
 use Rattle.switching.proofs.decode.switched_in.Goals as goal
 
 -- Each arm by what the match told.
-pub returns-in-Is : goal.returns-in-Is
+pub returns-in-Some : goal.returns-in-Is
 unfolding switched
-returns-in-Is c = cc
+returns-in-Some c = cc
 
-pub returns-in-NoCall : goal.returns-in-NoCall
+pub returns-in-None : goal.returns-in-None
 unfolding switched
-returns-in-NoCall c = cc
+returns-in-None c = cc

@@ -9,8 +9,8 @@ returns-then-not-here c = search (rules, own_call_lem)
 pub take_call-requires : goal.take_call-requires
 take_call-requires c = search (rules, call_in_range)
 
-pub returns-in-Is : goal.returns-in-Is
-returns-in-Is c = search (rules, own_call_lem)
+pub returns-in-Some : goal.returns-in-Is
+returns-in-Some c = search (rules, own_call_lem)
 
-pub returns-in-NoCall : goal.returns-in-NoCall
-returns-in-NoCall c = search (rules, own_call_lem)
+pub returns-in-None : goal.returns-in-None
+returns-in-None c = search (rules, own_call_lem)

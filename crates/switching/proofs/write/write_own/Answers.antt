@@ -33,9 +33,9 @@ pub shape_of-plan : goal.shape_of-plan
 shape_of-plan c = search rules
 
 -- src/write.rt:21:1
-pub returns-in-Is : goal.returns-in-Is
-returns-in-Is c = own_word _ _ _ _ _ c.requires.1 c.in-Is.is c.word_of.ensures
+pub returns-in-Some : goal.returns-in-Is
+returns-in-Some c = own_word _ _ _ _ _ c.requires.1 c.in-Is.is c.word_of.ensures
 
 -- src/write.rt:21:1
-pub returns-in-NoCall : goal.returns-in-NoCall
-returns-in-NoCall c = no_own_word _ _ _ c.in-NoCall.is
+pub returns-in-None : goal.returns-in-None
+returns-in-None c = no_own_word _ _ _ c.in-None.is
