@@ -1,5 +1,5 @@
 -- What the rules say of numbered things, such as resources, devices and bytes: the lowest with a property, all of them, a list of them.
-use Rattle.std.specs.Prelude.{ℕ, zero, suc, Bool, true, false, not, cond, List, [], ◌∷◌, ◌++◌, leb, ltb}
+use Rattle.std.specs.Prelude.{ℕ, zero, suc, Option, Some, None, Bool, true, false, not, cond, List, [], ◌∷◌, ◌++◌, leb, ltb}
 
 -- the lowest of the k numbers from i on with a property, else their end
 unfoldable pub least_from : (ℕ → Bool) → ℕ → ℕ → ℕ
@@ -9,6 +9,10 @@ least_from f i (suc k) = elim (f i) [ true ↦ i | false ↦ least_from f (suc i
 -- the lowest number below n with a property, else n
 abbrev pub least : (ℕ → Bool) → ℕ → ℕ
 least f n = least_from f 0 n
+
+-- the same where no number may have it
+unfoldable pub least_below : (ℕ → Bool) → ℕ → Option ℕ
+least_below f n = cond (ltb (least f n) n) (Some (least f n)) None
 
 -- every number below n has the property
 unfoldable pub every : (ℕ → Bool) → ℕ → Bool
