@@ -43,31 +43,31 @@ use Rattle.switching.proofs.Walks.{phases_are}
 use Rattle.switching.proofs.Answered.{Answered, outcome_refused, outcome_written, front_bytes, list_refused, list_19, list_done}
 use Rattle.bringup.specs.Passed.{BringUpState}
 
--- ---- the checks in turn; v is a stage's answer, p whether it passes
-pub stop_table : (t b : List ℕ) (room : Bool) (v : Verdict) (p : Bool) → v ≡ table_verdict t → p ≡ passes v → not p ≡ true
+-- ---- the checks in turn; v is a stage's answer
+pub stop_table : (t b : List ℕ) (room : Bool) (v : Verdict) → v ≡ table_verdict t → passes v ≡ false
     → v ≡ bring_up_stages room t b
 unfolding bring_up_stages
-stop_table t b room v p e f n = e ∙ sym (first_stop (table_verdict t) _ (Ok 0) (answer_stopped v _ p e f n))
+stop_table t b room v e n = e ∙ sym (first_stop (table_verdict t) _ (Ok 0) (answer_stopped v _ e n))
 
 -- h: whether the header is good
 pub stop_header : (t b : List ℕ) (room h : Bool) → h ≡ header_good t → not h ≡ true → refuse NotATable 0 ≡ bring_up_stages room t b
 stop_header t b room h e n =
-    stop_table t b room (refuse NotATable 0) false (no_table t h e n) (sym (refused_stops NotATable 0)) refl
+    stop_table t b room (refuse NotATable 0) (no_table t h e n) (refused_stops NotATable 0)
 
-module _ (t b : List ℕ) (done : table_verdict t ≡ Ok 0) (v : Verdict) (p : Bool) (e : v ≡ state_but_power_verdict t b) (f : p ≡ passes v)
+module _ (t b : List ℕ) (done : table_verdict t ≡ Ok 0) (v : Verdict) (e : v ≡ state_but_power_verdict t b)
     (room : Bool) where
   on_table : passes (table_verdict t) ≡ true
   on_table = ap passes done ∙ done_passes 0
 
-  pub stop_state : not p ≡ true → v ≡ bring_up_stages room t b
+  pub stop_state : passes v ≡ false → v ≡ bring_up_stages room t b
   unfolding bring_up_stages
   stop_state n =
       e ∙ sym (first_pass (table_verdict t) _ (Ok 0) on_table
-      ∙ first_stop (state_but_power_verdict t b) _ (Ok 0) (answer_stopped v _ p e f n))
+      ∙ first_stop (state_but_power_verdict t b) _ (Ok 0) (answer_stopped v _ e n))
 
-  module _ (n : not p ≡ false) where
+  module _ (n : passes v ≡ true) where
     on_state : passes (state_but_power_verdict t b) ≡ true
-    on_state = answer_passed v _ p e f n
+    on_state = answer_passed v _ e n
 
     pub stop_room : not room ≡ true → refuse NoRoom 0 ≡ bring_up_stages room t b
     unfolding bring_up_stages
@@ -84,10 +84,10 @@ module _ (t b : List ℕ) (done : table_verdict t ≡ Ok 0) (v : Verdict) (p : B
 pub ruleset in_turn = (stop_table, table_passed, stop_state, stop_room, all_passed)
 
 -- ---- what they have shown
-pub passed_by : (t b : List ℕ) (room : Bool) (v : Verdict) (p : Bool) → v ≡ bring_up_stages room t b → p ≡ passes v → not p ≡ false
+pub passed_by : (t b : List ℕ) (room : Bool) (v : Verdict) → v ≡ bring_up_stages room t b → passes v ≡ true
     → BringUpState t b
-passed_by t b room v p e f n =
-    let g = (bring_up_of room t b (answer_passed v _ p e f n)).0 in
+passed_by t b room v e n =
+    let g = (bring_up_of room t b (answer_passed v _ e n)).0 in
     record {
       sized = sized_of t g.table;
       long = (values_of t b g.values).long;
@@ -152,39 +152,39 @@ module _ (t b : List ℕ) (on target u v : ℕ) (h : on ≡ (status t b).on) (n 
 pub ruleset switch_laws = (state_sized, state_long, on_small, target_small, added_small, removed_small, test_is)
 
 -- ---- the outcome; n: the room that a plan must have, in words; m: the words or bytes that it has
-module _ (t b : List ℕ) (n m : ℕ) (i : n ≡ list_room (width t)) (v : Verdict) (p : Bool) (f : p ≡ passes v) where
-  pub room_there : v ≡ bring_up_stages (leb n m) t b → not p ≡ false → list_room (width t) ≤ m
-  room_there e k = rw i at (leb-true n m (bring_up_of (leb n m) t b (answer_passed v _ p e f k)).1)
+module _ (t b : List ℕ) (n m : ℕ) (i : n ≡ list_room (width t)) (v : Verdict) where
+  pub room_there : v ≡ bring_up_stages (leb n m) t b → passes v ≡ true → list_room (width t) ≤ m
+  room_there e k = rw i at (leb-true n m (bring_up_of (leb n m) t b (answer_passed v _ e k)).1)
 
-  pub room_bytes : v ≡ bring_up_stages (leb (4 * n) m) t b → not p ≡ false → 4 * list_room (width t) ≤ m
-  room_bytes e k = rw i at (leb-true (4 * n) m (bring_up_of (leb (4 * n) m) t b (answer_passed v _ p e f k)).1)
+  pub room_bytes : v ≡ bring_up_stages (leb (4 * n) m) t b → passes v ≡ true → 4 * list_room (width t) ≤ m
+  room_bytes e k = rw i at (leb-true (4 * n) m (bring_up_of (leb (4 * n) m) t b (answer_passed v _ e k)).1)
 
-module _ (t b plan : List ℕ) (n : ℕ) (i : n ≡ list_room (width t)) (v : Verdict) (p : Bool) (f : p ≡ passes v) where
+module _ (t b plan : List ℕ) (n : ℕ) (i : n ≡ list_room (width t)) (v : Verdict) where
   -- a plan of words
   module _ (e : v ≡ bring_up_stages (leb n (length plan)) t b) where
-    pub words_refused : not p ≡ true → Answered v b plan (bring_up_words t b plan)
+    pub words_refused : passes v ≡ false → Answered v b plan (bring_up_words t b plan)
     unfolding bring_up_words
-    words_refused k = outcome_refused _ v p (rw i at e) f (λ ws. ws) b plan (state_brought_up t b) (bring_up_list t b) k
+    words_refused k = outcome_refused _ v (rw i at e) (λ ws. ws) b plan (state_brought_up t b) (bring_up_list t b) k
 
-    pub words_brought : not p ≡ false → (k : ℕ) (b' plan' : List ℕ) → WrittenPlan (bring_up_list t b) (state_brought_up t b) plan k b' plan'
+    pub words_brought : passes v ≡ true → (k : ℕ) (b' plan' : List ℕ) → WrittenPlan (bring_up_list t b) (state_brought_up t b) plan k b' plan'
         → Answered (Ok k) b' plan' (bring_up_words t b plan)
     unfolding bring_up_words
     words_brought h k b' plan' w =
-        outcome_written _ v p (rw i at e) f (λ ws. ws) b plan (state_brought_up t b) (bring_up_list t b) h k b' plan' w.count w.state
+        outcome_written _ v (rw i at e) (λ ws. ws) b plan (state_brought_up t b) (bring_up_list t b) h k b' plan' w.count w.state
         w.words
 
   -- a plan of bytes
   module _ (e : v ≡ bring_up_stages (leb (4 * n) (length plan)) t b) where
-    pub bytes_refused : not p ≡ true → Answered v b plan (bring_up_bytes t b plan)
+    pub bytes_refused : passes v ≡ false → Answered v b plan (bring_up_bytes t b plan)
     unfolding bring_up_bytes
-    bytes_refused k = outcome_refused _ v p (rw i at e) f word_bytes b plan (state_brought_up t b) (bring_up_list t b) k
+    bytes_refused k = outcome_refused _ v (rw i at e) word_bytes b plan (state_brought_up t b) (bring_up_list t b) k
 
-    pub bytes_brought : not p ≡ false → (k : ℕ) (b' plan' words words' : List ℕ)
+    pub bytes_brought : passes v ≡ true → (k : ℕ) (b' plan' words words' : List ℕ)
         → WrittenPlan (bring_up_list t b) (state_brought_up t b) words k b' words'
         → plan' ≡ put plan 0 (word_bytes (take k words')) → Answered (Ok k) b' plan' (bring_up_bytes t b plan)
     unfolding bring_up_bytes
     bytes_brought h k b' plan' words words' w r =
-        outcome_written _ v p (rw i at e) f word_bytes b plan (state_brought_up t b) (bring_up_list t b) h k b' plan' w.count w.state
+        outcome_written _ v (rw i at e) word_bytes b plan (state_brought_up t b) (bring_up_list t b) h k b' plan' w.count w.state
         (r ∙ ap (put plan 0) (front_bytes (bring_up_list t b) (state_brought_up t b) words words' k b' w))
 
 -- what bring-up promises, of the parts of an outcome of words
@@ -193,34 +193,34 @@ pub words_brings : {v : Verdict} {b' plan' : List ℕ} (t b plan : List ℕ) →
 words_brings t b plan a = rw (a.verdict, a.state, a.plan) (brings_up_words t b plan)
 
 -- ---- the checker's answer; c is what the test said
-module _ (t b list : List ℕ) (v : Verdict) (p : Bool) (e : v ≡ bring_up_stages true t b) (f : p ≡ passes v) where
+module _ (t b list : List ℕ) (v : Verdict) (e : v ≡ bring_up_stages true t b) where
   -- of a list of words
-  pub check_refused : not p ≡ true → v ≡ check_bring_up_words t b list
+  pub check_refused : passes v ≡ false → v ≡ check_bring_up_words t b list
   unfolding check_bring_up_words
-  check_refused n = list_refused _ v p e f _ n
+  check_refused n = list_refused _ v e _ n
 
-  module _ (c : Bool) (n : not p ≡ false) (g : c ≡ conforming_to_bring_up (station t) (status t b) list) where
+  module _ (c : Bool) (n : passes v ≡ true) (g : c ≡ conforming_to_bring_up (station t) (status t b) list) where
     pub check_19 : not c ≡ true → refuse NotConforming 0 ≡ check_bring_up_words t b list
     unfolding check_bring_up_words
-    check_19 z = list_19 _ v p e f c _ n g z
+    check_19 z = list_19 _ v e c _ n g z
 
     pub check_done : not c ≡ false → Ok 0 ≡ check_bring_up_words t b list
     unfolding check_bring_up_words
-    check_done z = list_done _ v p e f c _ n g z
+    check_done z = list_done _ v e c _ n g z
 
   -- of a list of bytes
-  pub check_bytes_refused : not p ≡ true → v ≡ check_bring_up_bytes t b list
+  pub check_bytes_refused : passes v ≡ false → v ≡ check_bring_up_bytes t b list
   unfolding check_bring_up_bytes
-  check_bytes_refused n = list_refused _ v p e f _ n
+  check_bytes_refused n = list_refused _ v e _ n
 
-  module _ (c : Bool) (n : not p ≡ false) (g : c ≡ of_bytes (conforming_to_bring_up (station t) (status t b)) list) where
+  module _ (c : Bool) (n : passes v ≡ true) (g : c ≡ of_bytes (conforming_to_bring_up (station t) (status t b)) list) where
     pub check_bytes_19 : not c ≡ true → refuse NotConforming 0 ≡ check_bring_up_bytes t b list
     unfolding check_bring_up_bytes
-    check_bytes_19 z = list_19 _ v p e f c _ n g z
+    check_bytes_19 z = list_19 _ v e c _ n g z
 
     pub check_bytes_done : not c ≡ false → Ok 0 ≡ check_bring_up_bytes t b list
     unfolding check_bring_up_bytes
-    check_bytes_done z = list_done _ v p e f c _ n g z
+    check_bytes_done z = list_done _ v e c _ n g z
 
 pub ruleset of_words = (check_refused, check_19, check_done)
 

@@ -30,35 +30,35 @@ test_is t b q on c ws r e f g =
     g ∙ ap (λ (x : Change). walked (station t) x.switching ws) change
     ∙ walked_is (station t) (own_call (station t) ((status t b).entries q.device) q) (own_last q) (status t b).on _ ws
 
--- ---- the answer. v is the answer of the checks before, p whether it passes, c what the test said
-module _ (t b : List ℕ) (q : Request) (list : List ℕ) (v : Verdict) (p : Bool) (e : v ≡ stages_verdict true t b q) (f : p ≡ passes v) where
+-- ---- the answer. v is the answer of the checks before, c what the test said
+module _ (t b : List ℕ) (q : Request) (list : List ℕ) (v : Verdict) (e : v ≡ stages_verdict true t b q) where
   -- of a list of words
-  pub words_refused : not p ≡ true → v ≡ check_words t b q list
+  pub words_refused : passes v ≡ false → v ≡ check_words t b q list
   unfolding check_words
-  words_refused n = list_refused _ v p e f _ n
+  words_refused n = list_refused _ v e _ n
 
-  module _ (c : Bool) (n : not p ≡ false) (g : c ≡ conforming_to (station t) (status t b) q list) where
+  module _ (c : Bool) (n : passes v ≡ true) (g : c ≡ conforming_to (station t) (status t b) q list) where
     pub words_19 : not c ≡ true → refuse NotConforming 0 ≡ check_words t b q list
     unfolding check_words
-    words_19 z = list_19 _ v p e f c _ n g z
+    words_19 z = list_19 _ v e c _ n g z
 
     pub words_done : not c ≡ false → Ok 0 ≡ check_words t b q list
     unfolding check_words
-    words_done z = list_done _ v p e f c _ n g z
+    words_done z = list_done _ v e c _ n g z
 
   -- of a list of bytes
-  pub bytes_refused : not p ≡ true → v ≡ check_bytes t b q list
+  pub bytes_refused : passes v ≡ false → v ≡ check_bytes t b q list
   unfolding check_bytes
-  bytes_refused n = list_refused _ v p e f _ n
+  bytes_refused n = list_refused _ v e _ n
 
-  module _ (c : Bool) (n : not p ≡ false) (g : c ≡ of_bytes (conforming_to (station t) (status t b) q) list) where
+  module _ (c : Bool) (n : passes v ≡ true) (g : c ≡ of_bytes (conforming_to (station t) (status t b) q) list) where
     pub bytes_19 : not c ≡ true → refuse NotConforming 0 ≡ check_bytes t b q list
     unfolding check_bytes
-    bytes_19 z = list_19 _ v p e f c _ n g z
+    bytes_19 z = list_19 _ v e c _ n g z
 
     pub bytes_done : not c ≡ false → Ok 0 ≡ check_bytes t b q list
     unfolding check_bytes
-    bytes_done z = list_done _ v p e f c _ n g z
+    bytes_done z = list_done _ v e c _ n g z
 
 pub ruleset of_words = (words_refused, words_19, words_done)
 

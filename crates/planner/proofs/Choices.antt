@@ -106,12 +106,11 @@ module _ (t b chosen₀ chosen : List ℕ) (x : ℕ) (c : chosen ≡ least_each 
           };
         }
 
--- ---- v is the answer of the checks, p whether it passes; n is the room that a plan must have, in words, as the code has it
-module _ (t b : List ℕ) (q : Request) (chosen chosen' : List ℕ) (n : ℕ) (i : n ≡ limit (width t) * list_room (width t)) (v : Verdict)
-    (p : Bool) (f : p ≡ passes v) (room : Bool) (e : v ≡ sleep_stages room t b q) (c : chosen' ≡ stages_left room t b q chosen)
-    (k : not p ≡ false) where
+-- ---- v is the answer of the checks; n is the room that a plan must have, in words, as the code has it
+module _ (t b : List ℕ) (q : Request) (chosen chosen' : List ℕ) (n : ℕ) (i : n ≡ limit (width t) * list_room (width t)) (v : Verdict) (room : Bool) (e : v ≡ sleep_stages room t b q) (c : chosen' ≡ stages_left room t b q chosen)
+    (k : passes v ≡ true) where
   passes_all : passes (sleep_stages room t b q) ≡ true
-  passes_all = sym (ap passes e) ∙ sym f ∙ not-false p k
+  passes_all = sym (ap passes e) ∙ k
 
   passed : SleepPassed t b q × (room ≡ true)
   passed = sleep_of room t b q passes_all
@@ -132,36 +131,36 @@ pub states_64 : (t states : List ℕ) → table_verdict t ≡ Ok 0 → length st
 states_64 t states e l = omega (arith, (accepted t (ap passes e ∙ done_passes 0)).devices, (width_wide t).high)
 
 module _ (t b : List ℕ) (q : Request) (plan : List ℕ) (kind : is_sleep q ≡ true) (n : ℕ) (i : n ≡ limit (width t) * list_room (width t))
-    (v : Verdict) (p : Bool) (f : p ≡ passes v) where
+    (v : Verdict) where
   -- a plan of words
   module _ (e : v ≡ sleep_stages (leb n (length plan)) t b q) where
-    pub sleep_words_refused : not p ≡ true → Answered v b plan (plan_words t b q plan)
-    sleep_words_refused k = outcome_stops _ (λ r. sleep_stages r t b q) _ b plan _ _ _ (words_sleep t b q plan kind) n i v p f e k
+    pub sleep_words_refused : passes v ≡ false → Answered v b plan (plan_words t b q plan)
+    sleep_words_refused k = outcome_stops _ (λ r. sleep_stages r t b q) _ b plan _ _ _ (words_sleep t b q plan kind) n i v e k
 
-    pub sleep_words_planned : not p ≡ false → (chosen chosen' : List ℕ) → chosen' ≡ stages_left (leb n (length plan)) t b q chosen
+    pub sleep_words_planned : passes v ≡ true → (chosen chosen' : List ℕ) → chosen' ≡ stages_left (leb n (length plan)) t b q chosen
         → (k : ℕ) (b' plan' : List ℕ)
         → WrittenFrom 1 (λ ws. ws) (choice_list t b (states_in chosen')) (choice_state t b (states_in chosen')) plan 0 k b' plan'
         → Answered (Ok k) b' plan' (plan_words t b q plan)
     sleep_words_planned h chosen chosen' c k b' plan' w =
-        let l = passed_least t b q _ chosen chosen' (sym (ap passes e) ∙ sym f ∙ not-false p h) c in
+        let l = passed_least t b q _ chosen chosen' (sym (ap passes e) ∙ h) c in
         let list = least_list t b chosen chosen' q.a l in
-        outcome_done _ (λ r. sleep_stages r t b q) _ b plan _ _ _ (words_sleep t b q plan kind) n i v p f e h k b' plan'
+        outcome_done _ (λ r. sleep_stages r t b q) _ b plan _ _ _ (words_sleep t b q plan kind) n i v e h k b' plan'
         (w.count ∙ ap length list) (w.state ∙ least_state_lem t b chosen chosen' q.a l) (w.elements ∙ ap (put plan 0) list)
 
   -- a plan of bytes
   module _ (e : v ≡ sleep_stages (leb (4 * n) (length plan)) t b q) where
-    pub sleep_bytes_refused : not p ≡ true → Answered v b plan (plan_bytes t b q plan)
+    pub sleep_bytes_refused : passes v ≡ false → Answered v b plan (plan_bytes t b q plan)
     sleep_bytes_refused k =
-        outcome_stops _ (λ r. sleep_stages r t b q) _ b plan _ _ _ (bytes_sleep t b q plan kind) (4 * n) (ap (λ (k : ℕ). 4 * k) i) v p f e k
+        outcome_stops _ (λ r. sleep_stages r t b q) _ b plan _ _ _ (bytes_sleep t b q plan kind) (4 * n) (ap (λ (k : ℕ). 4 * k) i) v e k
 
-    pub sleep_bytes_planned : not p ≡ false → (chosen chosen' : List ℕ) → chosen' ≡ stages_left (leb (4 * n) (length plan)) t b q chosen
+    pub sleep_bytes_planned : passes v ≡ true → (chosen chosen' : List ℕ) → chosen' ≡ stages_left (leb (4 * n) (length plan)) t b q chosen
         → (k : ℕ) (b' plan' : List ℕ)
         → WrittenFrom 4 word_bytes (choice_list t b (states_in chosen')) (choice_state t b (states_in chosen')) plan 0 k b' plan'
         → Answered (Ok k) b' plan' (plan_bytes t b q plan)
     sleep_bytes_planned h chosen chosen' c k b' plan' w =
-        let l = passed_least t b q _ chosen chosen' (sym (ap passes e) ∙ sym f ∙ not-false p h) c in
+        let l = passed_least t b q _ chosen chosen' (sym (ap passes e) ∙ h) c in
         let list = least_list t b chosen chosen' q.a l in
-        outcome_done _ (λ r. sleep_stages r t b q) _ b plan _ _ _ (bytes_sleep t b q plan kind) (4 * n) (ap (λ (k : ℕ). 4 * k) i) v p f e h
+        outcome_done _ (λ r. sleep_stages r t b q) _ b plan _ _ _ (bytes_sleep t b q plan kind) (4 * n) (ap (λ (k : ℕ). 4 * k) i) v e h
         k b' plan' (w.count ∙ ap length list) (w.state ∙ least_state_lem t b chosen chosen' q.a l)
         (w.elements ∙ ap (λ (ws : List ℕ). put plan 0 (word_bytes ws)) list)
 
@@ -240,9 +239,8 @@ in_place list after plan n b' plan' w = record { count = w.count; state = w.stat
 
 pub ruleset by_choice = (choice_still, choice_moves, in_place)
 
--- ---- of any kind, what is no table: v is the table's answer, p whether it passes
-pub bytes_no_table : (t b : List ℕ) (q : Request) (plan : List ℕ) (v : Verdict) (p : Bool) → v ≡ table_verdict t → p ≡ passes v
-    → not p ≡ true → Answered v b plan (plan_bytes t b q plan)
-bytes_no_table t b q plan v p e f n =
-    decide (is_sleep q) (λ k. sleep_bytes_refused t b q plan k _ refl v p f (sleep_table t b q _ v p e f n) n)
-    (λ k. bytes_refused t b q plan k _ refl v p f (stop_table t v p e f b q _ n) n)
+-- ---- of any kind, what is no table: v is the table's answer
+pub bytes_no_table : (t b : List ℕ) (q : Request) (plan : List ℕ) (v : Verdict) → v ≡ table_verdict t → passes v ≡ false → Answered v b plan (plan_bytes t b q plan)
+bytes_no_table t b q plan v e n =
+    decide (is_sleep q) (λ k. sleep_bytes_refused t b q plan k _ refl v (sleep_table t b q _ v e n) n)
+    (λ k. bytes_refused t b q plan k _ refl v (stop_table t v e b q _ n) n)

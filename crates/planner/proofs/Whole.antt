@@ -79,48 +79,45 @@ module _ {v : Verdict} {b' plan' : List ℕ} (t b : List ℕ) (q : Request) (pla
   pub words_sleeps : is_sleep q ≡ true → SleepEntryWords t b q plan (number_of v) (count_of v) b' plan'
   words_sleeps k = rw (a.verdict, a.state, a.plan) (sleeps_words t b q plan k)
 
--- an outcome o of checks that ask for so much room: v is their answer, p whether it passes, and n the room as the code has it
+-- an outcome o of checks that ask for so much room: v is their answer, and n the room as the code has it
 module _ (written : List ℕ → List ℕ) (stages : Bool → Verdict) (room : ℕ) (b plan after list : List ℕ) (o : Outcome)
-    (is : o ≡ plan_outcome written (stages (leb room (length plan))) b plan after list) (n : ℕ) (i : n ≡ room) (v : Verdict) (p : Bool)
-    (f : p ≡ passes v) (e : v ≡ stages (leb n (length plan))) where
-  pub outcome_stops : not p ≡ true → Answered v b plan o
-  outcome_stops k = rw is (outcome_refused _ v p (rw i at e) f written b plan after list k)
+    (is : o ≡ plan_outcome written (stages (leb room (length plan))) b plan after list) (n : ℕ) (i : n ≡ room) (v : Verdict) (e : v ≡ stages (leb n (length plan))) where
+  pub outcome_stops : passes v ≡ false → Answered v b plan o
+  outcome_stops k = rw is (outcome_refused _ v (rw i at e) written b plan after list k)
 
-  pub outcome_done : not p ≡ false → (k : ℕ) (b' plan' : List ℕ) → k ≡ length list → b' ≡ after → plan' ≡ put plan 0 (written list)
+  pub outcome_done : passes v ≡ true → (k : ℕ) (b' plan' : List ℕ) → k ≡ length list → b' ≡ after → plan' ≡ put plan 0 (written list)
       → Answered (Ok k) b' plan' o
   outcome_done h k b' plan' count state elements =
-      rw is (outcome_written _ v p (rw i at e) f written b plan after list h k b' plan' count state elements)
+      rw is (outcome_written _ v (rw i at e) written b plan after list h k b' plan' count state elements)
 
 -- n: the room that a plan must have, in words; m: the words or bytes that it has
-module _ (t b : List ℕ) (q : Request) (n m : ℕ) (i : n ≡ list_room (width t)) (v : Verdict) (p : Bool) (f : p ≡ passes v) where
-  pub room_there : v ≡ stages_verdict (leb n m) t b q → not p ≡ false → list_room (width t) ≤ m
-  room_there e k = rw i at (leb-true n m (room_passed (leb n m) t b q (sym (ap passes e) ∙ sym f ∙ not-false p k)))
+module _ (t b : List ℕ) (q : Request) (n m : ℕ) (i : n ≡ list_room (width t)) (v : Verdict) where
+  pub room_there : v ≡ stages_verdict (leb n m) t b q → passes v ≡ true → list_room (width t) ≤ m
+  room_there e k = rw i at (leb-true n m (room_passed (leb n m) t b q (sym (ap passes e) ∙ k)))
 
-  pub room_bytes : v ≡ stages_verdict (leb (4 * n) m) t b q → not p ≡ false → 4 * list_room (width t) ≤ m
-  room_bytes e k = rw i at (leb-true (4 * n) m (room_passed (leb (4 * n) m) t b q (sym (ap passes e) ∙ sym f ∙ not-false p k)))
+  pub room_bytes : v ≡ stages_verdict (leb (4 * n) m) t b q → passes v ≡ true → 4 * list_room (width t) ≤ m
+  room_bytes e k = rw i at (leb-true (4 * n) m (room_passed (leb (4 * n) m) t b q (sym (ap passes e) ∙ k)))
 
-module _ (t b : List ℕ) (q : Request) (plan : List ℕ) (kind : is_sleep q ≡ false) (n : ℕ) (i : n ≡ list_room (width t)) (v : Verdict)
-    (p : Bool) (f : p ≡ passes v) where
+module _ (t b : List ℕ) (q : Request) (plan : List ℕ) (kind : is_sleep q ≡ false) (n : ℕ) (i : n ≡ list_room (width t)) (v : Verdict) where
   -- a plan of words
   module _ (e : v ≡ stages_verdict (leb n (length plan)) t b q) where
-    pub words_refused : not p ≡ true → Answered v b plan (plan_words t b q plan)
-    words_refused k = outcome_stops _ (λ r. stages_verdict r t b q) _ b plan _ _ _ (words_request t b q plan kind) n i v p f e k
+    pub words_refused : passes v ≡ false → Answered v b plan (plan_words t b q plan)
+    words_refused k = outcome_stops _ (λ r. stages_verdict r t b q) _ b plan _ _ _ (words_request t b q plan kind) n i v e k
 
-    pub words_planned : not p ≡ false → (k : ℕ) (b' plan' : List ℕ) → Written t b q plan k b' plan'
+    pub words_planned : passes v ≡ true → (k : ℕ) (b' plan' : List ℕ) → Written t b q plan k b' plan'
         → Answered (Ok k) b' plan' (plan_words t b q plan)
     words_planned h k b' plan' w =
-        outcome_done _ (λ r. stages_verdict r t b q) _ b plan _ _ _ (words_request t b q plan kind) n i v p f e h k b' plan' w.count
+        outcome_done _ (λ r. stages_verdict r t b q) _ b plan _ _ _ (words_request t b q plan kind) n i v e h k b' plan' w.count
         w.state w.words
 
   -- a plan of bytes
   module _ (e : v ≡ stages_verdict (leb (4 * n) (length plan)) t b q) where
-    pub bytes_refused : not p ≡ true → Answered v b plan (plan_bytes t b q plan)
+    pub bytes_refused : passes v ≡ false → Answered v b plan (plan_bytes t b q plan)
     bytes_refused k =
-        outcome_stops _ (λ r. stages_verdict r t b q) _ b plan _ _ _ (bytes_request t b q plan kind) (4 * n) (ap (λ (k : ℕ). 4 * k) i) v p f
-        e k
+        outcome_stops _ (λ r. stages_verdict r t b q) _ b plan _ _ _ (bytes_request t b q plan kind) (4 * n) (ap (λ (k : ℕ). 4 * k) i) v e k
 
-    pub bytes_planned : not p ≡ false → (k : ℕ) (b' plan' words words' : List ℕ) → Written t b q words k b' words'
+    pub bytes_planned : passes v ≡ true → (k : ℕ) (b' plan' words words' : List ℕ) → Written t b q words k b' words'
         → plan' ≡ put plan 0 (word_bytes (take k words')) → Answered (Ok k) b' plan' (plan_bytes t b q plan)
     bytes_planned h k b' plan' words words' w r =
-        outcome_done _ (λ r. stages_verdict r t b q) _ b plan _ _ _ (bytes_request t b q plan kind) (4 * n) (ap (λ (k : ℕ). 4 * k) i) v p f e
+        outcome_done _ (λ r. stages_verdict r t b q) _ b plan _ _ _ (bytes_request t b q plan kind) (4 * n) (ap (λ (k : ℕ). 4 * k) i) v e
         h k b' plan' w.count w.state (r ∙ ap (put plan 0) (front_bytes (planned t b q) (state_after t b q) words words' k b' w))

@@ -46,34 +46,34 @@ module _ (room : Bool) (t b : List ℕ) (last v : Verdict) (e : v ≡ ready_verd
   ready_leads f = first_pass (ready_verdict room t b) _ (Ok 0) (sym (ap passes e) ∙ f)
 
 -- ---- the table's answer
-module _ (t : List ℕ) (v : Verdict) (p : Bool) (e : v ≡ table_verdict t) (f : p ≡ passes v) where
-  pub ready_table : (b : List ℕ) (room : Bool) → not p ≡ true → v ≡ ready_verdict room t b
+module _ (t : List ℕ) (v : Verdict) (e : v ≡ table_verdict t) where
+  pub ready_table : (b : List ℕ) (room : Bool) → passes v ≡ false → v ≡ ready_verdict room t b
   unfolding ready_verdict
-  ready_table b room n = rw e (sym (first_stop (table_verdict t) _ (Ok 0) (answer_stopped v _ p e f n)))
+  ready_table b room n = rw e (sym (first_stop (table_verdict t) _ (Ok 0) (answer_stopped v _ e n)))
 
-  pub stop_table : (b : List ℕ) (q : Request) (room : Bool) → not p ≡ true → v ≡ stages_verdict room t b q
+  pub stop_table : (b : List ℕ) (q : Request) (room : Bool) → passes v ≡ false → v ≡ stages_verdict room t b q
   unfolding stages_verdict
-  stop_table b q room n = ready_stops room t b _ v (ready_table b room n) (sym f ∙ not-true p n)
+  stop_table b q room n = ready_stops room t b _ v (ready_table b room n) n
 
 -- h: whether the header is good
 pub stop_header : (t b : List ℕ) (q : Request) (room h : Bool) → h ≡ header_good t → not h ≡ true
     → refuse NotATable 0 ≡ stages_verdict room t b q
-stop_header t b q room h e n = stop_table t (refuse NotATable 0) false (no_table t h e n) (sym (refused_stops NotATable 0)) b q room refl
+stop_header t b q room h e n = stop_table t (refuse NotATable 0) (no_table t h e n) b q room (refused_stops NotATable 0)
 
 -- ---- after it, the state's, and the room
-module _ (t b : List ℕ) (done : table_verdict t ≡ Ok 0) (u : Verdict) (r : Bool) (g : u ≡ state_verdict t b) (h : r ≡ passes u) where
+module _ (t b : List ℕ) (done : table_verdict t ≡ Ok 0) (u : Verdict) (g : u ≡ state_verdict t b) where
   on_table : passes (table_verdict t) ≡ true
   on_table = ap passes done ∙ done_passes 0
 
-  pub stop_state : (room : Bool) → not r ≡ true → u ≡ ready_verdict room t b
+  pub stop_state : (room : Bool) → passes u ≡ false → u ≡ ready_verdict room t b
   unfolding ready_verdict
   stop_state room n =
-      rw g (sym (first_pass (table_verdict t) _ (Ok 0) on_table ∙ first_stop (state_verdict t b) _ (Ok 0) (answer_stopped u _ r g h n)))
+      rw g (sym (first_pass (table_verdict t) _ (Ok 0) on_table ∙ first_stop (state_verdict t b) _ (Ok 0) (answer_stopped u _ g n)))
 
-  module _ (yes : not r ≡ false) (room : Bool) where
+  module _ (yes : passes u ≡ true) (room : Bool) where
     to_room : ready_verdict room t b ≡ first_of (unless room NoRoom 0 ∷ []) (Ok 0)
     unfolding ready_verdict
-    to_room = first_pass (table_verdict t) _ (Ok 0) on_table ∙ first_pass (state_verdict t b) _ (Ok 0) (answer_passed u _ r g h yes)
+    to_room = first_pass (table_verdict t) _ (Ok 0) on_table ∙ first_pass (state_verdict t b) _ (Ok 0) (answer_passed u _ g yes)
 
     pub stop_room : not room ≡ true → refuse NoRoom 0 ≡ ready_verdict room t b
     stop_room n =
@@ -87,26 +87,26 @@ module _ (t b : List ℕ) (done : table_verdict t ≡ Ok 0) (u : Verdict) (r : B
 pub ruleset in_turn = (stop_state, stop_room, with_room)
 
 -- ---- after these, the request
-module _ (t b : List ℕ) (done : table_verdict t ≡ Ok 0) (u : Verdict) (r : Bool) (g : u ≡ state_verdict t b) (h : r ≡ passes u) where
-  pub request_state : (q : Request) (room : Bool) → not r ≡ true → u ≡ stages_verdict room t b q
+module _ (t b : List ℕ) (done : table_verdict t ≡ Ok 0) (u : Verdict) (g : u ≡ state_verdict t b) where
+  pub request_state : (q : Request) (room : Bool) → passes u ≡ false → u ≡ stages_verdict room t b q
   unfolding stages_verdict
-  request_state q room n = ready_stops room t b _ u (stop_state t b done u r g h room n) (sym h ∙ not-true r n)
+  request_state q room n = ready_stops room t b _ u (stop_state t b done u g room n) n
 
-  module _ (yes : not r ≡ false) where
+  module _ (yes : passes u ≡ true) where
     -- the lists that the request's stage is handed stand apart, so that the search compares them with t and b once
     pub request_asks : (table image : List ℕ) → t ≡ table → b ≡ image → Ready table image
     request_asks table image x y =
-        rw (← x, ← y) (ready_of t b (ap passes done ∙ done_passes 0) (answer_passed u _ r g h yes))
+        rw (← x, ← y) (ready_of t b (ap passes done ∙ done_passes 0) (answer_passed u _ g yes))
 
     module _ (q : Request) (room : Bool) where
       pub request_room : not room ≡ true → refuse NoRoom 0 ≡ stages_verdict room t b q
       unfolding stages_verdict
-      request_room n = ready_stops room t b _ (refuse NoRoom 0) (stop_room t b done u r g h yes room n) (refused_stops NoRoom 0)
+      request_room n = ready_stops room t b _ (refuse NoRoom 0) (stop_room t b done u g yes room n) (refused_stops NoRoom 0)
 
       pub last_request : not room ≡ false → (x : Verdict) → x ≡ request_verdict (station t) (entries t b) q → x ≡ stages_verdict room t b q
       unfolding stages_verdict request_stage status_of
       last_request n x k =
-          k ∙ sym (ready_leads room t b _ (Ok 0) (with_room t b done u r g h yes room n) (done_passes 0)
+          k ∙ sym (ready_leads room t b _ (Ok 0) (with_room t b done u g yes room n) (done_passes 0)
           ∙ request_alone (station t) (entries t b) q)
 
 pub ruleset to_request = (stop_table, table_passed, request_state, request_asks, request_room, last_request)

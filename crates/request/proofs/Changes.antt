@@ -44,9 +44,8 @@ permitted_of t b q g =
       passed = ap passes (stages_pass true t b q g refl) ∙ done_passes 0;
     }
 
-pub permitted_by : (t b : List ℕ) (q : Request) (room : Bool) (v : Verdict) (p : Bool) → v ≡ stages_verdict room t b q → p ≡ passes v
-    → not p ≡ false → PermittedRequest t b q
-permitted_by t b q room v p e f n = permitted_of t b q (stages_of room t b q (ap passes (sym e) ∙ sym f ∙ not-false p n))
+pub permitted_by : (t b : List ℕ) (q : Request) (room : Bool) (v : Verdict) → v ≡ stages_verdict room t b q → passes v ≡ true → PermittedRequest t b q
+permitted_by t b q room v e n = permitted_of t b q (stages_of room t b q (ap passes (sym e) ∙ n))
 
 module _ (t b : List ℕ) (q : Request) (g : PermittedRequest t b q) where
   stages : Stages t b q

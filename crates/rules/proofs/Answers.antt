@@ -7,7 +7,9 @@ use native.Mathlib.Omega.{arith}
 use borrow.Author.Tests.{ltb-true, ltb-false, lt-ltb, le-ltb, not-true, not-false}
 use lib.Dec.{ltb}
 use Rattle.rules.specs.Verdict.{Verdict}
-use Rattle.std.specs.Prelude.{Ok}
+use Rattle.std.specs.Prelude.{Ok, Err, is_ok, IsErrAnd}
+use Rattle.std.proofs.lemmas.Result.{err_from_is_err_and}
+use Rattle.rules.specs.declared.Refusal.{Refusal}
 use Rattle.rules.specs.Verdict.{refuse}
 use Rattle.rules.specs.declared.Reason.{Reason}
 use Rattle.rules.specs.declared.Reason.TheVariants.{NotATable, TooMany, WrongLength, BadResource, BadDevice, BadObjects}
@@ -27,6 +29,12 @@ done_passes n = refl
 pub refused_stops : (why : Reason) (at : ℕ) → passes (refuse why at) ≡ false
 unfolding passes
 refused_stops why at = refl
+
+-- what the library says of a result is the same test
+pub ok_passes : (v : Verdict) → is_ok v ≡ passes v
+unfolding passes
+ok_passes (Ok n) = refl
+ok_passes (Err r) = refl
 
 -- ---- a check that passes is left behind, and a refusal is the answer
 pub first_pass : (v : Verdict) (vs : List Verdict) (last : Verdict) → passes v ≡ true → first_of (v ∷ vs) last ≡ first_of vs last
@@ -139,10 +147,20 @@ no_reason_0 NotConforming e = omega arith
 no_reason_0 ArmedForOther e = omega arith
 no_reason_0 NoChoice e = omega arith
 
--- ---- v is an answer as code has it, w what it is by the rules, p whether it passes
-module _ (v w : Verdict) (p : Bool) (e : v ≡ w) (f : p ≡ passes v) where
-  pub answer_passed : not p ≡ false → passes w ≡ true
-  answer_passed n = sym (ap passes e) ∙ sym f ∙ not-false p n
+-- ---- v is an answer as code has it, w what it is by the rules
+module _ (v w : Verdict) (e : v ≡ w) where
+  pub answer_passed : passes v ≡ true → passes w ≡ true
+  answer_passed n = ap passes (sym e) ∙ n
 
-  pub answer_stopped : not p ≡ true → passes w ≡ false
-  answer_stopped n = sym (ap passes e) ∙ sym f ∙ not-true p n
+  pub answer_stopped : passes v ≡ false → passes w ≡ false
+  answer_stopped n = ap passes (sym e) ∙ n
+
+-- ---- where `?` goes on and where it returns, and that it returns the refusal as it is
+pub ok_passed : (v : Verdict) (n : ℕ) → v ≡ Ok n → passes v ≡ true
+ok_passed v n e = ap passes e ∙ done_passes n
+
+pub err_stopped : (v : Verdict) (r : Refusal) → v ≡ Err r → passes v ≡ false
+err_stopped v r e = ap passes e ∙ refused_stops r.0 r.1
+
+pub handed_on : (v u : Verdict) (r : Refusal) → v ≡ Err r → IsErrAnd u (λ y. y ≡ r) → u ≡ v
+handed_on v u r e g = let p = err_from_is_err_and u g in p.1 ∙ ap Err p.2 ∙ sym e

@@ -23,7 +23,7 @@ use Rattle.rules.specs.Outcomes.{outcome, fresh_verdict, fresh, table_and_state_
 use Rattle.rules.proofs.Answers.{done_passes, refused_stops, first_pass, first_stop, first_alone, unless_of}
 use Rattle.laws.proofs.Accepted.{accepted}
 use Rattle.laws.proofs.States.{GoodValues, values_of}
-use Rattle.table.proofs.Verdicts.{sized_done, sized_told, accepted_is, table_passed}
+use Rattle.table.proofs.Verdicts.{sized_done, sized_told, sized_passed, table_passed}
 use Rattle.status.proofs.Keeps.{with_power, without_power}
 use Rattle.status.specs.Ready.{Ready, status_with, consistency_verdict_with}
 
@@ -103,43 +103,43 @@ pub ruleset state_laws = (sized_done, image_long, ready_by, state_values, state_
 
 pub ruleset but_power_laws = (sized_done, ready_by, but_power_values, but_power_is)
 
--- ---- 1 to 8; v is what the check of the table answered, p whether that passes
+-- ---- 1 to 8; v is what the check of the table answered
 state_alone : (t b : List ℕ) → first_of (state_verdict t b ∷ []) (Ok 0) ≡ state_verdict t b
 unfolding state_verdict
 state_alone t b = first_alone _
 
-module _ (t b : List ℕ) (v : Verdict) (p : Bool) (e : v ≡ table_verdict t) (f : p ≡ passes v) where
-  pub table_first : not p ≡ true → v ≡ table_and_state_verdict t b
+module _ (t b : List ℕ) (v : Verdict) (e : v ≡ table_verdict t) where
+  pub table_first : passes v ≡ false → v ≡ table_and_state_verdict t b
   unfolding table_and_state_verdict
-  table_first n = rw (← e) (sym (first_stop v _ (Ok 0) (sym f ∙ not-true p n)))
+  table_first n = rw (← e) (sym (first_stop v _ (Ok 0) n))
 
-  pub state_second : not p ≡ false → (u : Verdict) → u ≡ state_verdict t b → u ≡ table_and_state_verdict t b
+  pub state_second : passes v ≡ true → (u : Verdict) → u ≡ state_verdict t b → u ≡ table_and_state_verdict t b
   unfolding table_and_state_verdict
-  state_second n u g = g ∙ sym (rw (← e) (first_pass v _ (Ok 0) (sym f ∙ not-false p n) ∙ state_alone t b))
+  state_second n u g = g ∙ sym (rw (← e) (first_pass v _ (Ok 0) n ∙ state_alone t b))
 
 pub ruleset both_laws = (table_passed, table_first, state_second)
 
--- ---- a fresh state; v is what the check of the table answered, p whether that passes, k the size that an image has
-module _ (t b : List ℕ) (v : Verdict) (p : Bool) (e : v ≡ table_verdict t) (f : p ≡ passes v) where
-  fresh_first : not p ≡ true → fresh_verdict t b ≡ v
+-- ---- a fresh state; v is what the check of the table answered, k the size that an image has
+module _ (t b : List ℕ) (v : Verdict) (e : v ≡ table_verdict t) where
+  fresh_first : passes v ≡ false → fresh_verdict t b ≡ v
   unfolding fresh_verdict
-  fresh_first n = rw (← e) (first_stop v _ (Ok 0) (sym f ∙ not-true p n))
+  fresh_first n = rw (← e) (first_stop v _ (Ok 0) n)
 
-  pub fresh_refused : not p ≡ true → v ≡ (fresh t b).verdict
+  pub fresh_refused : passes v ≡ false → v ≡ (fresh t b).verdict
   unfolding fresh outcome
   fresh_refused n = sym (fresh_first n)
 
-  pub fresh_refused_state : not p ≡ true → b ≡ (fresh t b).state
+  pub fresh_refused_state : passes v ≡ false → b ≡ (fresh t b).state
   unfolding fresh outcome
-  fresh_refused_state n = rw (fresh_first n, ← f, not-true p n) refl
+  fresh_refused_state n = rw (fresh_first n, n) refl
 
-  fresh_second : not p ≡ false → (good : Bool) → eqb (length b) (image_size (width t)) ≡ good → fresh_verdict t b ≡ cond good (Ok 0)
+  fresh_second : passes v ≡ true → (good : Bool) → eqb (length b) (image_size (width t)) ≡ good → fresh_verdict t b ≡ cond good (Ok 0)
       (refuse BadState 0)
   unfolding fresh_verdict
-  fresh_second n true q = rw (← e, first_pass v _ (Ok 0) (sym f ∙ not-false p n), q) (unfold unless first_of passes in refl)
-  fresh_second n false q = rw (← e, first_pass v _ (Ok 0) (sym f ∙ not-false p n), q) (unfold unless first_of passes in refl)
+  fresh_second n true q = rw (← e, first_pass v _ (Ok 0) n, q) (unfold unless first_of passes in refl)
+  fresh_second n false q = rw (← e, first_pass v _ (Ok 0) n, q) (unfold unless first_of passes in refl)
 
-  module _ (k : ℕ) (z : k ≡ image_size (width t)) (n : not p ≡ false) where
+  module _ (k : ℕ) (z : k ≡ image_size (width t)) (n : passes v ≡ true) where
     pub fresh_length : (length b ≡ k → ⊥) → refuse BadState 0 ≡ (fresh t b).verdict
     unfolding fresh outcome
     fresh_length l = sym (fresh_second n false (ne_eqb (length b) (image_size (width t)) (rw z at l)))
@@ -161,7 +161,7 @@ module _ (t b : List ℕ) (v : Verdict) (p : Bool) (e : v ≡ table_verdict t) (
 
 pub ruleset fresh_laws = (
   sized_told,
-  accepted_is,
+  sized_passed,
   fresh_refused,
   fresh_refused_state,
   fresh_length,

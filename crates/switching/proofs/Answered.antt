@@ -33,21 +33,21 @@ pub front_bytes : (list after d d' : List ℕ) (n : ℕ) (b' : List ℕ) → Wri
     → word_bytes (take n d') ≡ word_bytes list
 front_bytes list after d d' n b' w = ap word_bytes (ap (take n) w.words ∙ take_put d list n (sym w.count))
 
--- v is the answer of the checks, p whether it passes
-module _ (checks v : Verdict) (p : Bool) (e : v ≡ checks) (f : p ≡ passes v) where
+-- v is the answer of the checks
+module _ (checks v : Verdict) (e : v ≡ checks) where
   -- ---- plans
   module _ (written : List ℕ → List ℕ) (b plan after list : List ℕ) where
-    pub outcome_refused : not p ≡ true → Answered v b plan (plan_outcome written checks b plan after list)
+    pub outcome_refused : passes v ≡ false → Answered v b plan (plan_outcome written checks b plan after list)
     unfolding plan_outcome plan_verdict outcome
     outcome_refused n =
-        let same : plan_verdict checks list ≡ v = first_stop checks [] _ (answer_stopped v checks p e f n) ∙ sym e in
-        let no : passes (plan_verdict checks list) ≡ false = ap passes same ∙ sym f ∙ not-true p n in
+        let same : plan_verdict checks list ≡ v = first_stop checks [] _ (answer_stopped v checks e n) ∙ sym e in
+        let no : passes (plan_verdict checks list) ≡ false = ap passes same ∙ n in
         record { verdict = sym same; state = rw no refl; plan = rw no refl }
 
-    pub outcome_written : not p ≡ false → (n : ℕ) (b' plan' : List ℕ) → n ≡ length list → b' ≡ after → plan' ≡ put plan 0 (written list)
+    pub outcome_written : passes v ≡ true → (n : ℕ) (b' plan' : List ℕ) → n ≡ length list → b' ≡ after → plan' ≡ put plan 0 (written list)
         → Answered (Ok n) b' plan' (plan_outcome written checks b plan after list)
     outcome_written k n b' plan' c s w =
-        let is = plan_outcome_lem written checks b plan after list (answer_passed v checks p e f k) in
+        let is = plan_outcome_lem written checks b plan after list (answer_passed v checks e k) in
         record {
           verdict = rw c (sym (ap (λ (o : Outcome). o.verdict) is));
           state = s ∙ sym (ap (λ (o : Outcome). o.state) is);
@@ -55,19 +55,19 @@ module _ (checks v : Verdict) (p : Bool) (e : v ≡ checks) (f : p ≡ passes v)
         }
 
   -- ---- lists. c is what the test said
-  pub list_refused : (test : Bool) → not p ≡ true → v ≡ list_verdict checks test
+  pub list_refused : (test : Bool) → passes v ≡ false → v ≡ list_verdict checks test
   unfolding list_verdict
-  list_refused test n = e ∙ sym (first_stop _ _ _ (answer_stopped v checks p e f n))
+  list_refused test n = e ∙ sym (first_stop _ _ _ (answer_stopped v checks e n))
 
-  module _ (c test : Bool) (n : not p ≡ false) (g : c ≡ test) where
-    pub list_19 : not c ≡ true → Refused NotConforming 0 ≡ list_verdict checks test
+  module _ (c test : Bool) (n : passes v ≡ true) (g : c ≡ test) where
+    pub list_19 : not c ≡ true → refuse NotConforming 0 ≡ list_verdict checks test
     unfolding list_verdict
     list_19 z =
-        sym (first_pass _ _ _ (answer_passed v checks p e f n)
+        sym (first_pass _ _ _ (answer_passed v checks e n)
         ∙ rw (← g, unless_stop c NotConforming 0 (not-true c z)) (first_stop _ _ _ (refused_stops NotConforming 0)))
 
     pub list_done : not c ≡ false → Ok 0 ≡ list_verdict checks test
     unfolding list_verdict
     list_done z =
-        sym (first_pass _ _ _ (answer_passed v checks p e f n)
+        sym (first_pass _ _ _ (answer_passed v checks e n)
         ∙ rw (← g, unless_of c NotConforming 0 (not-false c z)) (first_pass _ _ _ (done_passes 0) ∙ first_none _))

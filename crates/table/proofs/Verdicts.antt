@@ -20,6 +20,7 @@ use Rattle.rules.specs.Station.{version_good, version_of, width, limit, record_s
 use Rattle.rules.specs.Table.{first_bad, device_fields, header_good, counts_good, length_good, resource_good, bad_field, fields_good}
 use Rattle.rules.specs.Table.{fields_or_objects, device_refusal, device_good, table_verdict}
 use Rattle.rules.specs.Outcomes.{record_part}
+use Rattle.rules.proofs.Answers.{answer_passed}
 use Rattle.rules.proofs.Answers.{done_passes, refused_stops, first_pass, first_stop, first_none, first_through, unless_of, unless_stop}
 use Rattle.rules.proofs.Answers.{lowest_stop}
 use Rattle.rules.proofs.Width.{width_wide}
@@ -246,9 +247,6 @@ sized_of t e =
 pub sized_done : (t : List ℕ) (n : ℕ) → table_verdict t ≡ Ok n → WellSized t
 sized_done t n e = sized_of t (ap passes e ∙ done_passes n)
 
-pub accepted_is : (t : List ℕ) (v : Verdict) (b : Bool) → v ≡ table_verdict t → b ≡ passes v → b ≡ passes (table_verdict t)
-accepted_is t v b e f = f ∙ ap passes e
-
 pub sized_told : (t : List ℕ) (b : Bool) → b ≡ passes (table_verdict t) → not b ≡ false → WellSized t
 sized_told t b e p = sized_of t (sym e ∙ not-false b p)
 
@@ -264,11 +262,11 @@ table_done : (t : List ℕ) → passes (table_verdict t) ≡ true → table_verd
 unfolding table_verdict
 table_done t e = first_through _ (Ok 0) e
 
-pub table_passed : (t : List ℕ) (v : Verdict) (b : Bool) → v ≡ table_verdict t → b ≡ passes v → not b ≡ false → table_verdict t ≡ Ok 0
-table_passed t v b e f p = table_done t (sym (accepted_is t v b e f) ∙ not-false b p)
+pub table_passed : (t : List ℕ) (v : Verdict) → v ≡ table_verdict t → passes v ≡ true → table_verdict t ≡ Ok 0
+table_passed t v e p = table_done t (answer_passed v _ e p)
 
-pub sized_passed : (t : List ℕ) (v : Verdict) (b : Bool) → v ≡ table_verdict t → b ≡ passes v → not b ≡ false → WellSized t
-sized_passed t v b e f p = sized_done t 0 (table_passed t v b e f p)
+pub sized_passed : (t : List ℕ) (v : Verdict) → v ≡ table_verdict t → passes v ≡ true → WellSized t
+sized_passed t v e p = sized_done t 0 (table_passed t v e p)
 
 -- ---- a device's record
 module _ (t : List ℕ) (d : ℕ) (b : Bool) (e : b ≡ passes (table_verdict t)) where

@@ -20,6 +20,7 @@ use Rattle.rules.specs.Table.{first_bad, all_good, resource_good, value_fields, 
 use Rattle.rules.specs.Describe.{described_width, described_size, described_r, described_d, described_device}
 use Rattle.rules.specs.Write.{described_resource_good, described_fields_good, described_device_good, records_verdict, described_counts_good}
 use Rattle.rules.specs.Write.{written_size, write_verdict}
+use Rattle.rules.proofs.Answers.{answer_passed, answer_stopped}
 use Rattle.rules.proofs.Answers.{refused_stops, first_pass, first_stop, first_none}
 use Rattle.laws.proofs.Accepted.{refuses}
 use Rattle.laws.proofs.Every.{least_part}
@@ -180,16 +181,16 @@ module _ (version : ℕ) (rs ds : List ℕ) (room : ℕ) (g : Bool) (e : g ≡ v
             unless_refused _ _ (leb (written_size version rs ds) room) NoRoom 0 (lt-leb (written_size version rs ds) room (rw size_is at h))
             ∙ past_counts
 
-        module _ (h : size ≤ room) (v : Verdict) (f : v ≡ records_verdict rs ds) (b : Bool) (k : b ≡ passes v) where
+        module _ (h : size ≤ room) (v : Verdict) (f : v ≡ records_verdict rs ds) where
           past_room : first_of (records_verdict rs ds ∷ []) done ≡ write_verdict version rs ds room
           past_room =
               sym (unless_passed _ _ (leb (written_size version rs ds) room) NoRoom 0 (le-leb (written_size version rs ds) room
               (rw size_is at h))) ∙ past_counts
 
-          pub record_refused : not b ≡ true → v ≡ write_verdict version rs ds room
-          record_refused o = f ∙ sym (first_stop _ _ _ (ap passes (sym f) ∙ sym k ∙ not-true b o)) ∙ past_room
+          pub record_refused : passes v ≡ false → v ≡ write_verdict version rs ds room
+          record_refused o = f ∙ sym (first_stop _ _ _ (answer_stopped v _ f o)) ∙ past_room
 
-          pub all_pass : not b ≡ false → Ok size ≡ write_verdict version rs ds room
-          all_pass o = ap Ok size_is ∙ sym (first_pass _ _ _ (ap passes (sym f) ∙ sym k ∙ not-false b o) ∙ first_none done) ∙ past_room
+          pub all_pass : passes v ≡ true → Ok size ≡ write_verdict version rs ds room
+          all_pass o = ap Ok size_is ∙ sym (first_pass _ _ _ (answer_passed v _ f o) ∙ first_none done) ∙ past_room
 
 pub ruleset write_answers = (bad_version, too_many, small_r, small_d, few, no_room_lem, record_refused, all_pass)

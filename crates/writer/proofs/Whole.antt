@@ -22,26 +22,26 @@ use Rattle.rules.specs.Station.{version_width, Wide, record_size, count_r, count
 use Rattle.rules.specs.Table.{table_verdict}
 use Rattle.rules.specs.Describe.{described_size, described_r, described_d, resources_of, devices_of, header_bytes, table_bytes}
 use Rattle.rules.specs.Write.{described_counts_good, written_size, write_verdict, write, lists_size, describe_verdict, describe}
+use Rattle.rules.proofs.Answers.{answer_passed, answer_stopped}
 use Rattle.rules.proofs.Answers.{done_passes, refused_stops, first_pass, first_stop, first_none}
 use Rattle.rules.proofs.Width.{version_wide}
 use Rattle.laws.specs.Inverse.{Representable}
 use Rattle.laws.proofs.Tests.{both_true}
 use Rattle.laws.proofs.Inverse.{written_representable, written_room}
 use Rattle.table.specs.Layout.{WellSized}
-use Rattle.table.proofs.Verdicts.{unless_passed, unless_refused, accepted_is, sized_told}
+use Rattle.table.proofs.Verdicts.{unless_passed, unless_refused, sized_passed}
 use Rattle.writer.proofs.Lists.{written}
 
 -- ---- write
-module _ (version : ℕ) (rs ds table : List ℕ) (v : Verdict) (b : Bool) (e : v ≡ write_verdict version rs ds (length table))
-    (f : b ≡ passes v) where
-  pub write_refused : not b ≡ true → (v ≡ (write version rs ds table).verdict) × (table ≡ (write version rs ds table).table)
+module _ (version : ℕ) (rs ds table : List ℕ) (v : Verdict) (e : v ≡ write_verdict version rs ds (length table)) where
+  pub write_refused : passes v ≡ false → (v ≡ (write version rs ds table).verdict) × (table ≡ (write version rs ds table).table)
   unfolding write
-  write_refused p = let stops : passes (write_verdict version rs ds (length table)) ≡ false = ap passes (sym e) ∙ sym f ∙ not-true b p in
+  write_refused p = let stops : passes (write_verdict version rs ds (length table)) ≡ false = answer_stopped v _ e p in
       (e, rw stops refl)
 
-  module _ (p : not b ≡ false) where
+  module _ (p : passes v ≡ true) where
     passing : passes (write_verdict version rs ds (length table)) ≡ true
-    passing = ap passes (sym e) ∙ sym f ∙ not-false b p
+    passing = answer_passed v _ e p
 
     said : Representable version rs ds
     said = written_representable version rs ds (length table) passing
@@ -96,24 +96,24 @@ module _ (version : ℕ) (rs ds table : List ℕ) (v : Verdict) (b : Bool) (e : 
           (e, p2 ∙ rw passing refl)
 
 -- ---- describe, v being the check of the table
-module _ (t rs ds : List ℕ) (v : Verdict) (b : Bool) (e : v ≡ table_verdict t) (f : b ≡ passes v) where
-  pub describe_refused : not b ≡ true
+module _ (t rs ds : List ℕ) (v : Verdict) (e : v ≡ table_verdict t) where
+  pub describe_refused : passes v ≡ false
       → (v ≡ (describe t rs ds).verdict) × (rs ≡ (describe t rs ds).resources) × (ds ≡ (describe t rs ds).devices)
   unfolding describe describe_verdict
   describe_refused p =
-      let stops : passes (table_verdict t) ≡ false = ap passes (sym e) ∙ sym f ∙ not-true b p in
+      let stops : passes (table_verdict t) ≡ false = answer_stopped v _ e p in
       let is : describe_verdict t (length rs) (length ds) ≡ table_verdict t = first_stop (table_verdict t) _ _ stops in
       (e ∙ sym is, rw (is, stops) refl, rw (is, stops) refl)
 
-  module _ (p : not b ≡ false) where
+  module _ (p : passes v ≡ true) where
     pub sized : WellSized t
-    sized = sized_told t b (accepted_is t v b e f) p
+    sized = sized_passed t v e p
 
     module _ (r d : ℕ) (y : r ≡ count_r t) (z : d ≡ count_d t) where
       past_table : first_of (unless (leb (4 * count_r t) (length rs) && leb (described_size * count_d t) (length ds)) NoRoom 0 ∷ [])
           (Ok (lists_size t)) ≡ describe_verdict t (length rs) (length ds)
       unfolding describe_verdict
-      past_table = sym (first_pass (table_verdict t) _ _ (ap passes (sym e) ∙ sym f ∙ not-false b p))
+      past_table = sym (first_pass (table_verdict t) _ _ (answer_passed v _ e p))
 
       pub describe_short : not (leb (4 * r) (length rs) && leb (54 * d) (length ds)) ≡ true
           → (refuse NoRoom 0 ≡ (describe t rs ds).verdict) × (rs ≡ (describe t rs ds).resources) × (ds ≡ (describe t rs ds).devices)

@@ -1,5 +1,6 @@
 use mathlib.Core.Bool.{not}
-use mathlib.Core.Path.{ap}
+use mathlib.Core.Path.{ap, ◌∙◌}
+use Rattle.rules.proofs.Answers.{ok_passed, err_stopped, handed_on}
 use Rattle.writer.proofs.Records.{write_answers, few}
 use borrow.Author.Rules.{rules}
 use Rattle.writer.proofs.check.verdict.Goals as goal
@@ -17,11 +18,13 @@ pub returns-then-room-size : goal.returns-then-room-size
 returns-then-room-size c = search (rules, write_answers)
 
 -- Each check that fails has the answer.
-pub check_records-records-requires : goal.check_records-records-requires
-check_records-records-requires c = few _ _ _ _ _ c.resources-resources.ensures c.devices-devices.ensures c.version_width-w.ensures.1 (ap not c.if-not-few.false)
+pub check_records-requires : goal.check_records-requires
+check_records-requires c = few _ _ _ _ _ c.resources-resources.ensures c.devices-devices.ensures c.version_width-w.ensures.1 (ap not c.if-not-few.false)
 
-pub returns-then-not-passes : goal.returns-then-not-passes
-returns-then-not-passes c = search (rules, write_answers)
+pub returns-in_err-check_records : goal.returns-in_err-check_records
+returns-in_err-check_records c =
+    handed_on _ _ _ c.in_err-check_records.was c.from_residual.ensures.1
+    ∙ (let stop = err_stopped _ _ c.in_err-check_records.was in search (rules, write_answers))
 
 pub returns : goal.returns
-returns c = search (rules, write_answers)
+returns c = let pass = ok_passed _ _ c.in_ok-check_records.was in search (rules, write_answers)
