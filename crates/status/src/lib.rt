@@ -66,10 +66,10 @@ pub fn fresh(table: &[u8], state: &mut [u8]) -> Verdict
     ensures { (result ≡ (fresh table.now state.old).verdict)
         × (state.new ≡ (fresh table.now state.old).state) }
 {
-    table::check_table(table)?;
+    let done = table::check_table(table)?;
     if state.len() != crate::image::size(table) {
         return Err(Refusal(Reason::BadState, 0));
     }
     crate::image::write_fresh(table, state);
-    Ok(0)
+    Ok(done)
 }

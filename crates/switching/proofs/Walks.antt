@@ -57,7 +57,7 @@ pub ruleset own_call_lem = (word_short, word_other, word_here, own_elsewhere, no
 left_is : (ws : List ℕ) (r : Option ℕ) (v : Rest) (i : ℕ) → Leaves ws r v → r ≡ Some i → v ≡ left (drop i ws)
 left_is ws r v i h e = sym (rw e at h).0
 
-refused_is : (ws : List ℕ) (r : Option ℕ) (v : Rest) → Leaves ws r v → r ≡ Refused → v ≡ refused
+refused_is : (ws : List ℕ) (r : Option ℕ) (v : Rest) → Leaves ws r v → r ≡ None → v ≡ refused
 refused_is ws r v h e = sym (rw e at h)
 
 end_is : (ws : List ℕ) (i : ℕ) → i ≤ length ws → eqb i (length ws) ≡ is_end (left (drop i ws))
@@ -73,7 +73,7 @@ within ws r v i h e = (rw e at h).1
 
 -- ONs, then OFFs
 module _ (s : Station) (on off at : ℕ) (ws : List ℕ) (a : Option ℕ) (ha : Leaves ws a (take_phase s false on true 0 (drop at ws))) where
-  pub ons_refused : a ≡ Refused → refused ≡ take_phases s on off (drop at ws)
+  pub ons_refused : a ≡ None → refused ≡ take_phases s on off (drop at ws)
   unfolding take_phases and_then
   ons_refused e = rw (refused_is ws a _ ha e) refl
 
@@ -86,7 +86,7 @@ pub ruleset switches = (within, ons_refused, offs_follow)
 
 -- these alone
 module _ (s : Station) (on off : ℕ) (ws : List ℕ) (a : Option ℕ) (ha : Leaves ws a (take_phases s on off (drop 0 ws))) where
-  pub phases_refused : a ≡ Refused → false ≡ is_end (take_phases s on off ws)
+  pub phases_refused : a ≡ None → false ≡ is_end (take_phases s on off ws)
   unfolding is_end
   phases_refused e = sym (ap is_end (refused_is ws a (take_phases s on off ws) ha e))
 
@@ -99,17 +99,17 @@ pub ruleset phases_alone = (phases_refused, phases_end)
 -- the own call, these, and the own call
 module _ (s : Station) (c : Switching) (ws : List ℕ) (a : Option ℕ)
     (ha : Leaves ws a (take_words (own_words (not c.last) c.own) (drop 0 ws))) where
-  pub first_refused : a ≡ Refused → false ≡ walked s c ws
+  pub first_refused : a ≡ None → false ≡ walked s c ws
   unfolding walked and_then is_end
   first_refused e = rw (refused_is ws a _ ha e) refl
 
   module _ (i : ℕ) (ea : a ≡ Some i) (b : Option ℕ) (hb : Leaves ws b (take_phases s c.added c.removed (drop i ws))) where
-    pub switches_refused : b ≡ Refused → false ≡ walked s c ws
+    pub switches_refused : b ≡ None → false ≡ walked s c ws
     unfolding walked and_then is_end
     switches_refused e = rw (left_is ws a _ i ha ea, refused_is ws b _ hb e) refl
 
     module _ (j : ℕ) (eb : b ≡ Some j) (d : Option ℕ) (hd : Leaves ws d (take_words (own_words c.last c.own) (drop j ws))) where
-      pub last_refused : d ≡ Refused → false ≡ walked s c ws
+      pub last_refused : d ≡ None → false ≡ walked s c ws
       unfolding walked and_then is_end
       last_refused e = rw (left_is ws a _ i ha ea, left_is ws b _ j hb eb, refused_is ws d _ hd e) refl
 

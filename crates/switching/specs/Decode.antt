@@ -1,5 +1,5 @@
 -- What a decoded word switches.
-use Rattle.std.specs.Prelude.{Bool, cond}
+use Rattle.std.specs.Prelude.{ℕ, Bool, cond}
 use Rattle.rules.specs.declared.Call.{Call}
 use Rattle.rules.specs.declared.Call.TheVariants.{ResourceOn, ResourceOff, SetState, SetWake}
 use Rattle.std.specs.Prelude.{Option, Some, None}

@@ -13,7 +13,7 @@ use Rattle.std.specs.Prelude.{Option, Some, None}
 -- a phase that came up to a place of the list leaves what stands from there on; one that is refused leaves nothing to go on with
 abbrev pub Leaves : List ℕ → Option ℕ → Rest → Type 0
 Leaves ws (Some i) rest = (left (drop i ws) ≡ rest) × (i ≤ length ws)
-Leaves ws Refused rest = refused ≡ rest
+Leaves ws None rest = refused ≡ rest
 
 -- r may follow the resource before it
 unfoldable pub follows : Station → Bool → ℕ → ℕ → Bool

@@ -1,6 +1,5 @@
-use mathlib.Core.Bool.{not}
-use mathlib.Core.Path.{ap}
 use mathlib.Core.Path.{refl}
+use Rattle.rules.proofs.Answers.{ok_passed, err_stopped, handed_on}
 use Rattle.table.proofs.Verdicts.{sized_passed, table_passed}
 use Rattle.switching.proofs.Answered.{parts}
 use Rattle.bringup.proofs.Whole.{stop_table, passed_by, room_there, words_refused, words_brought, words_brings}
@@ -8,34 +7,32 @@ use borrow.Author.Rules.{rules}
 use Rattle.bringup.proofs.bring_up.bring_up_words.Goals as goal
 
 -- A refusal leaves state and plan; otherwise the calls and the state of bring-up are written.
-pub returns-then-not-passes : goal.returns-then-not-passes
-returns-then-not-passes c =
-    let stop = stop_table _ _ _ _ _ c.check_table-of_table.ensures c.passes.ensures (ap not c.if-not-passes.true) in
-    let a = words_refused _ _ _ _ refl _ _ c.passes.ensures stop (ap not c.if-not-passes.true) in
-    record { answer = parts a; brings = words_brings _ _ _ a }
+pub returns-in_err-check_table : goal.returns-in_err-check_table
+returns-in_err-check_table c =
+    let no = err_stopped _ _ c.in_err-check_table.was in
+    let a = words_refused _ _ _ _ refl _ (stop_table _ _ _ _ c.check_table.ensures no) no in
+    rw (handed_on _ _ _ c.in_err-check_table.was c.from_residual.ensures.1) (record { answer = parts a; brings = words_brings _ _ _ a })
 
 pub room-requires : goal.room-requires
-room-requires c = search (rules, sized_passed)
+room-requires c = sized_passed _ _ c.check_table.ensures (ok_passed _ _ c.in_ok-check_table.was)
 
-pub past_table-v-requires : goal.past_table-v-requires
-past_table-v-requires c = search (rules, table_passed)
+pub past_table-requires : goal.past_table-requires
+past_table-requires c = table_passed _ _ c.check_table.ensures (ok_passed _ _ c.in_ok-check_table.was)
 
-pub returns-then-not-passes-2 : goal.returns-then-not-passes-2
-returns-then-not-passes-2 c =
-    let a = words_refused _ _ _ _ c.room.ensures.0 _ _ c.passes-2.ensures c.past_table-v.ensures
-    (ap not c.if-not-passes-2.true) in
-    record { answer = parts a; brings = words_brings _ _ _ a }
+pub returns-in_err-past_table : goal.returns-in_err-past_table
+returns-in_err-past_table c =
+    let a = words_refused _ _ _ _ c.room.ensures.0 _ c.past_table.ensures (err_stopped _ _ c.in_err-past_table.was) in
+    rw (handed_on _ _ _ c.in_err-past_table.was c.from_residual-in_err-past_table.ensures.1) (record { answer = parts a; brings = words_brings _ _ _ a })
 
 pub write_bring_up-requires : goal.write_bring_up-requires
 write_bring_up-requires c =
-    let e = c.past_table-v.ensures in
-    let f = c.passes-2.ensures in (
-      passed_by _ _ _ _ _ e f (ap not c.if-not-passes-2.false),
-      room_there _ _ _ _ c.room.ensures.0 _ _ f e (ap not c.if-not-passes-2.false),
+    let yes = ok_passed _ _ c.in_ok-past_table.was in (
+      passed_by _ _ _ _ c.past_table.ensures yes,
+      room_there _ _ _ _ c.room.ensures.0 _ c.past_table.ensures yes,
     )
 
 pub returns : goal.returns
 returns c =
-    let a = words_brought _ _ _ _ c.room.ensures.0 _ _ c.passes-2.ensures c.past_table-v.ensures
-    (ap not c.if-not-passes-2.false) _ _ _ c.write_bring_up.ensures in
+    let a = words_brought _ _ _ _ c.room.ensures.0 _ c.past_table.ensures (ok_passed _ _ c.in_ok-past_table.was) _ _ _
+    c.write_bring_up.ensures in
     record { answer = parts a; brings = words_brings _ _ _ a }

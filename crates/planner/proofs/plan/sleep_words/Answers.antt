@@ -1,6 +1,5 @@
-use mathlib.Core.Bool.{not}
-use mathlib.Core.Path.{ap}
 use mathlib.Core.Path.{refl}
+use Rattle.rules.proofs.Answers.{ok_passed, err_stopped, handed_on}
 use Rattle.table.proofs.Verdicts.{table_passed, sized_passed}
 use Rattle.switching.proofs.Answered.{parts}
 use Rattle.sleep.proofs.Verdicts.{sleep_table}
@@ -10,36 +9,39 @@ use Rattle.planner.proofs.plan.sleep_words.Goals as goal
 
 -- A refusal leaves state and plan; otherwise the calls that bring the devices to the least choice, and the state after them, are written.
 -- Where the values are too many for a search, each is named by the call that gave it, from the last one back.
-pub returns-then-not-passes : goal.returns-then-not-passes
-returns-then-not-passes c =
-    let stop = sleep_table _ _ _ _ _ _ c.check_table-of_table.ensures c.passes.ensures (ap not c.if-not-passes.true) in
-    parts (sleep_words_refused _ _ _ _ (search rules) _ refl _ _ c.passes.ensures stop (ap not c.if-not-passes.true))
+pub returns-in_err-check_table : goal.returns-in_err-check_table
+returns-in_err-check_table c =
+    let no = err_stopped _ _ c.in_err-check_table.was in
+    let stop = sleep_table _ _ _ _ _ c.check_table.ensures no in
+    rw (handed_on _ _ _ c.in_err-check_table.was c.from_residual.ensures.1)
+    (parts (sleep_words_refused _ _ _ _ c.requires _ refl _ stop no))
 
 pub room-requires : goal.room-requires
-room-requires c = search (rules, sized_passed)
+room-requires c = sized_passed _ _ c.check_table.ensures (ok_passed _ _ c.in_ok-check_table.was)
 
-pub past_table-v-requires : goal.past_table-v-requires
-past_table-v-requires c =
-    let good = table_passed _ _ _ c.check_table-of_table.ensures c.passes.ensures (ap not c.if-not-passes.false) in
+pub past_table-requires : goal.past_table-requires
+past_table-requires c =
+    let good = table_passed _ _ c.check_table.ensures (ok_passed _ _ c.in_ok-check_table.was) in
     (search rules, good, search (rules, states_64, good))
 
-pub returns-then-not-passes-2 : goal.returns-then-not-passes-2
-returns-then-not-passes-2 c =
-    parts (sleep_words_refused _ _ _ _ (search rules) _ c.room.ensures.0 _ _ c.passes-2.ensures
-    c.past_table-v.ensures.0 (ap not c.if-not-passes-2.true))
+pub returns-in_err-past_table : goal.returns-in_err-past_table
+returns-in_err-past_table c =
+    rw (handed_on _ _ _ c.in_err-past_table.was c.from_residual-in_err-past_table.ensures.1)
+    (parts (sleep_words_refused _ _ _ _ c.requires _ c.room.ensures.0 _ c.past_table.ensures.0
+    (err_stopped _ _ c.in_err-past_table.was)))
 
 pub write_choice-requires : goal.write_choice-requires
 write_choice-requires c =
-    let good = table_passed _ _ _ c.check_table-of_table.ensures c.passes.ensures (ap not c.if-not-passes.false) in
-    let e = c.past_table-v.ensures in
-    let f = c.passes-2.ensures in (
-      choice_given _ _ _ _ _ _ c.room.ensures.0 _ _ f _ e.0 e.1 (ap not c.if-not-passes-2.false)
+    let good = table_passed _ _ c.check_table.ensures (ok_passed _ _ c.in_ok-check_table.was) in
+    let e = c.past_table.ensures in
+    let yes = ok_passed _ _ c.in_ok-past_table.was in (
+      choice_given _ _ _ _ _ _ c.room.ensures.0 _ _ e.0 e.1 yes
           (search (rules, states_64, good)),
-      sleep_room _ _ _ _ _ _ c.room.ensures.0 _ _ f _ e.0 e.1 (ap not c.if-not-passes-2.false) _ refl,
+      sleep_room _ _ _ _ _ _ c.room.ensures.0 _ _ e.0 e.1 yes _ refl,
     )
 
 pub returns : goal.returns
 returns c =
-    let e = c.past_table-v.ensures in
-    parts (sleep_words_planned _ _ _ _ c.requires _ c.room.ensures.0 _ _ c.passes-2.ensures e.0 (ap not c.if-not-passes-2.false) _ _
+    let e = c.past_table.ensures in
+    parts (sleep_words_planned _ _ _ _ c.requires _ c.room.ensures.0 _ e.0 (ok_passed _ _ c.in_ok-past_table.was) _ _
     e.1 _ _ _ c.write_choice.ensures)

@@ -2,7 +2,7 @@ use Rattle.switching.specs.Decode.{switched}
 use Rattle.switching.proofs.decode.switched_in.Goals as goal
 
 -- Each arm by what the match told.
-pub returns-in-Some : goal.returns-in-Is
+pub returns-in-Some : goal.returns-in-Some
 unfolding switched
 returns-in-Some c = cc
 

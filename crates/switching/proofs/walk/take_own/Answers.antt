@@ -9,7 +9,7 @@ returns-then-not-here c = search (rules, own_call_lem)
 pub take_call-requires : goal.take_call-requires
 take_call-requires c = search (rules, call_in_range)
 
-pub returns-in-Some : goal.returns-in-Is
+pub returns-in-Some : goal.returns-in-Some
 returns-in-Some c = search (rules, own_call_lem)
 
 pub returns-in-None : goal.returns-in-None

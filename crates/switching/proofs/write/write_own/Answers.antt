@@ -33,8 +33,8 @@ pub shape_of-plan : goal.shape_of-plan
 shape_of-plan c = search rules
 
 -- src/write.rt:21:1
-pub returns-in-Some : goal.returns-in-Is
-returns-in-Some c = own_word _ _ _ _ _ c.requires.1 c.in-Is.is c.word_of.ensures
+pub returns-in-Some : goal.returns-in-Some
+returns-in-Some c = own_word _ _ _ _ _ c.requires.1 c.in-Some.is c.word_of.ensures
 
 -- src/write.rt:21:1
 pub returns-in-None : goal.returns-in-None
