@@ -3,3 +3,4 @@ pub mod Index
 pub mod Answers
 pub mod Width
 pub mod Conforming
+pub mod Named

@@ -1,5 +1,6 @@
 pub mod Index
 pub mod Verdict
+pub mod Kinds
 pub mod Answers
 pub mod Station
 pub mod Table

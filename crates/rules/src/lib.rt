@@ -2,6 +2,7 @@
 #![tactic(auto)]
 
 ghost use Rattle.std.specs.Prelude.{◌≡◌};
+ghost use Rattle.rules.specs.Kinds.{kind_of};
 ghost use Rattle.rules.specs.Answers.{reason_number, number_of, place_of, count_of};
 
 // What `_DSW` is told: to let the device wake the system from sleep state `sleep` while it is in device state `state`, or to stop.
@@ -31,6 +32,30 @@ pub struct Request {
     pub device: u32,
     pub a: u32,
     pub b: u32,
+}
+
+// What a request asks (RULES.md 2.8), in the order of the kinds' numbers.
+#[derive(Clone, Copy, PartialEq, Eq)]
+pub enum Kind {
+    Move,
+    Arm,
+    Disarm,
+    Sleep,
+}
+
+impl Request {
+    // What it asks, if there is a kind of its number.
+    pub fn asks(self) -> Option<Kind>
+        ensures { result ≡ kind_of self.kind }
+    {
+        match self.kind {
+            1 => Some(Kind::Move),
+            2 => Some(Kind::Arm),
+            3 => Some(Kind::Disarm),
+            4 => Some(Kind::Sleep),
+            _ => None,
+        }
+    }
 }
 
 // What the state image says of a device: its state; armed, 0 or 1; and the pair it is armed for, wake S and wake D (RULES.md 2.7).
