@@ -10,7 +10,7 @@ read_words-requires c = search (rules, lists)
 
 -- The list is read as words, and walked.
 pub slice_bounds-calls-end : goal.slice_bounds-calls-end
-slice_bounds-calls-end c = list_65 _ _ _ _ c.words_in.ensures c.in-Words.is (search rules)
+slice_bounds-calls-end c = list_65 _ _ _ _ c.words_in.ensures c.in-Some.is (search rules)
 
 pub slice_bounds-conforming-end : goal.slice_bounds-conforming-end
 slice_bounds-conforming-end c = words_read_lem _ _ _ _ c.read_words.ensures

@@ -1,11 +1,10 @@
-use mathlib.Core.Bool.{not}
-use mathlib.Core.Path.{ap}
-use borrow.Author.Rules.{rules}
+use Rattle.rules.proofs.Answers.{ok_passed, err_stopped, handed_on}
 use Rattle.table.proofs.Verdicts.{sized_done}
 use Rattle.request.proofs.Changes.{permitted_by}
 use Rattle.switching.proofs.Answered.{parts}
 use Rattle.planner.proofs.Whole.{room_bytes, bytes_refused, bytes_planned}
 use Rattle.planner.proofs.Room.{room_words, request_room, words_65, bytes_room}
+use borrow.Author.Rules.{rules}
 use Rattle.sailgarnet.proofs.buffers.request_bytes.Goals as goal
 
 pub room-requires : goal.room-requires
@@ -13,28 +12,27 @@ room-requires c = search (rules, sized_done)
 
 -- A refusal leaves state and plan; otherwise the calls, as bytes, and the state of the request are written. Where the values are too many
 -- for a search, each is named by the call that gave it, from the last one back.
-pub returns-then-not-passes : goal.returns-then-not-passes
-returns-then-not-passes c =
-    parts (bytes_refused _ _ _ _ (search rules) _ c.room.ensures.0 _ _ c.passes.ensures c.past_table-v.ensures
-    (ap not c.if-not-passes.true))
+pub returns-in_err-past_table : goal.returns-in_err-past_table
+returns-in_err-past_table c =
+    rw (handed_on _ _ _ c.in_err-past_table.was c.from_residual.ensures.1)
+    (parts (bytes_refused _ _ _ _ c.requires.0 _ c.room.ensures.0 _ c.past_table.ensures (err_stopped _ _ c.in_err-past_table.was)))
 
 pub write_plan-n-requires : goal.write_plan-n-requires
 write_plan-n-requires c = (
-  permitted_by _ _ _ _ _ _ c.past_table-v.ensures c.passes.ensures (ap not c.if-not-passes.false),
+  permitted_by _ _ _ _ _ c.past_table.ensures (ok_passed _ _ c.in_ok-past_table.was),
   search (rules, room_words),
 )
 
 pub write_words-requires : goal.write_words-requires
 write_words-requires c =
-    let e = c.past_table-v.ensures in
-    let f = c.passes.ensures in
+    let e = c.past_table.ensures in
+    let yes = ok_passed _ _ c.in_ok-past_table.was in
     let w = c.write_plan-n.ensures in
-    let g = permitted_by _ _ _ _ _ _ e f (ap not c.if-not-passes.false) in
-    let fits = room_bytes _ _ _ _ _ c.room.ensures.0 _ _ f e (ap not c.if-not-passes.false) in
-    let short = request_room _ _ _ g in
+    let fits = room_bytes _ _ _ _ _ c.room.ensures.0 _ e yes in
+    let short = request_room _ _ _ (permitted_by _ _ _ _ _ e yes) in
     (words_65 _ _ _ short _ _ _ _ w (search rules), bytes_room _ _ _ short _ _ _ _ w _ fits)
 
 pub returns : goal.returns
 returns c =
-    parts (bytes_planned _ _ _ _ (search rules) _ c.room.ensures.0 _ _ c.passes.ensures c.past_table-v.ensures
-    (ap not c.if-not-passes.false) _ _ _ _ _ c.write_plan-n.ensures c.write_words.ensures)
+    parts (bytes_planned _ _ _ _ c.requires.0 _ c.room.ensures.0 _ c.past_table.ensures (ok_passed _ _ c.in_ok-past_table.was)
+    _ _ _ _ _ c.write_plan-n.ensures c.write_words.ensures)

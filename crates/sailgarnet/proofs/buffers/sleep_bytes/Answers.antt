@@ -1,35 +1,35 @@
-use mathlib.Core.Bool.{not}
-use mathlib.Core.Path.{ap}
 use mathlib.Core.Path.{refl}
-use borrow.Author.Rules.{rules}
+use Rattle.rules.proofs.Answers.{ok_passed, err_stopped, handed_on}
 use Rattle.table.proofs.Verdicts.{sized_done}
 use Rattle.switching.proofs.Answered.{parts}
 use Rattle.planner.proofs.Choices.{states_64, choice_given, sleep_room_bytes, sleep_bytes_refused, sleep_bytes_planned}
+use borrow.Author.Rules.{rules}
 use Rattle.sailgarnet.proofs.buffers.sleep_bytes.Goals as goal
 
 pub room-requires : goal.room-requires
 room-requires c = search (rules, sized_done)
 
-pub past_table-v-requires : goal.past_table-v-requires
-past_table-v-requires c = (search rules, search rules, search (rules, states_64))
+pub past_table-requires : goal.past_table-requires
+past_table-requires c = (search rules, search rules, search (rules, states_64))
 
 -- A refusal leaves state and plan; otherwise the calls that bring the devices to the least choice, as bytes, and the state after them are
 -- written. Where the values are too many for a search, each is named by the call that gave it, from the last one back.
-pub returns-then-not-passes : goal.returns-then-not-passes
-returns-then-not-passes c =
-    parts (sleep_bytes_refused _ _ _ _ (search rules) _ c.room.ensures.0 _ _ c.passes.ensures
-    c.past_table-v.ensures.0 (ap not c.if-not-passes.true))
+pub returns-in_err-past_table : goal.returns-in_err-past_table
+returns-in_err-past_table c =
+    rw (handed_on _ _ _ c.in_err-past_table.was c.from_residual.ensures.1)
+    (parts (sleep_bytes_refused _ _ _ _ c.requires.0 _ c.room.ensures.0 _ c.past_table.ensures.0
+    (err_stopped _ _ c.in_err-past_table.was)))
 
 pub write_choice-requires : goal.write_choice-requires
 write_choice-requires c =
-    let e = c.past_table-v.ensures in
-    let f = c.passes.ensures in (
-      choice_given _ _ _ _ _ _ c.room.ensures.0 _ _ f _ e.0 e.1 (ap not c.if-not-passes.false) (search (rules, states_64)),
-      sleep_room_bytes _ _ _ _ _ _ c.room.ensures.0 _ _ f _ e.0 e.1 (ap not c.if-not-passes.false) _ refl,
+    let e = c.past_table.ensures in
+    let yes = ok_passed _ _ c.in_ok-past_table.was in (
+      choice_given _ _ _ _ _ _ c.room.ensures.0 _ _ e.0 e.1 yes (search (rules, states_64)),
+      sleep_room_bytes _ _ _ _ _ _ c.room.ensures.0 _ _ e.0 e.1 yes _ refl,
     )
 
 pub returns : goal.returns
 returns c =
-    let e = c.past_table-v.ensures in
-    parts (sleep_bytes_planned _ _ _ _ (search rules) _ c.room.ensures.0 _ _ c.passes.ensures e.0 (ap not c.if-not-passes.false) _ _
+    let e = c.past_table.ensures in
+    parts (sleep_bytes_planned _ _ _ _ c.requires.0 _ c.room.ensures.0 _ e.0 (ok_passed _ _ c.in_ok-past_table.was) _ _
     e.1 _ _ _ c.write_choice.ensures)
