@@ -1,2 +1,3 @@
+pub mod Record
 pub mod Good
 pub mod Value
