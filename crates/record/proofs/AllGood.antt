@@ -30,6 +30,7 @@ use Rattle.record.specs.Good.{sets_fit, absent_set, sets_absent, size_with, good
 use Rattle.record.proofs.Tests.{objects_test}
 use Rattle.record.proofs.FirstBad.{zero_field}
 
+
 -- ---- two tests that say the same, and two tests as one: zeros in a number's parts and in a union, and a union's bits
 both_zero : (a b c : ℕ) → (c ≡ 0 → a ≡ 0) → (c ≡ 0 → b ≡ 0) → (a ≡ 0 → b ≡ 0 → c ≡ 0) → eqb c 0 ≡ eqb a 0 && eqb b 0
 both_zero a b c f g h =

@@ -11,6 +11,7 @@ use crate::read::set_start;
 
 impl Record<'_> {
     // Where the first bad field of a device's bytes 0 to 3 starts, if one is bad; so the four after it, of other values.
+    #[tactic(auto, unfolding(rules::specs::Table::head_fields, crate::specs::Good::bad_place))]
     fn bad_head(&self, d: usize) -> Option<usize>
         requires { d < 256 }
         ensures { result ≡ bad_place (head_fields d (device_of self.now)) }
@@ -31,6 +32,7 @@ impl Record<'_> {
     }
 
     // The five sets.
+    #[tactic(auto, unfolding(rules::specs::Table::set_fields))]
     fn bad_set(&self, resources: usize) -> Option<usize>
         requires { resources ≤ limit self.now.width }
         ensures { result ≡ bad_place (set_fields self.now.width resources (device_of self.now)) }
@@ -44,6 +46,7 @@ impl Record<'_> {
     }
 
     // `_S1D` to `_S4D`.
+    #[tactic(auto, unfolding(rules::specs::Table::sxd_fields))]
     fn bad_sxd(&self) -> Option<usize>
         ensures { result ≡ bad_place (sxd_fields self.now.width (device_of self.now)) }
     {
@@ -56,6 +59,7 @@ impl Record<'_> {
     }
 
     // `_S0W` to `_S4W`.
+    #[tactic(auto, unfolding(rules::specs::Table::sxw_fields))]
     fn bad_sxw(&self) -> Option<usize>
         ensures { result ≡ bad_place (sxw_fields self.now.width (device_of self.now)) }
     {
@@ -68,6 +72,7 @@ impl Record<'_> {
     }
 
     // The deepest sleep state.
+    #[tactic(auto, unfolding(rules::specs::Table::deepest_fields, crate::specs::Good::bad_place))]
     fn bad_deepest(&self) -> Option<usize>
         ensures { result ≡ bad_place (deepest_fields self.now.width (device_of self.now)) }
     {
@@ -83,13 +88,14 @@ impl Record<'_> {
         ensures { result ≡ bad_place (value_fields self.now.width resources d (device_of self.now)) }
     {
         self.bad_head(d)
-            .or_else(|| self.bad_set(resources))
-            .or_else(|| self.bad_sxd())
-            .or_else(|| self.bad_sxw())
-            .or_else(|| self.bad_deepest())
+            .or(self.bad_set(resources))
+            .or(self.bad_sxd())
+            .or(self.bad_sxw())
+            .or(self.bad_deepest())
     }
 
     // The 2 + w zeros to the record's end.
+    #[tactic(auto, unfolding(rules::specs::Table::zero_fields))]
     fn bad_zero(&self) -> Option<usize>
         requires { self.now.at + record_size self.now.width ≤ length self.now.bytes.now }
         ensures { result ≡ bad_place (zero_fields self.now.width self.now.bytes.now self.now.at) }
@@ -108,6 +114,6 @@ impl Record<'_> {
             × (resources ≤ limit self.now.width) }
         ensures { result ≡ bad_place (device_fields self.now.width resources self.now.bytes.now d self.now.at) }
     {
-        self.bad_value(d, resources).or_else(|| self.bad_zero())
+        self.bad_value(d, resources).or(self.bad_zero())
     }
 }

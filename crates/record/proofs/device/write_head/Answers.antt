@@ -1,0 +1,16 @@
+use lib.ListN.{length-set}
+use Rattle.record.proofs.Values.{held_writes}
+use borrow.Author.Rules.{rules}
+use Rattle.record.proofs.device.write_head.Goals as goal
+
+pub bounds-out-at-2 : goal.bounds-out-at-2
+bounds-out-at-2 c = simp length-set (search rules)
+
+pub bounds-out-at-3 : goal.bounds-out-at-3
+bounds-out-at-3 c = simp length-set (search rules)
+
+pub bounds-out-at-4 : goal.bounds-out-at-4
+bounds-out-at-4 c = simp length-set (search rules)
+
+pub returns : goal.returns
+returns c = search (rules, held_writes)
