@@ -31,6 +31,14 @@ use Rattle.record.proofs.Tests.{objects_test}
 use Rattle.record.proofs.FirstBad.{zero_field}
 
 
+-- ---- a test that is asked only where what stands before it is true
+module _ (a b v : Bool) where
+  pub asked : a ≡ true → v ≡ b → v ≡ a && b
+  asked e f = rw e f
+
+  pub not_asked : a ≡ false → v ≡ false → v ≡ a && b
+  not_asked e f = rw e f
+
 -- ---- two tests that say the same, and two tests as one: zeros in a number's parts and in a union, and a union's bits
 both_zero : (a b c : ℕ) → (c ≡ 0 → a ≡ 0) → (c ≡ 0 → b ≡ 0) → (a ≡ 0 → b ≡ 0 → c ≡ 0) → eqb c 0 ≡ eqb a 0 && eqb b 0
 both_zero a b c f g h =
@@ -79,9 +87,6 @@ every_both p q n =
     (λ e. let h = both_true (every p n) (every q n) e in
     every_of_lem _ n (λ i l. tests.and-true _ _ (every_at p n i h.0 l) (every_at q n i h.1 l)))
 
-one_bad : (g : ℕ → Bool) (n k : ℕ) (b : Bool) → k < n → b ≡ g k → not b ≡ true → false ≡ every g n
-one_bad g n k b h e p = decide (every g n) (λ u. absurd (true≢false (sym (every_at g n k u h) ∙ sym e ∙ not-true b p))) sym
-
 five : (g : ℕ → Bool) → g 0 && g 1 && g 2 && g 3 && g 4 ≡ every g 5
 unfolding all_good each_from
 five g = let all = every_field (λ k. k) g 5 in rw (← all) (simp (and-true, and_assoc))
@@ -98,11 +103,17 @@ module _ (v : Device) where
   unfolding sxw_fields all_good each_from
   limits_test w a b c d e p q r s u = rw (p, q, r, s, u) (simp (and-true, and_assoc))
 
-  pub states_test : (w : ℕ) (a b c d : Bool) → a ≡ sxd_good v 1 → b ≡ sxd_good v 2 → c ≡ sxd_good v 3 → d ≡ sxd_good v 4
-      → not a ≡ false → not b ≡ false → not c ≡ false → d ≡ all_good (sxd_fields w v)
-  unfolding sxd_fields all_good each_from
-  states_test w a b c d p q r s x y z =
-      rw (sym p ∙ not-false a x, sym q ∙ not-false b y, sym r ∙ not-false c z, ← s) (sym (and-true d))
+  -- `_S1D` to `_S4D` as one test, each asked where the ones before it passed
+  module _ (w : ℕ) (a b c : Bool) (p : a ≡ sxd_good v 1) (q : b ≡ a && sxd_good v 2) (r : c ≡ b && sxd_good v 3) where
+    all_states : c && sxd_good v 4 ≡ all_good (sxd_fields w v)
+    unfolding sxd_fields all_good each_from
+    all_states = rw (r, q, p) (simp (and-true, and_assoc))
+
+    pub last_state : (d : Bool) → c ≡ true → d ≡ sxd_good v 4 → d ≡ all_good (sxd_fields w v)
+    last_state d e f = f ∙ rw e at all_states
+
+    pub state_fails : c ≡ false → c ≡ all_good (sxd_fields w v)
+    state_fails e = e ∙ rw e at all_states
 
   sxd_none : (x s : ℕ) → s ≡ v.sxd x → s ≡ 255 → sxd_good v x ≡ true
   unfolding sxd_good
@@ -177,13 +188,6 @@ module _ (v : Device) where
       let low : eqb (ps % 8) (pr % 8) ≡ true = eq-eqb _ _ (ap (λ (m : ℕ). m % 8) alike) in
       rw (or-true, or-true, low, or-true) at
       (objects_test v ps pr flags true true true dsw prw e f g (sym front.1 ∙ a) (sym all.1 ∙ b) zero_bit c d)
-
--- one `_SxD` that is bad is enough
-pub state_bad : (k w : ℕ) (v : Device) (b : Bool) → k < 4 → b ≡ sxd_good v (k + 1) → not b ≡ true → false ≡ all_good (sxd_fields w v)
-unfolding sxd_fields
-state_bad k w v b h e p =
-    let good : ℕ → Bool = λ j. sxd_good v (j + 1) in
-    one_bad good 4 k b h e p ∙ sym (every_field (λ j. 4 + 5 * w + j) good 4)
 
 -- ---- the five sets: their rule is its two halves, which the code asks one after the other
 halves : (w resources : ℕ) (v : Device) → all_good (set_fields w resources v) ≡ sets_fit resources v && sets_absent v
@@ -297,36 +301,25 @@ value_good w resources d v = none_bad (record_size w) _ (values_inside w resourc
 
 -- ---- the parts of a device's values
 module _ (w resources d : ℕ) (dev : Device) where
-  -- the parts in the order in which the code asks
-  abbrev part : ℕ → Bool
-  part zero = all_good (head_fields d dev)
-  part (suc zero) = all_good (set_fields w resources dev)
-  part (suc (suc zero)) = all_good (sxd_fields w dev)
-  part (suc (suc (suc zero))) = all_good (sxw_fields w dev)
-  part (suc (suc (suc (suc k)))) = deepest_good dev
+  -- the parts as one test, each asked where the ones before it passed
+  module _ (h s x y : Bool) (p : h ≡ all_good (head_fields d dev)) (q : s ≡ h && all_good (set_fields w resources dev))
+      (r : x ≡ s && all_good (sxd_fields w dev)) (u : y ≡ x && all_good (sxw_fields w dev)) where
+    all_parts : y && deepest_good dev ≡ all_good (value_fields w resources d dev)
+    unfolding value_fields deepest_fields all_good
+    all_parts = rw (u, r, q, p) (sym (simp (joined, and_assoc, and-true)))
 
-  all_parts : part 0 && part 1 && part 2 && part 3 && part 4 ≡ all_good (value_fields w resources d dev)
-  unfolding value_fields deepest_fields all_good
-  all_parts = sym (simp (joined, and_assoc, and-true))
+    pub last_part : (b : Bool) → y ≡ true → b ≡ deepest_good dev → b ≡ all_good (value_fields w resources d dev)
+    last_part b e f = f ∙ rw e at all_parts
 
-  every_part : every part 5 ≡ all_good (value_fields w resources d dev)
-  unfolding all_good each_from
-  every_part = let all = every_field (λ k. k) part 5 in rw (← all) (simp (and-true, and_assoc)) ∙ all_parts
+    pub part_fails : y ≡ false → y ≡ all_good (value_fields w resources d dev)
+    part_fails e = e ∙ rw e at all_parts
 
-  pub last_decides : (h s x y b : Bool) → h ≡ part 0 → s ≡ part 1 → x ≡ part 2 → y ≡ part 3 → b ≡ part 4
-      → not h ≡ false → not s ≡ false → not x ≡ false → not y ≡ false → b ≡ all_good (value_fields w resources d dev)
-  last_decides h s x y b p q r u v hh ss xx yy =
-      v ∙ rw (sym p ∙ not-false h hh, sym q ∙ not-false s ss, sym r ∙ not-false x xx, sym u ∙ not-false y yy) at all_parts
-
--- one part that is bad is enough
-pub part_bad : (k w resources d : ℕ) (dev : Device) (b : Bool) → k < 5 → b ≡ part w resources d dev k → not b ≡ true
-    → false ≡ all_good (value_fields w resources d dev)
-part_bad k w resources d dev b h e p = one_bad (part w resources d dev) 5 k b h e p ∙ every_part w resources d dev
+-- what is asked in a row, up to the last test
+pub ruleset in_a_row = (asked, not_asked, last_state, state_fails, last_part, part_fails)
 
 pub ruleset quick_tests = (
   head_test,
   limits_test,
-  states_test,
   none_test,
   present_none,
   absent_same,
