@@ -239,33 +239,14 @@ zeros_test w t at n m f g =
 
 -- ---- a record as the check of a run asks: values, zeros where there are any, objects
 module _ (zeros : Bool) (w resources : ℕ) (t : List ℕ) (d at : ℕ) (v : Bool)
-    (e : v ≡ all_good (value_fields w resources d (device_at w t at))) where
-  pub values_bad : not v ≡ true → true ≡ not (good_with zeros w resources t d at)
+    (e : v ≡ all_good (value_fields w resources d (device_at w t at)) && (not zeros || all_good (zero_fields w t at))) where
+  pub objects_left : (o : Bool) → v ≡ true → o ≡ objects_good (device_at w t at) → o ≡ good_with zeros w resources t d at
   unfolding good_with
-  values_bad p = rw (sym e ∙ not-true v p) refl
+  objects_left o p f = rw (sym e ∙ p, f) refl
 
-  module _ (p : not v ≡ false) (z : Bool) (f : z ≡ (not zeros || all_good (zero_fields w t at))) where
-    pub zeros_bad : not z ≡ true → true ≡ not (good_with zeros w resources t d at)
-    unfolding good_with
-    zeros_bad q = rw (sym e ∙ not-false v p, sym f ∙ not-true z q) refl
-
-    pub objects_left : (o : Bool) → not z ≡ false → o ≡ objects_good (device_at w t at) → not o ≡ not (good_with zeros w resources t d at)
-    unfolding good_with
-    objects_left o q g = rw (sym e ∙ not-false v p, sym f ∙ not-false z q, g) refl
-
-pub zeros_none : (zeros b : Bool) → not zeros ≡ true → true ≡ (not zeros || b)
-zeros_none zeros b p = rw p refl
-
-pub zeros_there : (zeros z b : Bool) → not zeros ≡ false → z ≡ b → z ≡ (not zeros || b)
-zeros_there zeros z b p e = rw p e
-
--- with or without zeros, the fields end inside the record
-pub fields_in_record : (zeros : Bool) (w at n : ℕ) → at + size_with zeros w ≤ n → at + fields_size w ≤ n
-fields_in_record true w at n h = omega arith
-fields_in_record false w at n h = h
-
-pub zeros_in_record : (zeros : Bool) (w at n : ℕ) → not zeros ≡ false → at + size_with zeros w ≤ n → at + record_size w ≤ n
-zeros_in_record zeros w at n e h = rw (not-false zeros e) at h
+  pub fields_fail : v ≡ false → v ≡ good_with zeros w resources t d at
+  unfolding good_with
+  fields_fail p = rw (sym e ∙ p) p
 
 pub size_with_lem : (zeros : Bool) (w n : ℕ) → zeros ≡ true → n ≡ record_size w → n ≡ size_with zeros w
 size_with_lem zeros w n e f = rw e f
@@ -273,17 +254,12 @@ size_with_lem zeros w n e f = rw e f
 pub size_without : (zeros : Bool) (w : ℕ) → zeros ≡ false → 14 + 5 * w ≡ size_with zeros w
 size_without zeros w e = rw e refl
 
-pub ruleset run_tests = (
-  values_bad,
-  zeros_bad,
-  objects_left,
-  zeros_none,
-  zeros_there,
-  fields_in_record,
-  zeros_in_record,
-  size_with_lem,
-  size_without,
-)
+-- with or without zeros, the fields end inside the record
+pub fields_in_record : (zeros : Bool) (w at n : ℕ) → at + size_with zeros w ≤ n → at + fields_size w ≤ n
+fields_in_record true w at n h = omega arith
+fields_in_record false w at n h = h
+
+pub ruleset run_tests = (asked, not_asked, objects_left, fields_fail, size_with_lem, size_without, fields_in_record)
 
 -- a table's record is one with zeros
 pub table_record : (w resources : ℕ) (t : List ℕ) (d at : ℕ)

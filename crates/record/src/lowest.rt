@@ -63,13 +63,14 @@ impl Records<'_> {
         !self.zeros || r.zeros_good()
     }
 
-    // Whether device d, whose record starts at a byte, has a bad field, or its objects do not agree.
-    fn device_bad(&self, at: usize, d: usize, resources: usize) -> bool
-        requires { (at + size_with self.now.zeros self.now.width ≤ length self.now.bytes.now) × (d < 256) × (resources ≤ limit self.now.width) }
-        ensures { result ≡ not (good_with self.now.zeros self.now.width resources self.now.bytes.now d at) }
+    // Whether every field of device d, whose record starts at a byte, is good, and its objects agree.
+    fn device_good(&self, at: usize, d: usize, resources: usize) -> bool
+        requires { (at + size_with self.now.zeros self.now.width ≤ length self.now.bytes.now) × (d < 256)
+            × (resources ≤ limit self.now.width) }
+        ensures { result ≡ good_with self.now.zeros self.now.width resources self.now.bytes.now d at }
     {
-        let record = Record { bytes: self.bytes, at, width: self.width };
-        !record.values_good(d, resources) || !self.zeros_follow(&record) || !record.objects_agree()
+        let r = Record { bytes: self.bytes, at, width: self.width };
+        r.values_good(d, resources) && self.zeros_follow(&r) && r.objects_agree()
     }
 
     // The lowest bad device, if one is bad. The bytes at which the records start are added up: no product in the loop.
@@ -81,7 +82,7 @@ impl Records<'_> {
         let size = size_with(self.width, self.zeros);
         let mut at = self.first;
         for d in 0..self.count {
-            if self.device_bad(at, d, resources) {
+            if !self.device_good(at, d, resources) {
                 return Some(d);
             }
             at += size;
