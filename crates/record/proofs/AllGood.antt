@@ -27,17 +27,8 @@ use Rattle.laws.proofs.Tests.{both_true}
 use Rattle.laws.proofs.Every.{same_test}
 use Rattle.laws.proofs.Tests as tests
 use Rattle.record.specs.Good.{sets_fit, absent_set, sets_absent, size_with, good_with}
-use Rattle.record.proofs.Tests.{objects_test}
 use Rattle.record.proofs.FirstBad.{zero_field}
 
-
--- ---- a test that is asked only where what stands before it is true
-module _ (a b v : Bool) where
-  pub asked : a ≡ true → v ≡ b → v ≡ a && b
-  asked e f = rw e f
-
-  pub not_asked : a ≡ false → v ≡ false → v ≡ a && b
-  not_asked e f = rw e f
 
 -- ---- two tests that say the same, and two tests as one: zeros in a number's parts and in a union, and a union's bits
 both_zero : (a b c : ℕ) → (c ≡ 0 → a ≡ 0) → (c ≡ 0 → b ≡ 0) → (a ≡ 0 → b ≡ 0 → c ≡ 0) → eqb c 0 ≡ eqb a 0 && eqb b 0
@@ -92,40 +83,6 @@ unfolding all_good each_from
 five g = let all = every_field (λ k. k) g 5 in rw (← all) (simp (and-true, and_assoc))
 
 module _ (v : Device) where
-  -- ---- a device's bytes 0 to 3, `_SxD` and `_SxW`
-  pub head_test : (d ps pr flags : ℕ) (b : Bool) → b ≡ parent_good d v → ps ≡ v.ps → pr ≡ v.pr → flags ≡ v.flags
-      → b && ltb ps 16 && ltb pr 16 && ltb flags 4 ≡ all_good (head_fields d v)
-  unfolding head_fields all_good
-  head_test d ps pr flags b e f g h = rw (e, f, g, h) (simp (and-true, and_assoc))
-
-  pub limits_test : (w : ℕ) (a b c d e : Bool) → a ≡ sxw_good v 0 → b ≡ sxw_good v 1 → c ≡ sxw_good v 2 → d ≡ sxw_good v 3 → e ≡ sxw_good v 4
-      → a && b && c && d && e ≡ all_good (sxw_fields w v)
-  unfolding sxw_fields all_good each_from
-  limits_test w a b c d e p q r s u = rw (p, q, r, s, u) (simp (and-true, and_assoc))
-
-  -- `_S1D` to `_S4D` as one test, each asked where the ones before it passed
-  module _ (w : ℕ) (a b c : Bool) (p : a ≡ sxd_good v 1) (q : b ≡ a && sxd_good v 2) (r : c ≡ b && sxd_good v 3) where
-    all_states : c && sxd_good v 4 ≡ all_good (sxd_fields w v)
-    unfolding sxd_fields all_good each_from
-    all_states = rw (r, q, p) (simp (and-true, and_assoc))
-
-    pub last_state : (d : Bool) → c ≡ true → d ≡ sxd_good v 4 → d ≡ all_good (sxd_fields w v)
-    last_state d e f = f ∙ rw e at all_states
-
-    pub state_fails : c ≡ false → c ≡ all_good (sxd_fields w v)
-    state_fails e = e ∙ rw e at all_states
-
-  sxd_none : (x s : ℕ) → s ≡ v.sxd x → s ≡ 255 → sxd_good v x ≡ true
-  unfolding sxd_good
-  sxd_none x s e n = rw (← e, n) refl
-
-  -- four bytes as one number, the largest: each is 255
-  pub none_test : (w a b c d n : ℕ) → a ≡ v.sxd 1 → b ≡ v.sxd 2 → c ≡ v.sxd 3 → d ≡ v.sxd 4 → a < 256 → b < 256 → c < 256 → d < 256
-      → n ≡ a + 0x100 * b + 0x1_0000 * c + 0x100_0000 * d → n ≡ 0xffff_ffff → true ≡ all_good (sxd_fields w v)
-  unfolding sxd_fields all_good each_from
-  none_test w a b c d n p q r s h i j k e m =
-      rw (sxd_none 1 a p (omega arith), sxd_none 2 b q (omega arith), sxd_none 3 c r (omega arith), sxd_none 4 d s (omega arith)) refl
-
   -- ---- no bit at or above R
   pub fit_test : (resources a b c d e : ℕ) (f : Bool) → a ≡ v.sets 0 → b ≡ v.sets 1 → c ≡ v.sets 2 → d ≡ v.sets 3 → e ≡ v.sets 4
       → (all : ℕ) → f ≡ subset (bit_or (bit_or (bit_or (bit_or a b) c) d) e) all → all ≡ first_n resources → f ≡ sets_fit resources v
@@ -134,15 +91,6 @@ module _ (v : Device) where
       g ∙ rw (is, within_first, union_fits, union_fits, union_fits, union_fits, p, q, r, s, u) (five (λ k. ltb (v.sets k) (2 ^ resources)))
 
   -- ---- the sets of absent objects
-  module _ (k : ℕ) (b : Bool) (e : b ≡ present v k) where
-    pub present_none : b ≡ true → 0 ≡ absent_set v k
-    unfolding absent_set
-    present_none p = rw (sym e ∙ p) refl
-
-    pub absent_same : (s : ℕ) → b ≡ false → s ≡ v.sets k → s ≡ absent_set v k
-    unfolding absent_set
-    absent_same s p f = rw (sym e ∙ p) f
-
   zero_absent : (k s : ℕ) → s ≡ absent_set v k → eqb s 0 ≡ present v k || eqb (v.sets k) 0
   unfolding absent_set
   zero_absent k s e = decide (present v k) (λ p. rw (e, p) refl) (λ p. rw (e, p) refl)
@@ -175,19 +123,6 @@ module _ (v : Device) where
       let h = both_true (eqb pr 15) b p in
       let all = power_present_all (sym f ∙ eqb-true pr 15 h.0) in
       rw (all.0, all.1, all.2, all.3, sym e ∙ h.1) at (five (λ k. present v k || eqb (v.sets k) 0))
-
-  -- ---- where the masks are the same and have bits 0 and 3, `_DSW` decides
-  pub same_masks_agree : (ps pr flags : ℕ) (ps0 ps3 dsw prw : Bool) → ps ≡ v.ps → pr ≡ v.pr → flags ≡ v.flags → ps0 ≡ member ps 0
-      → ps3 ≡ member ps 3 → dsw ≡ member flags 1 → prw ≡ member flags 0 → eqb ps pr && ps0 && ps3 ≡ true
-      → not dsw || prw ≡ objects_good v
-  same_masks_agree ps pr flags ps0 ps3 dsw prw e f g a b c d h =
-      let all = both_true (eqb ps pr && ps0) ps3 h in
-      let front = both_true (eqb ps pr) ps0 all.0 in
-      let alike = eqb-true ps pr front.0 in
-      let zero_bit : true ≡ member pr 0 = sym front.1 ∙ a ∙ ap (λ (m : ℕ). member m 0) alike in
-      let low : eqb (ps % 8) (pr % 8) ≡ true = eq-eqb _ _ (ap (λ (m : ℕ). m % 8) alike) in
-      rw (or-true, or-true, low, or-true) at
-      (objects_test v ps pr flags true true true dsw prw e f g (sym front.1 ∙ a) (sym all.1 ∙ b) zero_bit c d)
 
 -- ---- the five sets: their rule is its two halves, which the code asks one after the other
 halves : (w resources : ℕ) (v : Device) → all_good (set_fields w resources v) ≡ sets_fit resources v && sets_absent v
@@ -237,30 +172,6 @@ zeros_test w t at n m f g =
     let apart = sum_zero (256 ^ w) (read_le w t start) (read_le 2 t (start + w)) (bytes_pos w) in
     or_none n m ∙ rw (c, zeros w t at (w + 2) 0, i, split, apart, j, f, g) refl
 
--- ---- a record as the check of a run asks: values, zeros where there are any, objects
-module _ (zeros : Bool) (w resources : ℕ) (t : List ℕ) (d at : ℕ) (v : Bool)
-    (e : v ≡ all_good (value_fields w resources d (device_at w t at)) && (not zeros || all_good (zero_fields w t at))) where
-  pub objects_left : (o : Bool) → v ≡ true → o ≡ objects_good (device_at w t at) → o ≡ good_with zeros w resources t d at
-  unfolding good_with
-  objects_left o p f = rw (sym e ∙ p, f) refl
-
-  pub fields_fail : v ≡ false → v ≡ good_with zeros w resources t d at
-  unfolding good_with
-  fields_fail p = rw (sym e ∙ p) p
-
-pub size_with_lem : (zeros : Bool) (w n : ℕ) → zeros ≡ true → n ≡ record_size w → n ≡ size_with zeros w
-size_with_lem zeros w n e f = rw e f
-
-pub size_without : (zeros : Bool) (w : ℕ) → zeros ≡ false → 14 + 5 * w ≡ size_with zeros w
-size_without zeros w e = rw e refl
-
--- with or without zeros, the fields end inside the record
-pub fields_in_record : (zeros : Bool) (w at n : ℕ) → at + size_with zeros w ≤ n → at + fields_size w ≤ n
-fields_in_record true w at n h = omega arith
-fields_in_record false w at n h = h
-
-pub ruleset run_tests = (asked, not_asked, objects_left, fields_fail, size_with_lem, size_without, fields_in_record)
-
 -- a table's record is one with zeros
 pub table_record : (w resources : ℕ) (t : List ℕ) (d at : ℕ)
     → good_with true w resources t d at
@@ -274,34 +185,3 @@ table_record w resources t d at =
 pub value_good : (w resources d : ℕ) (v : Device) → eqb (first_bad (record_size w) (value_fields w resources d v)) (record_size w) ≡ all_good
     (value_fields w resources d v)
 value_good w resources d v = none_bad (record_size w) _ (values_inside w resources d v)
-
--- ---- the parts of a device's values
-module _ (w resources d : ℕ) (dev : Device) where
-  -- the parts as one test, each asked where the ones before it passed
-  module _ (h s x y : Bool) (p : h ≡ all_good (head_fields d dev)) (q : s ≡ h && all_good (set_fields w resources dev))
-      (r : x ≡ s && all_good (sxd_fields w dev)) (u : y ≡ x && all_good (sxw_fields w dev)) where
-    all_parts : y && deepest_good dev ≡ all_good (value_fields w resources d dev)
-    unfolding value_fields deepest_fields all_good
-    all_parts = rw (u, r, q, p) (sym (simp (joined, and_assoc, and-true)))
-
-    pub last_part : (b : Bool) → y ≡ true → b ≡ deepest_good dev → b ≡ all_good (value_fields w resources d dev)
-    last_part b e f = f ∙ rw e at all_parts
-
-    pub part_fails : y ≡ false → y ≡ all_good (value_fields w resources d dev)
-    part_fails e = e ∙ rw e at all_parts
-
--- what is asked in a row, up to the last test
-pub ruleset in_a_row = (asked, not_asked, last_state, state_fails, last_part, part_fails)
-
-pub ruleset quick_tests = (
-  head_test,
-  limits_test,
-  none_test,
-  present_none,
-  absent_same,
-  sets_unfit,
-  sets_there,
-  sets_left,
-  zeros_test,
-  same_masks_agree,
-)

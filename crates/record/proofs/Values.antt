@@ -17,25 +17,7 @@ use Rattle.laws.proofs.Joined.{SameLength, joined_none, joined_room, joined_smal
 use Rattle.record.specs.declared.device.Device.{Device}
 use Rattle.record.specs.Value.{device_value, sets_bytes, value_bytes}
 
--- ---- a device read: four, and five, values of a numbered field; all fields
-pub four_values : (f : ℕ → ℕ) (a b c d : ℕ) → a ≡ f 0 → b ≡ f 1 → c ≡ f 2 → d ≡ f 3 → a ∷ b ∷ c ∷ d ∷ [] ≡ each f 4
-unfolding each_from
-four_values f a b c d p q r s = rw (p, q, r, s) refl
-
-pub five_values : (f : ℕ → ℕ) (a b c d e : ℕ) → a ≡ f 0 → b ≡ f 1 → c ≡ f 2 → d ≡ f 3 → e ≡ f 4 → a ∷ b ∷ c ∷ d ∷ e ∷ [] ≡ each f 5
-unfolding each_from
-five_values f a b c d e p q r s t = rw (p, q, r, s, t) refl
-
-pub held_is : (v : station.Device) (parent ps pr flags : ℕ) (sets sxd sxw : List ℕ) (deepest : ℕ) → parent ≡ v.parent → ps ≡ v.ps
-    → pr ≡ v.pr → flags ≡ v.flags → sets ≡ each v.sets 5 → sxd ≡ each (λ k. v.sxd (k + 1)) 4 → sxw ≡ each v.sxw 5
-    → deepest ≡ v.deepest
-    → record { parent = parent; ps = ps; pr = pr; flags = flags; sets = sets; sxd = sxd; sxw = sxw; deepest = deepest } ≡ device_value v
-unfolding device_value
-held_is v parent ps pr flags sets sxd sxw deepest a b c d e f g h = rw (a, b, c, d, e, f, g, h) refl
-
-pub ruleset held_fields = (four_values, five_values, held_is)
-
--- its bytes are those of the station's device
+-- a device's bytes are those of the station's device
 pub held_bytes : (w : ℕ) (v : station.Device) → value_bytes w (device_value v) ≡ field_bytes w v
 unfolding device_value sets_bytes value_bytes field_bytes each_from join_from
 held_bytes w v = refl

@@ -32,7 +32,7 @@ impl Record<'_> {
     }
 
     // The five sets.
-    #[tactic(auto, unfolding(rules::specs::Table::set_fields))]
+    #[tactic(auto, unfolding(rules::specs::Table::set_fields), using(crate::proofs::FirstBad::bad_loop))]
     fn bad_set(&self, resources: usize) -> Option<usize>
         requires { resources ≤ limit self.now.width }
         ensures { result ≡ bad_place (set_fields self.now.width resources (device_of self.now)) }
@@ -46,7 +46,7 @@ impl Record<'_> {
     }
 
     // `_S1D` to `_S4D`.
-    #[tactic(auto, unfolding(rules::specs::Table::sxd_fields))]
+    #[tactic(auto, unfolding(rules::specs::Table::sxd_fields), using(crate::proofs::FirstBad::bad_loop))]
     fn bad_sxd(&self) -> Option<usize>
         ensures { result ≡ bad_place (sxd_fields self.now.width (device_of self.now)) }
     {
@@ -59,7 +59,7 @@ impl Record<'_> {
     }
 
     // `_S0W` to `_S4W`.
-    #[tactic(auto, unfolding(rules::specs::Table::sxw_fields))]
+    #[tactic(auto, unfolding(rules::specs::Table::sxw_fields), using(crate::proofs::FirstBad::bad_loop))]
     fn bad_sxw(&self) -> Option<usize>
         ensures { result ≡ bad_place (sxw_fields self.now.width (device_of self.now)) }
     {
@@ -83,6 +83,7 @@ impl Record<'_> {
     }
 
     // Where the first bad value of device d starts, if one is bad.
+    #[tactic(auto, unfolding(rules::specs::Table::value_fields), using(crate::proofs::FirstBad::place_joined))]
     pub fn bad_value(&self, d: usize, resources: usize) -> Option<usize>
         requires { (d < 256) × (resources ≤ limit self.now.width) }
         ensures { result ≡ bad_place (value_fields self.now.width resources d (device_of self.now)) }
@@ -95,7 +96,7 @@ impl Record<'_> {
     }
 
     // The 2 + w zeros to the record's end.
-    #[tactic(auto, unfolding(rules::specs::Table::zero_fields))]
+    #[tactic(auto, unfolding(rules::specs::Table::zero_fields), using(crate::proofs::FirstBad::bad_loop))]
     fn bad_zero(&self) -> Option<usize>
         requires { self.now.at + record_size self.now.width ≤ length self.now.bytes.now }
         ensures { result ≡ bad_place (zero_fields self.now.width self.now.bytes.now self.now.at) }
@@ -109,6 +110,7 @@ impl Record<'_> {
     }
 
     // Where the first bad field of device d's record starts, if one is bad.
+    #[tactic(auto, unfolding(rules::specs::Table::device_fields), using(crate::proofs::FirstBad::place_joined))]
     pub fn bad_field(&self, d: usize, resources: usize) -> Option<usize>
         requires { (self.now.at + record_size self.now.width ≤ length self.now.bytes.now) × (d < 256)
             × (resources ≤ limit self.now.width) }

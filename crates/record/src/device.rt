@@ -22,6 +22,7 @@ pub struct Device {
 }
 
 // The five sets.
+#[tactic(auto, unfolding(rules::specs::Index::each_from))]
 fn sets(r: &Record<'_>) -> [u64; 5]
     ensures { result ≡ each (device_of r.now).sets 5 }
 {
@@ -29,6 +30,7 @@ fn sets(r: &Record<'_>) -> [u64; 5]
 }
 
 // `_S1D` to `_S4D`.
+#[tactic(auto, unfolding(rules::specs::Index::each_from))]
 fn sxd(r: &Record<'_>) -> [u8; 4]
     ensures { result ≡ each (λ k. (device_of r.now).sxd (k + 1)) 4 }
 {
@@ -36,6 +38,7 @@ fn sxd(r: &Record<'_>) -> [u8; 4]
 }
 
 // `_S0W` to `_S4W`.
+#[tactic(auto, unfolding(rules::specs::Index::each_from))]
 fn sxw(r: &Record<'_>) -> [u8; 5]
     ensures { result ≡ each (device_of r.now).sxw 5 }
 {
@@ -46,6 +49,7 @@ fn sxw(r: &Record<'_>) -> [u8; 5]
 impl From<&Record<'_>> for Device {
     ghost from_gives = { λ r v. v ≡ device_value (device_of r.now) };
 
+    #[tactic(auto, unfolding(crate::specs::Value::device_value))]
     fn from(r: &Record<'_>) -> Device {
         Device {
             parent: r.parent(),
@@ -73,6 +77,7 @@ fn write_sets(sets: [u64; 5], out: &mut [u8], at: usize, w: usize)
 }
 
 // Four bytes, from `at` on.
+#[tactic(auto, unfolding(words::specs::Words::put))]
 fn write_head(parent: u8, ps: u8, pr: u8, flags: u8, out: &mut [u8], at: usize)
     requires { at + 4 ≤ length out.old }
     ensures { out.new ≡ put out.old at (parent ∷ ps ∷ pr ∷ flags ∷ []) }

@@ -17,6 +17,7 @@ pub fn bit(mask: u8, x: u32) -> bool
 
 impl Record<'_> {
     // A parent is lower than its child; 255 for none. One comparison for both, of the number after the parent's.
+    #[tactic(auto, unfolding(rules::specs::Table::parent_good))]
     pub fn parent_good(&self, d: usize) -> bool
         requires { d < 256 }
         ensures { result ≡ parent_good d (device_of self.now) }
@@ -26,6 +27,7 @@ impl Record<'_> {
     }
 
     // Whether set k's object is there: `_PR0` to `_PR3`, or `_PRW`.
+    #[tactic(auto, unfolding(rules::specs::Table::present))]
     pub fn present(&self, k: usize) -> bool
         requires { k < 5 }
         ensures { result ≡ present (device_of self.now) k }
@@ -37,6 +39,7 @@ impl Record<'_> {
     }
 
     // No bit at or above R, and zero where the object is absent.
+    #[tactic(auto, unfolding(rules::specs::Table::set_good))]
     pub fn set_good(&self, k: usize, resources: usize) -> bool
         requires { (k < 5) × (resources ≤ limit self.now.width) }
         ensures { result ≡ set_good resources (device_of self.now) k }
@@ -46,6 +49,7 @@ impl Record<'_> {
     }
 
     // `_SxD`: 0 to 3 or absent, and not larger than `_SxW` where both are present. An absent `_SxW`, 255, is larger than any state.
+    #[tactic(auto, unfolding(rules::specs::Table::sxd_good))]
     pub fn sxd_good(&self, x: usize) -> bool
         requires { x < 5 }
         ensures { result ≡ sxd_good (device_of self.now) x }
@@ -58,6 +62,7 @@ impl Record<'_> {
     }
 
     // `_SxW`: 0 to 4 or absent.
+    #[tactic(auto, unfolding(rules::specs::Table::sxw_good))]
     pub fn sxw_good(&self, x: usize) -> bool
         requires { x < 5 }
         ensures { result ≡ sxw_good (device_of self.now) x }
@@ -67,6 +72,7 @@ impl Record<'_> {
     }
 
     // The deepest sleep state: 0 to 4; 0 without `_PRW`.
+    #[tactic(auto, unfolding(rules::specs::Table::deepest_good))]
     pub fn deepest_good(&self) -> bool
         ensures { result ≡ deepest_good (device_of self.now) }
     {
@@ -76,6 +82,7 @@ impl Record<'_> {
     }
 
     // Any `_PS` needs `_PS0` and `_PS3`; any `_PR` needs `_PR0`; with both kinds, mask bits 0 to 2 agree; `_DSW` needs `_PRW`.
+    #[tactic(auto, unfolding(rules::specs::Table::objects_good))]
     pub fn objects_good(&self) -> bool
         ensures { result ≡ objects_good (device_of self.now) }
     {

@@ -8,6 +8,7 @@ ghost use Rattle.record.specs.Good.{size_with, good_with};
 use crate::Record;
 
 // Whether a resource has a bad field. Its level and the zero after it are read as one number, which is at most 4 if both are good.
+#[tactic(auto, unfolding(rules::specs::Table::resource_good, rules::specs::Table::first_bad, words::specs::Words::read_le))]
 fn resource_bad(bytes: &[u8], at: usize) -> bool
     requires { at + 4 ≤ length bytes.now }
     ensures { result ≡ not (resource_good bytes.now at) }
@@ -17,6 +18,7 @@ fn resource_bad(bytes: &[u8], at: usize) -> bool
 }
 
 // The lowest bad one of n resources from byte `first` on, if one is bad.
+#[tactic(auto, unfolding(rules::specs::Index::least_below), using(rules::proofs::Index::lowest_of))]
 pub fn lowest_resource(bytes: &[u8], first: usize, n: usize) -> Option<usize>
     requires { first + 4 * n ≤ length bytes.now }
     ensures { result ≡ least_below (λ i. not (resource_good bytes.now (first + 4 * i))) n }
@@ -64,6 +66,7 @@ impl Records<'_> {
     }
 
     // Whether every field of device d, whose record starts at a byte, is good, and its objects agree.
+    #[tactic(auto, unfolding(crate::specs::Good::good_with))]
     fn device_good(&self, at: usize, d: usize, resources: usize) -> bool
         requires { (at + size_with self.now.zeros self.now.width ≤ length self.now.bytes.now) × (d < 256)
             × (resources ≤ limit self.now.width) }
@@ -74,6 +77,7 @@ impl Records<'_> {
     }
 
     // The lowest bad device, if one is bad. The bytes at which the records start are added up: no product in the loop.
+    #[tactic(auto, unfolding(rules::specs::Index::least_below), using(crate::proofs::Run::device_run))]
     pub fn lowest_bad(&self, resources: usize) -> Option<usize>
         requires { resources ≤ limit self.now.width }
         ensures { result ≡ least_below (λ i. not (good_with self.now.zeros self.now.width resources self.now.bytes.now i

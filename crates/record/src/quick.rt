@@ -10,6 +10,7 @@ use crate::Record;
 
 impl Record<'_> {
     // Bytes 0 to 3.
+    #[tactic(auto, unfolding(rules::specs::Table::head_fields, rules::specs::Table::all_good))]
     fn head_good(&self, d: usize) -> bool
         requires { d < 256 }
         ensures { result ≡ all_good (head_fields d (device_of self.now)) }
@@ -18,6 +19,7 @@ impl Record<'_> {
     }
 
     // Set k, which has been read, where its object is absent, else none.
+    #[tactic(auto, unfolding(crate::specs::Good::absent_set))]
     fn absent_set(&self, k: usize, s: u64) -> u64
         requires { (k < 5) × (s ≡ (device_of self.now).sets k) }
         ensures { result ≡ absent_set (device_of self.now) k }
@@ -54,6 +56,7 @@ impl Record<'_> {
     }
 
     // `_S1D` to `_S4D`. Where a device has none of them, one comparison tests all four.
+    #[tactic(auto, unfolding(rules::specs::Table::sxd_fields, rules::specs::Table::all_good, rules::specs::Index::each_from, rules::specs::Table::sxd_good))]
     fn states_good(&self) -> bool
         ensures { result ≡ all_good (sxd_fields self.now.width (device_of self.now)) }
     {
@@ -68,6 +71,7 @@ impl Record<'_> {
     }
 
     // `_S0W` to `_S4W`.
+    #[tactic(auto, unfolding(rules::specs::Table::sxw_fields, rules::specs::Table::all_good, rules::specs::Index::each_from))]
     fn limits_good(&self) -> bool
         ensures { result ≡ all_good (sxw_fields self.now.width (device_of self.now)) }
     {
@@ -75,6 +79,7 @@ impl Record<'_> {
     }
 
     // Every value of device d, wherever its record is: in a table, or in a list of described devices, which has no zeros.
+    #[tactic(auto, unfolding(rules::specs::Table::value_fields, rules::specs::Table::deepest_fields, rules::specs::Table::all_good), using(laws::proofs::Good::joined))]
     pub fn values_good(&self, d: usize, resources: usize) -> bool
         requires { (d < 256) × (resources ≤ limit self.now.width) }
         ensures { result ≡ all_good (value_fields self.now.width resources d (device_of self.now)) }
@@ -87,6 +92,7 @@ impl Record<'_> {
     }
 
     // Zeros to the record's end, read as one number of w bytes and one of two.
+    #[tactic(auto, using(crate::proofs::AllGood::zeros_test))]
     pub fn zeros_good(&self) -> bool
         requires { self.now.at + record_size self.now.width ≤ length self.now.bytes.now }
         ensures { result ≡ all_good (zero_fields self.now.width self.now.bytes.now self.now.at) }
@@ -98,6 +104,7 @@ impl Record<'_> {
 
     // Whether the objects agree. Where the states with `_PS` are those with `_PR`, D0 and D3hot among them, only `_DSW` is left to ask;
     // any other device is put to the whole rule.
+    #[tactic(auto, unfolding(rules::specs::Table::objects_good))]
     pub fn objects_agree(&self) -> bool
         ensures { result ≡ objects_good (device_of self.now) }
     {

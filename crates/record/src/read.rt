@@ -24,7 +24,7 @@ pub fn set_start(w: usize, k: usize) -> usize
     4 + 4 * k
 }
 
-#[tactic(auto, unfolding(rules::specs::Station::device_at))]
+#[tactic(auto, unfolding(rules::specs::Station::device_at), using(rules::proofs::Index::below_in))]
 impl Record<'_> {
     // A device's parent, or 255.
     pub fn parent(&self) -> u8

@@ -17,12 +17,6 @@ returns-then-pr-present c =
     c.present.ensures
     c.if-pr-present.true
 
-pub absent_set-i-requires : goal.absent_set-i-requires
-absent_set-i-requires c = (search rules, c.set-d.ensures.0)
-
-pub absent_set-j-requires : goal.absent_set-j-requires
-absent_set-j-requires c = (search rules, c.set-e.ensures.0)
-
 pub returns : goal.returns
 returns c =
     sets_left _ _ _ _ _ _ _ _ c.set-a.ensures.0 c.set-b.ensures.0 c.set-c.ensures.0 c.set-d.ensures.0
