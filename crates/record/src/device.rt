@@ -21,44 +21,20 @@ pub struct Device {
     pub deepest: u8,
 }
 
-// The five sets.
-#[tactic(auto, unfolding(rules::specs::Index::each_from))]
-fn sets(r: &Record<'_>) -> [u64; 5]
-    ensures { result ≡ each (device_of r.now).sets 5 }
-{
-    [r.set(0), r.set(1), r.set(2), r.set(3), r.set(4)]
-}
-
-// `_S1D` to `_S4D`.
-#[tactic(auto, unfolding(rules::specs::Index::each_from))]
-fn sxd(r: &Record<'_>) -> [u8; 4]
-    ensures { result ≡ each (λ k. (device_of r.now).sxd (k + 1)) 4 }
-{
-    [r.sxd(1), r.sxd(2), r.sxd(3), r.sxd(4)]
-}
-
-// `_S0W` to `_S4W`.
-#[tactic(auto, unfolding(rules::specs::Index::each_from))]
-fn sxw(r: &Record<'_>) -> [u8; 5]
-    ensures { result ≡ each (device_of r.now).sxw 5 }
-{
-    [r.sxw(0), r.sxw(1), r.sxw(2), r.sxw(3), r.sxw(4)]
-}
-
 // The device that a record says.
 impl From<&Record<'_>> for Device {
     ghost from_gives = { λ r v. v ≡ device_value (device_of r.now) };
 
-    #[tactic(auto, unfolding(crate::specs::Value::device_value))]
+    #[tactic(auto, unfolding(crate::specs::Value::device_value, rules::specs::Index::each_from))]
     fn from(r: &Record<'_>) -> Device {
         Device {
             parent: r.parent(),
             ps: r.ps(),
             pr: r.pr(),
             flags: r.flags(),
-            sets: sets(r),
-            sxd: sxd(r),
-            sxw: sxw(r),
+            sets: std::array::from_fn(|k| r.set(k)),
+            sxd: std::array::from_fn(|k| r.sxd(k + 1)),
+            sxw: std::array::from_fn(|x| r.sxw(x)),
             deepest: r.deepest(),
         }
     }
@@ -76,25 +52,13 @@ fn write_sets(sets: [u64; 5], out: &mut [u8], at: usize, w: usize)
     }
 }
 
-// Four bytes, from `at` on.
-#[tactic(auto, unfolding(words::specs::Words::put))]
-fn write_head(parent: u8, ps: u8, pr: u8, flags: u8, out: &mut [u8], at: usize)
-    requires { at + 4 ≤ length out.old }
-    ensures { out.new ≡ put out.old at (parent ∷ ps ∷ pr ∷ flags ∷ []) }
-{
-    out[at] = parent;
-    out[at + 1] = ps;
-    out[at + 2] = pr;
-    out[at + 3] = flags;
-}
-
 impl Device {
     // The device's fields, from `at` on.
     pub fn write(&self, out: &mut [u8], at: usize, w: usize)
         requires { Wide w × (at + fields_size w ≤ length out.old) }
         ensures { (out.new ≡ put out.old at (value_bytes w self.now)) × (length (value_bytes w self.now) ≡ fields_size w) }
     {
-        write_head(self.parent, self.ps, self.pr, self.flags, out, at);
+        words::copy(&[self.parent, self.ps, self.pr, self.flags], out, at);
         write_sets(self.sets, out, at + 4, w);
         words::copy(&self.sxd, out, at + 4 + 5 * w);
         words::copy(&self.sxw, out, at + 8 + 5 * w);
