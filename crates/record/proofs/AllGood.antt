@@ -1,10 +1,10 @@
 -- Whether every field is good, as one test: of fields one after the other, of the five sets, of zeros read as one number, of a device's
 -- parts.
 -- Where the code asks another function, that function's answer comes with what it says.
-use mathlib.Core.Path.{◌≡◌, refl, sym, ap, ◌∙◌}
-use mathlib.Core.Bool.{Bool, true, false, not, ◌&&◌, ◌||◌, and_assoc, and-true, or-true, true≢false}
+use mathlib.Core.Path.{◌≡◌, refl, sym, ◌∙◌}
+use mathlib.Core.Bool.{Bool, true, false, not, ◌&&◌, ◌||◌, and_assoc, and-true}
 use mathlib.Core.List.{List}
-use Prim.Native.Nat.{ℕ, zero, suc, ◌+◌, ◌*◌, ◌-◌, ◌%◌, ◌^◌, ◌≤◌, ◌<◌}
+use Prim.Native.Nat.{ℕ, zero, suc, ◌+◌, ◌*◌, ◌-◌, ◌%◌, ◌^◌, ◌<◌}
 use native.Mathlib.Nat.{mul-zero, mul-le-mul_right, pow-suc, mod-eq_of_lt}
 use native.Mathlib.Omega.{arith}
 use borrow.Author.Tests.{eqb-true, eq-eqb, ltb-true, lt-ltb, not-true, not-false}
@@ -16,19 +16,18 @@ use Rattle.sets.proofs.Laws.{decide, or_none}
 use Rattle.words.specs.Words.{read_le}
 use Rattle.words.proofs.Twice.{read_split}
 use Rattle.rules.specs.Index.{each_from, each, every}
-use Rattle.rules.specs.Station.{Device, record_size, fields_size, device_at}
-use Rattle.rules.specs.Table.{Field, field, first_bad, all_good, parent_good, present, set_good, sxd_good, sxw_good, deepest_good, head_fields}
-use Rattle.rules.specs.Table.{set_fields, sxd_fields, sxw_fields, deepest_fields, value_fields, zero_fields, device_fields, objects_good}
+use Rattle.rules.specs.Station.{Device, record_size, device_at}
+use Rattle.rules.specs.Table.{Field, field, first_bad, all_good, present, set_good}
+use Rattle.rules.specs.Table.{set_fields, zero_fields, device_fields, objects_good}
 use Rattle.rules.proofs.Index.{every_at, every_of_lem}
 use Rattle.laws.proofs.All.{all_each, each_at}
 use Rattle.laws.proofs.Good.{none_bad, joined, Good, good_each, good_all}
-use Rattle.laws.proofs.Accepted.{values_inside, fields_inside}
+use Rattle.laws.proofs.Accepted.{fields_inside}
 use Rattle.laws.proofs.Tests.{both_true}
 use Rattle.laws.proofs.Every.{same_test}
 use Rattle.laws.proofs.Tests as tests
-use Rattle.record.specs.Good.{sets_fit, absent_set, sets_absent, size_with, good_with}
+use Rattle.record.specs.Good.{sets_fit, absent_set, sets_absent, good_with}
 use Rattle.record.proofs.FirstBad.{zero_field}
-
 
 -- ---- two tests that say the same, and two tests as one: zeros in a number's parts and in a union, and a union's bits
 both_zero : (a b c : ℕ) → (c ≡ 0 → a ≡ 0) → (c ≡ 0 → b ≡ 0) → (a ≡ 0 → b ≡ 0 → c ≡ 0) → eqb c 0 ≡ eqb a 0 && eqb b 0
@@ -180,8 +179,3 @@ unfolding good_with device_fields
 table_record w resources t d at =
     let fields = device_fields w resources t d at in
     rw (none_bad (record_size w) fields (fields_inside w resources t d at)) (rw joined refl)
-
--- the values are good where none is bad
-pub value_good : (w resources d : ℕ) (v : Device) → eqb (first_bad (record_size w) (value_fields w resources d v)) (record_size w) ≡ all_good
-    (value_fields w resources d v)
-value_good w resources d v = none_bad (record_size w) _ (values_inside w resources d v)

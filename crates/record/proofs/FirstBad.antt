@@ -4,21 +4,21 @@ use mathlib.Core.Path.{◌≡◌, refl, sym, ◌∙◌}
 use mathlib.Core.Bool.{Bool, true, false, not}
 use mathlib.Core.List.{List, [], ◌∷◌, ◌++◌}
 use Prim.Native.Nat.{ℕ, suc, ◌+◌, ◌*◌, ◌-◌, ◌≤◌, ◌<◌}
-use native.Mathlib.Nat.{sub-zero, sub-eq-zero_of_le}
+use native.Mathlib.Nat.{sub-eq-zero_of_le}
 use native.Mathlib.Numerals.{add-one}
 use native.Mathlib.Omega.{arith}
-use borrow.Author.Tests.{lt-ltb, le-ltb, eq-eqb, ne_eqb, not-true, not-false}
-use lib.Dec.{eqb, ltb}
+use borrow.Author.Tests.{eq-eqb, ne_eqb, not-true, not-false}
+use lib.Dec.{eqb}
 use lib.ListN.{get_or}
 use Rattle.std.specs.Prelude.{Option, Some, None, is_some}
 use Rattle.std.specs.Option.{option_or, unwrap_or}
 use Rattle.sets.proofs.Laws.{decide}
 use Rattle.rules.specs.Index.{each_from}
-use Rattle.rules.specs.Station.{Device, record_size, device_at}
-use Rattle.rules.specs.Table.{Field, field, first_bad, all_good, parent_good, set_good, sxd_good, sxw_good, deepest_good, head_fields}
-use Rattle.rules.specs.Table.{set_fields, sxd_fields, sxw_fields, deepest_fields, value_fields, zero_fields, device_fields}
+use Rattle.rules.specs.Station.{Device, record_size}
+use Rattle.rules.specs.Table.{Field, field, first_bad, all_good, set_good, sxd_good, sxw_good}
+use Rattle.rules.specs.Table.{device_fields}
 use Rattle.laws.proofs.Good.{none_bad}
-use Rattle.laws.proofs.Accepted.{values_inside, fields_inside}
+use Rattle.laws.proofs.Accepted.{fields_inside}
 use Rattle.record.specs.Good.{bad_place}
 
 -- ---- one field before others, and two lists joined
@@ -35,18 +35,6 @@ unfolding bad_place
 place_joined [] r = refl
 place_joined (f ∷ l) r = decide f.good (λ e. rw (e, place_joined l r) refl) (λ e. rw e refl)
 
--- the parts of a device's values, and of its record
-pub parts_joined : (w resources d : ℕ) (v : Device) → option_or (option_or (option_or (option_or (bad_place (head_fields d v))
-    (bad_place (set_fields w resources v))) (bad_place (sxd_fields w v))) (bad_place (sxw_fields w v))) (bad_place (deepest_fields w v))
-    ≡ bad_place (value_fields w resources d v)
-unfolding value_fields
-parts_joined w resources d v = sym (simp place_joined refl)
-
-pub record_joined : (w resources : ℕ) (t : List ℕ) (d at : ℕ) → option_or (bad_place (value_fields w resources d (device_at w t at)))
-    (bad_place (zero_fields w t at)) ≡ bad_place (device_fields w resources t d at)
-unfolding device_fields
-record_joined w resources t d at = sym (place_joined _ _)
-
 -- ---- what the place says: it is where the rules' first bad field starts, and there is none where every field is good
 pub place_first : (end : ℕ) (l : List Field) → first_bad end l ≡ unwrap_or (bad_place l) end
 unfolding bad_place first_bad
@@ -58,26 +46,20 @@ unfolding bad_place all_good
 place_some [] = refl
 place_some (f ∷ l) = decide f.good (λ e. rw (e, place_some l) refl) (λ e. rw e refl)
 
--- no bad place: every field is good
-module _ (b : Bool) (l : List Field) (o : Option ℕ) (e : o ≡ bad_place l) (n : is_some o ≡ not b) where
-  pub none_good : b ≡ all_good l
-  none_good = same b (all_good l) (sym n ∙ rw e (place_some l))
-    where
-      same : (a b : Bool) → not a ≡ not b → a ≡ b
-      same true true p = refl
-      same false false p = refl
-      same true false p = sym p
-      same false true p = sym p
+-- no bad place: every field is good; for a device's record, the rules' first bad field is at its end
+pub none_good : (b : Bool) (l : List Field) (o : Option ℕ) → o ≡ bad_place l → is_some o ≡ not b → b ≡ all_good l
+none_good b l o e n = same b (all_good l) (sym n ∙ rw e (place_some l))
+  where
+    same : (a b : Bool) → not a ≡ not b → a ≡ b
+    same true true p = refl
+    same false false p = refl
+    same true false p = sym p
+    same false true p = sym p
 
--- the same of a device's record and of its values, as the rules ask it: whether the first bad field is at the record's end
-module _ (w resources d : ℕ) (b : Bool) (o : Option ℕ) (n : is_some o ≡ not b) where
-  pub no_bad_field : (t : List ℕ) (at : ℕ) → o ≡ bad_place (device_fields w resources t d at)
-      → b ≡ eqb (first_bad (record_size w) (device_fields w resources t d at)) (record_size w)
-  no_bad_field t at e = none_good b _ o e n ∙ sym (none_bad (record_size w) _ (fields_inside w resources t d at))
-
-  pub no_bad_value : (v : Device) → o ≡ bad_place (value_fields w resources d v)
-      → b ≡ eqb (first_bad (record_size w) (value_fields w resources d v)) (record_size w)
-  no_bad_value v e = none_good b _ o e n ∙ sym (none_bad (record_size w) _ (values_inside w resources d v))
+pub no_bad_field : (w resources : ℕ) (t : List ℕ) (d at : ℕ) (b : Bool) (o : Option ℕ) → o ≡ bad_place (device_fields w resources t d at)
+    → is_some o ≡ not b → b ≡ eqb (first_bad (record_size w) (device_fields w resources t d at)) (record_size w)
+no_bad_field w resources t d at b o e n =
+    none_good b _ o e n ∙ sym (none_bad (record_size w) _ (fields_inside w resources t d at))
 
 -- ---- a loop that is at field i of n, and is to answer v
 module _ (f : ℕ → Field) (i n : ℕ) (v : Option ℕ) (inv : bad_place (each_from f i (n - i)) ≡ v) where

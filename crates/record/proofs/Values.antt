@@ -9,7 +9,7 @@ use lib.ListN.{length, get_or, set, replicate, length-append}
 use Rattle.words.specs.Words.{bytes_le, put}
 use Rattle.words.proofs.Laws.{bytes_length}
 use Rattle.words.proofs.Put.{Emitted, put_then, sets_put}
-use Rattle.rules.specs.Index.{each_from, each, join_from, join}
+use Rattle.rules.specs.Index.{each_from, join_from, join}
 use Rattle.rules.specs.Station as station
 use Rattle.rules.specs.Station.{fields_size, zeros_size, record_size, field_bytes}
 use Rattle.laws.proofs.Parts.{join_length}

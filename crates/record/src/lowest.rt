@@ -72,7 +72,11 @@ impl Records<'_> {
             × (resources ≤ limit self.now.width) }
         ensures { result ≡ good_with self.now.zeros self.now.width resources self.now.bytes.now d at }
     {
-        let r = Record { bytes: self.bytes, at, width: self.width };
+        let r = Record {
+            bytes: self.bytes,
+            at,
+            width: self.width,
+        };
         r.values_good(d, resources) && self.zeros_follow(&r) && r.objects_agree()
     }
 

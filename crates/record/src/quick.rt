@@ -32,6 +32,7 @@ impl Record<'_> {
 
     // The five sets, each read once: their union has no bit at or above R, and the union of those whose objects are absent is none. Where
     // all five objects are there, nothing is left to ask.
+    #[tactic(auto, using(crate::proofs::AllGood::sets_unfit, crate::proofs::AllGood::sets_there, crate::proofs::AllGood::sets_left))]
     fn sets_good(&self, resources: usize) -> bool
         requires { resources ≤ limit self.now.width }
         ensures { result ≡ all_good (set_fields self.now.width resources (device_of self.now)) }

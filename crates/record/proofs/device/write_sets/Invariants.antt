@@ -1,4 +1,3 @@
-use Prim.Native.Nat.{◌-◌, ◌≤◌}
 use Rattle.words.proofs.Put.{Emitted}
 use Rattle.rules.specs.Index.{join}
 use Rattle.record.proofs.Values.{set_bytes}

@@ -1,5 +1,3 @@
-use mathlib.Core.Path.{◌≡◌}
-use lib.ListN.{length}
 use Rattle.record.proofs.Values.{device_put}
 use borrow.Author.Rules.{rules}
 use Rattle.record.proofs.device.Device.write.Goals as goal
