@@ -1,5 +1,4 @@
--- Whether every field is good, as one test: of fields one after the other, of the five sets, of zeros read as one number, of a device's
--- parts.
+-- Whether every field is good, as one test: of the five sets, of zeros read as one number, and of a table's record.
 -- Where the code asks another function, that function's answer comes with what it says.
 use mathlib.Core.Path.{◌≡◌, refl, sym, ◌∙◌}
 use mathlib.Core.Bool.{Bool, true, false, not, ◌&&◌, ◌||◌, and_assoc, and-true}
@@ -83,7 +82,7 @@ five g = let all = every_field (λ k. k) g 5 in rw (← all) (simp (and-true, an
 
 module _ (v : Device) where
   -- ---- no bit at or above R
-  pub fit_test : (resources a b c d e : ℕ) (f : Bool) → a ≡ v.sets 0 → b ≡ v.sets 1 → c ≡ v.sets 2 → d ≡ v.sets 3 → e ≡ v.sets 4
+  fit_test : (resources a b c d e : ℕ) (f : Bool) → a ≡ v.sets 0 → b ≡ v.sets 1 → c ≡ v.sets 2 → d ≡ v.sets 3 → e ≡ v.sets 4
       → (all : ℕ) → f ≡ subset (bit_or (bit_or (bit_or (bit_or a b) c) d) e) all → all ≡ first_n resources → f ≡ sets_fit resources v
   unfolding sets_fit
   fit_test resources a b c d e f p q r s u all g is =
@@ -94,7 +93,7 @@ module _ (v : Device) where
   unfolding absent_set
   zero_absent k s e = decide (present v k) (λ p. rw (e, p) refl) (λ p. rw (e, p) refl)
 
-  pub absent_test : (a b c d e : ℕ) → a ≡ absent_set v 0 → b ≡ absent_set v 1 → c ≡ absent_set v 2 → d ≡ absent_set v 3 → e ≡ absent_set v 4
+  absent_test : (a b c d e : ℕ) → a ≡ absent_set v 0 → b ≡ absent_set v 1 → c ≡ absent_set v 2 → d ≡ absent_set v 3 → e ≡ absent_set v 4
       → eqb (bit_or (bit_or (bit_or (bit_or a b) c) d) e) 0 ≡ sets_absent v
   unfolding sets_absent
   absent_test a b c d e p q r s u =
@@ -116,7 +115,7 @@ module _ (v : Device) where
   unfolding present member
   power_present_all e = rw e (refl, refl, refl, refl)
 
-  pub all_present : (pr : ℕ) (b : Bool) → pr ≡ v.pr → b ≡ present v 4 → eqb pr 15 && b ≡ true → true ≡ sets_absent v
+  all_present : (pr : ℕ) (b : Bool) → pr ≡ v.pr → b ≡ present v 4 → eqb pr 15 && b ≡ true → true ≡ sets_absent v
   unfolding sets_absent
   all_present pr b f e p =
       let h = both_true (eqb pr 15) b p in

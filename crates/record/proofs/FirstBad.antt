@@ -1,5 +1,4 @@
--- The first bad field of a list: of two lists joined, of the fields that a loop goes through, and of bytes 0 to 3 of a device's record; and
--- what a field that is bad says of the whole list. Where the code asks another function, that function's answer comes with what it says.
+-- The first bad field of a list: of two lists joined, and of the fields that a loop goes through; and what its place says of the list.
 use mathlib.Core.Path.{◌≡◌, refl, sym, ◌∙◌}
 use mathlib.Core.Bool.{Bool, true, false, not}
 use mathlib.Core.List.{List, [], ◌∷◌, ◌++◌}
@@ -7,7 +6,6 @@ use Prim.Native.Nat.{ℕ, suc, ◌+◌, ◌*◌, ◌-◌, ◌≤◌, ◌<◌}
 use native.Mathlib.Nat.{sub-eq-zero_of_le}
 use native.Mathlib.Numerals.{add-one}
 use native.Mathlib.Omega.{arith}
-use borrow.Author.Tests.{eq-eqb, ne_eqb, not-true, not-false}
 use lib.Dec.{eqb}
 use lib.ListN.{get_or}
 use Rattle.std.specs.Prelude.{Option, Some, None, is_some}
@@ -19,14 +17,14 @@ use Rattle.rules.specs.Table.{Field, field, first_bad, all_good, set_good, sxd_g
 use Rattle.rules.specs.Table.{device_fields}
 use Rattle.laws.proofs.Good.{none_bad}
 use Rattle.laws.proofs.Accepted.{fields_inside}
-use Rattle.record.specs.Good.{bad_place}
+use Rattle.record.specs.Bad.{bad_place}
 
 -- ---- one field before others, and two lists joined
-pub place_good : (f : Field) (fs : List Field) → f.good ≡ true → bad_place (f ∷ fs) ≡ bad_place fs
+place_good : (f : Field) (fs : List Field) → f.good ≡ true → bad_place (f ∷ fs) ≡ bad_place fs
 unfolding bad_place
 place_good f fs e = rw e refl
 
-pub place_bad : (f : Field) (fs : List Field) → f.good ≡ false → bad_place (f ∷ fs) ≡ Some f.at
+place_bad : (f : Field) (fs : List Field) → f.good ≡ false → bad_place (f ∷ fs) ≡ Some f.at
 unfolding bad_place
 place_bad f fs e = rw e refl
 
@@ -67,34 +65,17 @@ module _ (f : ℕ → Field) (i n : ℕ) (v : Option ℕ) (inv : bad_place (each
   unfolding each_from
   step h = let k : n - i ≡ suc (n - (i + 1)) = omega arith in rw (k, add-one i) refl
 
-  module _ (h : i < n) where
-    bad_at : (f i).good ≡ false → Some (f i).at ≡ v
-    bad_at e = sym (place_bad (f i) _ e) ∙ rw (step h) at inv
+  pub bad_at : i < n → (f i).good ≡ false → Some (f i).at ≡ v
+  bad_at h e = sym (place_bad (f i) _ e) ∙ rw (step h) at inv
 
-    good_at : (f i).good ≡ true → bad_place (each_from f (i + 1) (n - (i + 1))) ≡ v
-    good_at e = sym (place_good (f i) _ e) ∙ rw (step h) at inv
-
-    -- by the answer of a test
-    module _ (b : Bool) (e : b ≡ (f i).good) where
-      pub bad_here : (a : ℕ) → a ≡ (f i).at → not b ≡ true → Some a ≡ v
-      bad_here a p t = rw p (bad_at (sym e ∙ not-true b t))
-
-      pub good_here : not b ≡ false → bad_place (each_from f (i + 1) (n - (i + 1))) ≡ v
-      good_here t = good_at (sym e ∙ not-false b t)
-
-    -- by a byte that has to be 0
-    module _ (x : ℕ) (e : eqb x 0 ≡ (f i).good) where
-      pub byte_bad : (a : ℕ) → a ≡ (f i).at → (x ≡ 0 → ⊥) → Some a ≡ v
-      byte_bad a p t = rw p (bad_at (sym e ∙ ne_eqb x 0 t))
-
-      pub byte_good : x ≡ 0 → bad_place (each_from f (i + 1) (n - (i + 1))) ≡ v
-      byte_good t = good_at (sym e ∙ eq-eqb x 0 t)
+  pub good_at : i < n → (f i).good ≡ true → bad_place (each_from f (i + 1) (n - (i + 1))) ≡ v
+  good_at h e = sym (place_good (f i) _ e) ∙ rw (step h) at inv
 
   pub none_left : n ≤ i → None ≡ v
   unfolding bad_place each_from
   none_left h = rw (sub-eq-zero_of_le h) at inv
 
-pub ruleset bad_loop = (bad_here, good_here, byte_bad, byte_good, none_left)
+pub ruleset bad_loop = (bad_at, good_at, none_left)
 
 -- ---- the fields that a loop goes through
 abbrev pub set_field : ℕ → ℕ → Device → ℕ → Field

@@ -1,4 +1,3 @@
 pub mod FirstBad
 pub mod AllGood
 pub mod Values
-pub mod Run

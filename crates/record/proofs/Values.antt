@@ -1,14 +1,13 @@
--- A device read as a value and written: its fields one by one, its sets by a loop, and its bytes as one run.
+-- A device by value, written: its sets by a loop, and its bytes as one run.
 use mathlib.Core.Path.{◌≡◌, refl, ap, ◌∙◌}
 use mathlib.Core.List.{List, [], ◌∷◌, ◌++◌, append_assoc}
 use Prim.Native.Nat.{ℕ, zero, suc, ◌+◌, ◌*◌, ◌^◌, ◌≤◌, ◌<◌}
 use native.Mathlib.Nat.{mul_comm, zero-add, suc-add}
-use native.Mathlib.Numerals.{towards_suc}
 use native.Mathlib.Omega.{arith}
-use lib.ListN.{length, get_or, set, replicate, length-append}
+use lib.ListN.{length, get_or, replicate, length-append}
 use Rattle.words.specs.Words.{bytes_le, put}
 use Rattle.words.proofs.Laws.{bytes_length}
-use Rattle.words.proofs.Put.{Emitted, put_then, sets_put}
+use Rattle.words.proofs.Put.{Emitted, put_then}
 use Rattle.rules.specs.Index.{each_from, join_from, join}
 use Rattle.rules.specs.Station as station
 use Rattle.rules.specs.Station.{fields_size, zeros_size, record_size, field_bytes}
@@ -54,10 +53,6 @@ pub ruleset sets_loop = (joined_none, set_room, set_small, set_next, sets_done)
 sets_long : (w : ℕ) (sets : List ℕ) → length (sets_bytes w sets) ≡ 5 * w
 unfolding sets_bytes
 sets_long w sets = join_length (set_bytes w sets) w (λ j. bytes_length w (get_or sets j 0)) 0 5 ∙ mul_comm w 5
-
-pub head_put : (l : List ℕ) (at a b c d : ℕ) → at + 4 ≤ length l
-    → set (set (set (set l at a) (at + 1) b) (at + 2) c) (at + 3) d ≡ put l at (a ∷ b ∷ c ∷ d ∷ [])
-head_put l at a b c d h = simp towards_suc (sets_put l at (a ∷ b ∷ c ∷ d ∷ []) h)
 
 module _ (w : ℕ) (d : List ℕ) (at : ℕ) (v : Device) (room : at + fields_size w ≤ length d) (four : length v.sxd ≡ 4)
     (five : length v.sxw ≡ 5) where
@@ -110,5 +105,3 @@ module _ (w : ℕ) (d : List ℕ) (at : ℕ) (v : Device) (room : at + record_si
       (rw p1 at q) in
       p2 ∙ ap (put d at) (append_assoc (value_bytes w v) (bytes_le w 0) (bytes_le 2 0)
       ∙ ap (λ (l : List ℕ). value_bytes w v ++ l) (zeros_long w))
-
-pub ruleset held_writes = (head_put, device_put, record_put)

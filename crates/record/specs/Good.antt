@@ -1,8 +1,8 @@
 -- What a device's check asks of the fields of a record, where the first bad one's place is not asked for.
-use Rattle.std.specs.Prelude.{ℕ, ◌^◌, Option, Some, None, Bool, cond, not, ◌&&◌, ◌||◌, List, [], ◌∷◌, eqb, ltb}
+use Rattle.std.specs.Prelude.{ℕ, ◌^◌, Bool, cond, not, ◌&&◌, ◌||◌, List, eqb, ltb}
 use Rattle.rules.specs.Index.{every}
 use Rattle.rules.specs.Station.{Device, record_size, fields_size, device_at}
-use Rattle.rules.specs.Table.{Field, all_good, present, value_fields, zero_fields, objects_good}
+use Rattle.rules.specs.Table.{all_good, present, value_fields, zero_fields, objects_good}
 
 -- the two halves of the rule of the five sets: no bit at or above R, and zero where the object is absent
 unfoldable pub sets_fit : ℕ → Device → Bool
@@ -25,8 +25,3 @@ good_with zeros w resources t d at =
     all_good (value_fields w resources d (device_at w t at))
     && (not zeros || all_good (zero_fields w t at))
     && objects_good (device_at w t at)
-
--- where the first bad one of fields starts, if one is bad
-unfoldable pub bad_place : List Field → Option ℕ
-bad_place [] = None
-bad_place (f ∷ fs) = cond f.good (bad_place fs) (Some f.at)

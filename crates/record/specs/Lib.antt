@@ -1,3 +1,4 @@
 pub mod Record
 pub mod Good
+pub mod Bad
 pub mod Value

@@ -3,7 +3,7 @@ ghost use Rattle.std.specs.Prelude.{◌≡◌, ◌+◌, ◌<◌, ◌≤◌, leng
 ghost use Rattle.rules.specs.Station.{limit, record_size};
 ghost use Rattle.rules.specs.Table.{head_fields, set_fields, sxd_fields, sxw_fields, deepest_fields};
 ghost use Rattle.rules.specs.Table.{value_fields, zero_fields, device_fields};
-ghost use Rattle.record.specs.Good.{bad_place};
+ghost use Rattle.record.specs.Bad.{bad_place};
 ghost use Rattle.record.specs.Record.{device_of};
 
 use crate::Record;
@@ -11,7 +11,7 @@ use crate::read::set_start;
 
 impl Record<'_> {
     // Where the first bad field of a device's bytes 0 to 3 starts, if one is bad; so the four after it, of other values.
-    #[tactic(auto, unfolding(rules::specs::Table::head_fields, crate::specs::Good::bad_place))]
+    #[tactic(auto, unfolding(rules::specs::Table::head_fields, crate::specs::Bad::bad_place))]
     fn bad_head(&self, d: usize) -> Option<usize>
         requires { d < 256 }
         ensures { result ≡ bad_place (head_fields d (device_of self.now)) }
@@ -72,7 +72,7 @@ impl Record<'_> {
     }
 
     // The deepest sleep state.
-    #[tactic(auto, unfolding(rules::specs::Table::deepest_fields, crate::specs::Good::bad_place))]
+    #[tactic(auto, unfolding(rules::specs::Table::deepest_fields, crate::specs::Bad::bad_place))]
     fn bad_deepest(&self) -> Option<usize>
         ensures { result ≡ bad_place (deepest_fields self.now.width (device_of self.now)) }
     {

@@ -41,6 +41,7 @@ impl From<&Record<'_>> for Device {
 }
 
 // Five sets, w bytes each.
+#[tactic(auto, using(crate::proofs::Values::sets_loop))]
 fn write_sets(sets: [u64; 5], out: &mut [u8], at: usize, w: usize)
     requires { Wide w × (at + 5 * w ≤ length out.old) }
     ensures { out.new ≡ put out.old at (sets_bytes w sets) }

@@ -13,8 +13,7 @@ fn resource_bad(bytes: &[u8], at: usize) -> bool
     requires { at + 4 ≤ length bytes.now }
     ensures { result ≡ not (resource_good bytes.now at) }
 {
-    let good = words::read16(bytes, at) <= 4;
-    !good
+    words::read16(bytes, at) > 4
 }
 
 // The lowest bad one of n resources from byte `first` on, if one is bad.
@@ -81,7 +80,7 @@ impl Records<'_> {
     }
 
     // The lowest bad device, if one is bad. The bytes at which the records start are added up: no product in the loop.
-    #[tactic(auto, unfolding(rules::specs::Index::least_below), using(crate::proofs::Run::device_run))]
+    #[tactic(auto, unfolding(rules::specs::Index::least_below), using(rules::proofs::Index::lowest_of))]
     pub fn lowest_bad(&self, resources: usize) -> Option<usize>
         requires { resources ≤ limit self.now.width }
         ensures { result ≡ least_below (λ i. not (good_with self.now.zeros self.now.width resources self.now.bytes.now i

@@ -2,7 +2,7 @@ use mathlib.Core.Path.{◌≡◌}
 use Prim.Native.Nat.{◌-◌}
 use Rattle.rules.specs.Index.{each_from}
 use Rattle.rules.specs.Table.{set_fields}
-use Rattle.record.specs.Good.{bad_place}
+use Rattle.record.specs.Bad.{bad_place}
 use Rattle.record.specs.Record.{device_of}
 use Rattle.record.proofs.FirstBad.{set_field}
 use Rattle.record.proofs.Record.bad_set.Given as goal

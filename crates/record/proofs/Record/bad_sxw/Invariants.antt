@@ -2,7 +2,7 @@ use mathlib.Core.Path.{◌≡◌}
 use Prim.Native.Nat.{◌-◌}
 use Rattle.rules.specs.Index.{each_from}
 use Rattle.rules.specs.Table.{sxw_fields}
-use Rattle.record.specs.Good.{bad_place}
+use Rattle.record.specs.Bad.{bad_place}
 use Rattle.record.specs.Record.{device_of}
 use Rattle.record.proofs.FirstBad.{sxw_field}
 use Rattle.record.proofs.Record.bad_sxw.Given as goal

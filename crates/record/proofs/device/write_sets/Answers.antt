@@ -5,14 +5,5 @@ use Rattle.record.proofs.device.write_sets.Goals as goal
 pub loop-s-init : goal.loop-s-init
 loop-s-init c = search (rules, sets_loop)
 
-pub write-requires : goal.write-requires
-write-requires c = search (rules, sets_loop)
-
-pub overflow_add-p : goal.overflow_add-p
-overflow_add-p c = search (rules, sets_loop)
-
 pub loop-s-preserved : goal.loop-s-preserved
 loop-s-preserved c = search (rules, sets_loop)
-
-pub returns : goal.returns
-returns c = search (rules, sets_loop)
