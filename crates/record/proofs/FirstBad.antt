@@ -1,6 +1,6 @@
 -- The first bad field of a list: of two lists joined, and of the fields that a loop goes through; and what its place says of the list.
 use mathlib.Core.Path.{◌≡◌, refl, sym, ◌∙◌}
-use mathlib.Core.Bool.{Bool, true, false, not}
+use mathlib.Core.Bool.{true, false, not}
 use mathlib.Core.List.{List, [], ◌∷◌, ◌++◌}
 use Prim.Native.Nat.{ℕ, suc, ◌+◌, ◌*◌, ◌-◌, ◌≤◌, ◌<◌}
 use native.Mathlib.Nat.{sub-eq-zero_of_le}
@@ -39,25 +39,16 @@ unfolding bad_place first_bad
 place_first end [] = refl
 place_first end (f ∷ l) = decide f.good (λ e. rw (e, place_first end l) refl) (λ e. rw e refl)
 
-pub place_some : (l : List Field) → is_some (bad_place l) ≡ not (all_good l)
+pub place_none : (l : List Field) → all_good l ≡ not (is_some (bad_place l))
 unfolding bad_place all_good
-place_some [] = refl
-place_some (f ∷ l) = decide f.good (λ e. rw (e, place_some l) refl) (λ e. rw e refl)
+place_none [] = refl
+place_none (f ∷ l) = decide f.good (λ e. rw (e, place_none l) refl) (λ e. rw e refl)
 
--- no bad place: every field is good; for a device's record, the rules' first bad field is at its end
-pub none_good : (b : Bool) (l : List Field) (o : Option ℕ) → o ≡ bad_place l → is_some o ≡ not b → b ≡ all_good l
-none_good b l o e n = same b (all_good l) (sym n ∙ rw e (place_some l))
-  where
-    same : (a b : Bool) → not a ≡ not b → a ≡ b
-    same true true p = refl
-    same false false p = refl
-    same true false p = sym p
-    same false true p = sym p
-
-pub no_bad_field : (w resources : ℕ) (t : List ℕ) (d at : ℕ) (b : Bool) (o : Option ℕ) → o ≡ bad_place (device_fields w resources t d at)
-    → is_some o ≡ not b → b ≡ eqb (first_bad (record_size w) (device_fields w resources t d at)) (record_size w)
-no_bad_field w resources t d at b o e n =
-    none_good b _ o e n ∙ sym (none_bad (record_size w) _ (fields_inside w resources t d at))
+-- for a device's record, the rules ask whether the first bad field is at its end
+pub no_bad_field : (w resources : ℕ) (t : List ℕ) (d at : ℕ)
+    → eqb (first_bad (record_size w) (device_fields w resources t d at)) (record_size w)
+    ≡ not (is_some (bad_place (device_fields w resources t d at)))
+no_bad_field w resources t d at = none_bad (record_size w) _ (fields_inside w resources t d at) ∙ place_none _
 
 -- ---- a loop that is at field i of n, and is to answer v
 module _ (f : ℕ → Field) (i n : ℕ) (v : Option ℕ) (inv : bad_place (each_from f i (n - i)) ≡ v) where
