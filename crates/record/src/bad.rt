@@ -82,7 +82,8 @@ impl Record<'_> {
         None
     }
 
-    // Where the first bad value of device d starts, if one is bad.
+    // Where the first bad value of device d starts, if one is bad. By `or`, not `or_else`: a proof does not learn what such a closure
+    // returns, and only a refused device is asked.
     #[tactic(auto, unfolding(rules::specs::Table::value_fields), using(crate::proofs::FirstBad::place_joined))]
     pub fn bad_value(&self, d: usize, resources: usize) -> Option<usize>
         requires { (d < 256) × (resources ≤ limit self.now.width) }
