@@ -1,10 +1,9 @@
--- Whether every field is good, as one test: of fields one after the other, of the five sets, of zeros read as one number, of a device's
--- parts.
+-- Whether every field is good, as one test: of the five sets, of zeros read as one number, and of a table's record.
 -- Where the code asks another function, that function's answer comes with what it says.
-use mathlib.Core.Path.{◌≡◌, refl, sym, ap, ◌∙◌}
-use mathlib.Core.Bool.{Bool, true, false, not, ◌&&◌, ◌||◌, and_assoc, and-true, or-true, true≢false}
+use mathlib.Core.Path.{◌≡◌, refl, sym, ◌∙◌}
+use mathlib.Core.Bool.{Bool, true, false, not, ◌&&◌, ◌||◌, and_assoc, and-true}
 use mathlib.Core.List.{List}
-use Prim.Native.Nat.{ℕ, zero, suc, ◌+◌, ◌*◌, ◌-◌, ◌%◌, ◌^◌, ◌≤◌, ◌<◌}
+use Prim.Native.Nat.{ℕ, zero, suc, ◌+◌, ◌*◌, ◌-◌, ◌%◌, ◌^◌, ◌<◌}
 use native.Mathlib.Nat.{mul-zero, mul-le-mul_right, pow-suc, mod-eq_of_lt}
 use native.Mathlib.Omega.{arith}
 use borrow.Author.Tests.{eqb-true, eq-eqb, ltb-true, lt-ltb, not-true, not-false}
@@ -16,18 +15,17 @@ use Rattle.sets.proofs.Laws.{decide, or_none}
 use Rattle.words.specs.Words.{read_le}
 use Rattle.words.proofs.Twice.{read_split}
 use Rattle.rules.specs.Index.{each_from, each, every}
-use Rattle.rules.specs.Station.{Device, record_size, fields_size, device_at}
-use Rattle.rules.specs.Table.{Field, field, first_bad, all_good, parent_good, present, set_good, sxd_good, sxw_good, deepest_good, head_fields}
-use Rattle.rules.specs.Table.{set_fields, sxd_fields, sxw_fields, deepest_fields, value_fields, zero_fields, device_fields, objects_good}
+use Rattle.rules.specs.Station.{Device, record_size, device_at}
+use Rattle.rules.specs.Table.{Field, field, first_bad, all_good, present, set_good}
+use Rattle.rules.specs.Table.{set_fields, zero_fields, device_fields, objects_good}
 use Rattle.rules.proofs.Index.{every_at, every_of_lem}
 use Rattle.laws.proofs.All.{all_each, each_at}
 use Rattle.laws.proofs.Good.{none_bad, joined, Good, good_each, good_all}
-use Rattle.laws.proofs.Accepted.{values_inside, fields_inside}
+use Rattle.laws.proofs.Accepted.{fields_inside}
 use Rattle.laws.proofs.Tests.{both_true}
 use Rattle.laws.proofs.Every.{same_test}
 use Rattle.laws.proofs.Tests as tests
-use Rattle.record.specs.Good.{sets_fit, absent_set, sets_absent, size_with, good_with}
-use Rattle.record.proofs.Tests.{objects_test}
+use Rattle.record.specs.Good.{sets_fit, absent_set, sets_absent, good_with}
 use Rattle.record.proofs.FirstBad.{zero_field}
 
 -- ---- two tests that say the same, and two tests as one: zeros in a number's parts and in a union, and a union's bits
@@ -78,64 +76,24 @@ every_both p q n =
     (λ e. let h = both_true (every p n) (every q n) e in
     every_of_lem _ n (λ i l. tests.and-true _ _ (every_at p n i h.0 l) (every_at q n i h.1 l)))
 
-one_bad : (g : ℕ → Bool) (n k : ℕ) (b : Bool) → k < n → b ≡ g k → not b ≡ true → false ≡ every g n
-one_bad g n k b h e p = decide (every g n) (λ u. absurd (true≢false (sym (every_at g n k u h) ∙ sym e ∙ not-true b p))) sym
-
 five : (g : ℕ → Bool) → g 0 && g 1 && g 2 && g 3 && g 4 ≡ every g 5
 unfolding all_good each_from
 five g = let all = every_field (λ k. k) g 5 in rw (← all) (simp (and-true, and_assoc))
 
 module _ (v : Device) where
-  -- ---- a device's bytes 0 to 3, `_SxD` and `_SxW`
-  pub head_test : (d ps pr flags : ℕ) (b : Bool) → b ≡ parent_good d v → ps ≡ v.ps → pr ≡ v.pr → flags ≡ v.flags
-      → b && ltb ps 16 && ltb pr 16 && ltb flags 4 ≡ all_good (head_fields d v)
-  unfolding head_fields all_good
-  head_test d ps pr flags b e f g h = rw (e, f, g, h) (simp (and-true, and_assoc))
-
-  pub limits_test : (w : ℕ) (a b c d e : Bool) → a ≡ sxw_good v 0 → b ≡ sxw_good v 1 → c ≡ sxw_good v 2 → d ≡ sxw_good v 3 → e ≡ sxw_good v 4
-      → a && b && c && d && e ≡ all_good (sxw_fields w v)
-  unfolding sxw_fields all_good each_from
-  limits_test w a b c d e p q r s u = rw (p, q, r, s, u) (simp (and-true, and_assoc))
-
-  pub states_test : (w : ℕ) (a b c d : Bool) → a ≡ sxd_good v 1 → b ≡ sxd_good v 2 → c ≡ sxd_good v 3 → d ≡ sxd_good v 4
-      → not a ≡ false → not b ≡ false → not c ≡ false → d ≡ all_good (sxd_fields w v)
-  unfolding sxd_fields all_good each_from
-  states_test w a b c d p q r s x y z =
-      rw (sym p ∙ not-false a x, sym q ∙ not-false b y, sym r ∙ not-false c z, ← s) (sym (and-true d))
-
-  sxd_none : (x s : ℕ) → s ≡ v.sxd x → s ≡ 255 → sxd_good v x ≡ true
-  unfolding sxd_good
-  sxd_none x s e n = rw (← e, n) refl
-
-  -- four bytes as one number, the largest: each is 255
-  pub none_test : (w a b c d n : ℕ) → a ≡ v.sxd 1 → b ≡ v.sxd 2 → c ≡ v.sxd 3 → d ≡ v.sxd 4 → a < 256 → b < 256 → c < 256 → d < 256
-      → n ≡ a + 0x100 * b + 0x1_0000 * c + 0x100_0000 * d → n ≡ 0xffff_ffff → true ≡ all_good (sxd_fields w v)
-  unfolding sxd_fields all_good each_from
-  none_test w a b c d n p q r s h i j k e m =
-      rw (sxd_none 1 a p (omega arith), sxd_none 2 b q (omega arith), sxd_none 3 c r (omega arith), sxd_none 4 d s (omega arith)) refl
-
   -- ---- no bit at or above R
-  pub fit_test : (resources a b c d e : ℕ) (f : Bool) → a ≡ v.sets 0 → b ≡ v.sets 1 → c ≡ v.sets 2 → d ≡ v.sets 3 → e ≡ v.sets 4
+  fit_test : (resources a b c d e : ℕ) (f : Bool) → a ≡ v.sets 0 → b ≡ v.sets 1 → c ≡ v.sets 2 → d ≡ v.sets 3 → e ≡ v.sets 4
       → (all : ℕ) → f ≡ subset (bit_or (bit_or (bit_or (bit_or a b) c) d) e) all → all ≡ first_n resources → f ≡ sets_fit resources v
   unfolding sets_fit
   fit_test resources a b c d e f p q r s u all g is =
       g ∙ rw (is, within_first, union_fits, union_fits, union_fits, union_fits, p, q, r, s, u) (five (λ k. ltb (v.sets k) (2 ^ resources)))
 
   -- ---- the sets of absent objects
-  module _ (k : ℕ) (b : Bool) (e : b ≡ present v k) where
-    pub present_none : b ≡ true → 0 ≡ absent_set v k
-    unfolding absent_set
-    present_none p = rw (sym e ∙ p) refl
-
-    pub absent_same : (s : ℕ) → b ≡ false → s ≡ v.sets k → s ≡ absent_set v k
-    unfolding absent_set
-    absent_same s p f = rw (sym e ∙ p) f
-
   zero_absent : (k s : ℕ) → s ≡ absent_set v k → eqb s 0 ≡ present v k || eqb (v.sets k) 0
   unfolding absent_set
   zero_absent k s e = decide (present v k) (λ p. rw (e, p) refl) (λ p. rw (e, p) refl)
 
-  pub absent_test : (a b c d e : ℕ) → a ≡ absent_set v 0 → b ≡ absent_set v 1 → c ≡ absent_set v 2 → d ≡ absent_set v 3 → e ≡ absent_set v 4
+  absent_test : (a b c d e : ℕ) → a ≡ absent_set v 0 → b ≡ absent_set v 1 → c ≡ absent_set v 2 → d ≡ absent_set v 3 → e ≡ absent_set v 4
       → eqb (bit_or (bit_or (bit_or (bit_or a b) c) d) e) 0 ≡ sets_absent v
   unfolding sets_absent
   absent_test a b c d e p q r s u =
@@ -157,32 +115,12 @@ module _ (v : Device) where
   unfolding present member
   power_present_all e = rw e (refl, refl, refl, refl)
 
-  pub all_present : (pr : ℕ) (b : Bool) → pr ≡ v.pr → b ≡ present v 4 → eqb pr 15 && b ≡ true → true ≡ sets_absent v
+  all_present : (pr : ℕ) (b : Bool) → pr ≡ v.pr → b ≡ present v 4 → eqb pr 15 && b ≡ true → true ≡ sets_absent v
   unfolding sets_absent
   all_present pr b f e p =
       let h = both_true (eqb pr 15) b p in
       let all = power_present_all (sym f ∙ eqb-true pr 15 h.0) in
       rw (all.0, all.1, all.2, all.3, sym e ∙ h.1) at (five (λ k. present v k || eqb (v.sets k) 0))
-
-  -- ---- where the masks are the same and have bits 0 and 3, `_DSW` decides
-  pub same_masks_agree : (ps pr flags : ℕ) (ps0 ps3 dsw prw : Bool) → ps ≡ v.ps → pr ≡ v.pr → flags ≡ v.flags → ps0 ≡ member ps 0
-      → ps3 ≡ member ps 3 → dsw ≡ member flags 1 → prw ≡ member flags 0 → eqb ps pr && ps0 && ps3 ≡ true
-      → not dsw || prw ≡ objects_good v
-  same_masks_agree ps pr flags ps0 ps3 dsw prw e f g a b c d h =
-      let all = both_true (eqb ps pr && ps0) ps3 h in
-      let front = both_true (eqb ps pr) ps0 all.0 in
-      let alike = eqb-true ps pr front.0 in
-      let zero_bit : true ≡ member pr 0 = sym front.1 ∙ a ∙ ap (λ (m : ℕ). member m 0) alike in
-      let low : eqb (ps % 8) (pr % 8) ≡ true = eq-eqb _ _ (ap (λ (m : ℕ). m % 8) alike) in
-      rw (or-true, or-true, low, or-true) at
-      (objects_test v ps pr flags true true true dsw prw e f g (sym front.1 ∙ a) (sym all.1 ∙ b) zero_bit c d)
-
--- one `_SxD` that is bad is enough
-pub state_bad : (k w : ℕ) (v : Device) (b : Bool) → k < 4 → b ≡ sxd_good v (k + 1) → not b ≡ true → false ≡ all_good (sxd_fields w v)
-unfolding sxd_fields
-state_bad k w v b h e p =
-    let good : ℕ → Bool = λ j. sxd_good v (j + 1) in
-    one_bad good 4 k b h e p ∙ sym (every_field (λ j. 4 + 5 * w + j) good 4)
 
 -- ---- the five sets: their rule is its two halves, which the code asks one after the other
 halves : (w resources : ℕ) (v : Device) → all_good (set_fields w resources v) ≡ sets_fit resources v && sets_absent v
@@ -232,54 +170,6 @@ zeros_test w t at n m f g =
     let apart = sum_zero (256 ^ w) (read_le w t start) (read_le 2 t (start + w)) (bytes_pos w) in
     or_none n m ∙ rw (c, zeros w t at (w + 2) 0, i, split, apart, j, f, g) refl
 
--- ---- a record as the check of a run asks: values, zeros where there are any, objects
-module _ (zeros : Bool) (w resources : ℕ) (t : List ℕ) (d at : ℕ) (v : Bool)
-    (e : v ≡ all_good (value_fields w resources d (device_at w t at))) where
-  pub values_bad : not v ≡ true → true ≡ not (good_with zeros w resources t d at)
-  unfolding good_with
-  values_bad p = rw (sym e ∙ not-true v p) refl
-
-  module _ (p : not v ≡ false) (z : Bool) (f : z ≡ (not zeros || all_good (zero_fields w t at))) where
-    pub zeros_bad : not z ≡ true → true ≡ not (good_with zeros w resources t d at)
-    unfolding good_with
-    zeros_bad q = rw (sym e ∙ not-false v p, sym f ∙ not-true z q) refl
-
-    pub objects_left : (o : Bool) → not z ≡ false → o ≡ objects_good (device_at w t at) → not o ≡ not (good_with zeros w resources t d at)
-    unfolding good_with
-    objects_left o q g = rw (sym e ∙ not-false v p, sym f ∙ not-false z q, g) refl
-
-pub zeros_none : (zeros b : Bool) → not zeros ≡ true → true ≡ (not zeros || b)
-zeros_none zeros b p = rw p refl
-
-pub zeros_there : (zeros z b : Bool) → not zeros ≡ false → z ≡ b → z ≡ (not zeros || b)
-zeros_there zeros z b p e = rw p e
-
--- with or without zeros, the fields end inside the record
-pub fields_in_record : (zeros : Bool) (w at n : ℕ) → at + size_with zeros w ≤ n → at + fields_size w ≤ n
-fields_in_record true w at n h = omega arith
-fields_in_record false w at n h = h
-
-pub zeros_in_record : (zeros : Bool) (w at n : ℕ) → not zeros ≡ false → at + size_with zeros w ≤ n → at + record_size w ≤ n
-zeros_in_record zeros w at n e h = rw (not-false zeros e) at h
-
-pub size_with_lem : (zeros : Bool) (w n : ℕ) → zeros ≡ true → n ≡ record_size w → n ≡ size_with zeros w
-size_with_lem zeros w n e f = rw e f
-
-pub size_without : (zeros : Bool) (w : ℕ) → zeros ≡ false → 14 + 5 * w ≡ size_with zeros w
-size_without zeros w e = rw e refl
-
-pub ruleset run_tests = (
-  values_bad,
-  zeros_bad,
-  objects_left,
-  zeros_none,
-  zeros_there,
-  fields_in_record,
-  zeros_in_record,
-  size_with_lem,
-  size_without,
-)
-
 -- a table's record is one with zeros
 pub table_record : (w resources : ℕ) (t : List ℕ) (d at : ℕ)
     → good_with true w resources t d at
@@ -288,50 +178,3 @@ unfolding good_with device_fields
 table_record w resources t d at =
     let fields = device_fields w resources t d at in
     rw (none_bad (record_size w) fields (fields_inside w resources t d at)) (rw joined refl)
-
--- the values are good where none is bad
-pub value_good : (w resources d : ℕ) (v : Device) → eqb (first_bad (record_size w) (value_fields w resources d v)) (record_size w) ≡ all_good
-    (value_fields w resources d v)
-value_good w resources d v = none_bad (record_size w) _ (values_inside w resources d v)
-
--- ---- the parts of a device's values
-module _ (w resources d : ℕ) (dev : Device) where
-  -- the parts in the order in which the code asks
-  abbrev part : ℕ → Bool
-  part zero = all_good (head_fields d dev)
-  part (suc zero) = all_good (set_fields w resources dev)
-  part (suc (suc zero)) = all_good (sxd_fields w dev)
-  part (suc (suc (suc zero))) = all_good (sxw_fields w dev)
-  part (suc (suc (suc (suc k)))) = deepest_good dev
-
-  all_parts : part 0 && part 1 && part 2 && part 3 && part 4 ≡ all_good (value_fields w resources d dev)
-  unfolding value_fields deepest_fields all_good
-  all_parts = sym (simp (joined, and_assoc, and-true))
-
-  every_part : every part 5 ≡ all_good (value_fields w resources d dev)
-  unfolding all_good each_from
-  every_part = let all = every_field (λ k. k) part 5 in rw (← all) (simp (and-true, and_assoc)) ∙ all_parts
-
-  pub last_decides : (h s x y b : Bool) → h ≡ part 0 → s ≡ part 1 → x ≡ part 2 → y ≡ part 3 → b ≡ part 4
-      → not h ≡ false → not s ≡ false → not x ≡ false → not y ≡ false → b ≡ all_good (value_fields w resources d dev)
-  last_decides h s x y b p q r u v hh ss xx yy =
-      v ∙ rw (sym p ∙ not-false h hh, sym q ∙ not-false s ss, sym r ∙ not-false x xx, sym u ∙ not-false y yy) at all_parts
-
--- one part that is bad is enough
-pub part_bad : (k w resources d : ℕ) (dev : Device) (b : Bool) → k < 5 → b ≡ part w resources d dev k → not b ≡ true
-    → false ≡ all_good (value_fields w resources d dev)
-part_bad k w resources d dev b h e p = one_bad (part w resources d dev) 5 k b h e p ∙ every_part w resources d dev
-
-pub ruleset quick_tests = (
-  head_test,
-  limits_test,
-  states_test,
-  none_test,
-  present_none,
-  absent_same,
-  sets_unfit,
-  sets_there,
-  sets_left,
-  zeros_test,
-  same_masks_agree,
-)

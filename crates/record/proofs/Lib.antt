@@ -1,6 +1,3 @@
-pub mod Readers
-pub mod Tests
 pub mod FirstBad
 pub mod AllGood
 pub mod Values
-pub mod Run

@@ -1,15 +1,14 @@
--- A device read as a value and written: its fields one by one, its sets by a loop, and its bytes as one run.
+-- A device by value, written: its sets by a loop, and its bytes as one run.
 use mathlib.Core.Path.{◌≡◌, refl, ap, ◌∙◌}
 use mathlib.Core.List.{List, [], ◌∷◌, ◌++◌, append_assoc}
 use Prim.Native.Nat.{ℕ, zero, suc, ◌+◌, ◌*◌, ◌^◌, ◌≤◌, ◌<◌}
 use native.Mathlib.Nat.{mul_comm, zero-add, suc-add}
-use native.Mathlib.Numerals.{towards_suc}
 use native.Mathlib.Omega.{arith}
-use lib.ListN.{length, get_or, set, replicate, length-append}
+use lib.ListN.{length, get_or, replicate, length-append}
 use Rattle.words.specs.Words.{bytes_le, put}
 use Rattle.words.proofs.Laws.{bytes_length}
-use Rattle.words.proofs.Put.{Emitted, put_then, sets_put}
-use Rattle.rules.specs.Index.{each_from, each, join_from, join}
+use Rattle.words.proofs.Put.{Emitted, put_then}
+use Rattle.rules.specs.Index.{each_from, join_from, join}
 use Rattle.rules.specs.Station as station
 use Rattle.rules.specs.Station.{fields_size, zeros_size, record_size, field_bytes}
 use Rattle.laws.proofs.Parts.{join_length}
@@ -17,25 +16,7 @@ use Rattle.laws.proofs.Joined.{SameLength, joined_none, joined_room, joined_smal
 use Rattle.record.specs.declared.device.Device.{Device}
 use Rattle.record.specs.Value.{device_value, sets_bytes, value_bytes}
 
--- ---- a device read: four, and five, values of a numbered field; all fields
-pub four_values : (f : ℕ → ℕ) (a b c d : ℕ) → a ≡ f 0 → b ≡ f 1 → c ≡ f 2 → d ≡ f 3 → a ∷ b ∷ c ∷ d ∷ [] ≡ each f 4
-unfolding each_from
-four_values f a b c d p q r s = rw (p, q, r, s) refl
-
-pub five_values : (f : ℕ → ℕ) (a b c d e : ℕ) → a ≡ f 0 → b ≡ f 1 → c ≡ f 2 → d ≡ f 3 → e ≡ f 4 → a ∷ b ∷ c ∷ d ∷ e ∷ [] ≡ each f 5
-unfolding each_from
-five_values f a b c d e p q r s t = rw (p, q, r, s, t) refl
-
-pub held_is : (v : station.Device) (parent ps pr flags : ℕ) (sets sxd sxw : List ℕ) (deepest : ℕ) → parent ≡ v.parent → ps ≡ v.ps
-    → pr ≡ v.pr → flags ≡ v.flags → sets ≡ each v.sets 5 → sxd ≡ each (λ k. v.sxd (k + 1)) 4 → sxw ≡ each v.sxw 5
-    → deepest ≡ v.deepest
-    → record { parent = parent; ps = ps; pr = pr; flags = flags; sets = sets; sxd = sxd; sxw = sxw; deepest = deepest } ≡ device_value v
-unfolding device_value
-held_is v parent ps pr flags sets sxd sxw deepest a b c d e f g h = rw (a, b, c, d, e, f, g, h) refl
-
-pub ruleset held_fields = (four_values, five_values, held_is)
-
--- its bytes are those of the station's device
+-- a device's bytes are those of the station's device
 pub held_bytes : (w : ℕ) (v : station.Device) → value_bytes w (device_value v) ≡ field_bytes w v
 unfolding device_value sets_bytes value_bytes field_bytes each_from join_from
 held_bytes w v = refl
@@ -72,10 +53,6 @@ pub ruleset sets_loop = (joined_none, set_room, set_small, set_next, sets_done)
 sets_long : (w : ℕ) (sets : List ℕ) → length (sets_bytes w sets) ≡ 5 * w
 unfolding sets_bytes
 sets_long w sets = join_length (set_bytes w sets) w (λ j. bytes_length w (get_or sets j 0)) 0 5 ∙ mul_comm w 5
-
-pub head_put : (l : List ℕ) (at a b c d : ℕ) → at + 4 ≤ length l
-    → set (set (set (set l at a) (at + 1) b) (at + 2) c) (at + 3) d ≡ put l at (a ∷ b ∷ c ∷ d ∷ [])
-head_put l at a b c d h = simp towards_suc (sets_put l at (a ∷ b ∷ c ∷ d ∷ []) h)
 
 module _ (w : ℕ) (d : List ℕ) (at : ℕ) (v : Device) (room : at + fields_size w ≤ length d) (four : length v.sxd ≡ 4)
     (five : length v.sxw ≡ 5) where
@@ -128,5 +105,3 @@ module _ (w : ℕ) (d : List ℕ) (at : ℕ) (v : Device) (room : at + record_si
       (rw p1 at q) in
       p2 ∙ ap (put d at) (append_assoc (value_bytes w v) (bytes_le w 0) (bytes_le 2 0)
       ∙ ap (λ (l : List ℕ). value_bytes w v ++ l) (zeros_long w))
-
-pub ruleset held_writes = (head_put, device_put, record_put)

@@ -1,2 +1,4 @@
+pub mod Record
 pub mod Good
+pub mod Bad
 pub mod Value

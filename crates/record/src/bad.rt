@@ -1,138 +1,122 @@
-// The first bad field of a record: where in the record it starts.
+// The first bad field of a record: where in the record it starts, if one is bad.
 ghost use Rattle.std.specs.Prelude.{◌≡◌, ◌+◌, ◌<◌, ◌≤◌, length};
-ghost use Rattle.rules.specs.Station.{Wide, limit, record_size, fields_size, device_at};
-ghost use Rattle.rules.specs.Table.{first_bad, head_fields, set_fields, sxd_fields, sxw_fields};
-ghost use Rattle.rules.specs.Table.{deepest_fields, value_fields, zero_fields, device_fields};
+ghost use Rattle.rules.specs.Station.{limit, record_size};
+ghost use Rattle.rules.specs.Table.{head_fields, set_fields, sxd_fields, sxw_fields, deepest_fields};
+ghost use Rattle.rules.specs.Table.{value_fields, zero_fields, device_fields};
+ghost use Rattle.record.specs.Bad.{bad_place};
+ghost use Rattle.record.specs.Record.{device_of};
 
-// Where the first bad field of a device's bytes 0 to 3 starts, the record's size if none is bad; so the four after it, of other values.
-fn bad_head(table: &[u8], at: usize, w: usize, d: usize) -> usize
-    requires { Wide w × (at + fields_size w ≤ length table.now) × (d < 256) }
-    ensures { result ≡ first_bad (record_size w) (head_fields d (device_at w table.now at)) }
-{
-    if !crate::good::parent_good(table, at, w, d) {
-        return 0;
-    }
-    if crate::read::ps(table, at, w) >= 16 {
-        return 1;
-    }
-    if crate::read::pr(table, at, w) >= 16 {
-        return 2;
-    }
-    if crate::read::flags(table, at, w) >= 4 {
-        return 3;
-    }
-    crate::read::size(w)
-}
+use crate::Record;
+use crate::read::set_start;
 
-// The five sets.
-fn bad_set(table: &[u8], at: usize, w: usize, resources: usize) -> usize
-    requires { Wide w × (at + fields_size w ≤ length table.now) × (resources ≤ limit w) }
-    ensures { result ≡ first_bad (record_size w) (set_fields w resources (device_at w table.now at)) }
-{
-    let mut i = 0;
-    while i < 5 {
-        let k = i;
-        i += 1;
-        if !crate::good::set_good(table, at, w, k, resources) {
-            return crate::read::set_start(w, k);
+impl Record<'_> {
+    // Where the first bad field of a device's bytes 0 to 3 starts, if one is bad; so the four after it, of other values.
+    #[tactic(auto, unfolding(rules::specs::Table::head_fields, crate::specs::Bad::bad_place))]
+    fn bad_head(&self, d: usize) -> Option<usize>
+        requires { d < 256 }
+        ensures { result ≡ bad_place (head_fields d (device_of self.now)) }
+    {
+        if !self.parent_good(d) {
+            return Some(0);
         }
-    }
-    crate::read::size(w)
-}
-
-// `_S1D` to `_S4D`.
-fn bad_sxd(table: &[u8], at: usize, w: usize) -> usize
-    requires { Wide w × (at + fields_size w ≤ length table.now) }
-    ensures { result ≡ first_bad (record_size w) (sxd_fields w (device_at w table.now at)) }
-{
-    let mut i = 0;
-    while i < 4 {
-        let k = i;
-        i += 1;
-        if !crate::good::sxd_good(table, at, w, k + 1) {
-            return 4 + 5 * w + k;
+        if self.ps() >= 16 {
+            return Some(1);
         }
-    }
-    crate::read::size(w)
-}
-
-// `_S0W` to `_S4W`.
-fn bad_sxw(table: &[u8], at: usize, w: usize) -> usize
-    requires { Wide w × (at + fields_size w ≤ length table.now) }
-    ensures { result ≡ first_bad (record_size w) (sxw_fields w (device_at w table.now at)) }
-{
-    let mut i = 0;
-    while i < 5 {
-        let x = i;
-        i += 1;
-        if !crate::good::sxw_good(table, at, w, x) {
-            return 8 + 5 * w + x;
+        if self.pr() >= 16 {
+            return Some(2);
         }
-    }
-    crate::read::size(w)
-}
-
-// The deepest sleep state.
-fn bad_deepest(table: &[u8], at: usize, w: usize) -> usize
-    requires { Wide w × (at + fields_size w ≤ length table.now) }
-    ensures { result ≡ first_bad (record_size w) (deepest_fields w (device_at w table.now at)) }
-{
-    if !crate::good::deepest_good(table, at, w) {
-        return 13 + 5 * w;
-    }
-    crate::read::size(w)
-}
-
-// Where the first bad value of device d starts, the record's size if none is bad.
-pub fn bad_value(table: &[u8], at: usize, w: usize, d: usize, resources: usize) -> usize
-    requires { Wide w × (at + fields_size w ≤ length table.now) × (d < 256) × (resources ≤ limit w) }
-    ensures { result ≡ first_bad (record_size w) (value_fields w resources d (device_at w table.now at)) }
-{
-    let end = crate::read::size(w);
-    let head = bad_head(table, at, w, d);
-    if head != end {
-        return head;
-    }
-    let set = bad_set(table, at, w, resources);
-    if set != end {
-        return set;
-    }
-    let sxd = bad_sxd(table, at, w);
-    if sxd != end {
-        return sxd;
-    }
-    let sxw = bad_sxw(table, at, w);
-    if sxw != end {
-        return sxw;
-    }
-    bad_deepest(table, at, w)
-}
-
-// The 2 + w zeros to the record's end.
-fn bad_zero(table: &[u8], at: usize, w: usize) -> usize
-    requires { Wide w × (at + record_size w ≤ length table.now) }
-    ensures { result ≡ first_bad (record_size w) (zero_fields w table.now at) }
-{
-    let mut i = 0;
-    while i < 2 + w {
-        let k = i;
-        i += 1;
-        let good = table[at + 14 + 5 * w + k] == 0;
-        if !good {
-            return 14 + 5 * w + k;
+        if self.flags() >= 4 {
+            return Some(3);
         }
+        None
     }
-    crate::read::size(w)
-}
 
-// Where the first bad field of device d's record starts, the record's size if none is bad.
-pub fn bad_field(table: &[u8], at: usize, w: usize, d: usize, resources: usize) -> usize
-    requires { Wide w × (at + record_size w ≤ length table.now) × (d < 256) × (resources ≤ limit w) }
-    ensures { result ≡ first_bad (record_size w) (device_fields w resources table.now d at) }
-{
-    let value = bad_value(table, at, w, d, resources);
-    if value != crate::read::size(w) {
-        return value;
+    // The five sets.
+    #[tactic(auto, unfolding(rules::specs::Table::set_fields), using(crate::proofs::FirstBad::bad_loop))]
+    fn bad_set(&self, resources: usize) -> Option<usize>
+        requires { resources ≤ limit self.now.width }
+        ensures { result ≡ bad_place (set_fields self.now.width resources (device_of self.now)) }
+    {
+        for k in 0..5 {
+            if !self.set_good(k, resources) {
+                return Some(set_start(self.width, k));
+            }
+        }
+        None
     }
-    bad_zero(table, at, w)
+
+    // `_S1D` to `_S4D`.
+    #[tactic(auto, unfolding(rules::specs::Table::sxd_fields), using(crate::proofs::FirstBad::bad_loop))]
+    fn bad_sxd(&self) -> Option<usize>
+        ensures { result ≡ bad_place (sxd_fields self.now.width (device_of self.now)) }
+    {
+        for k in 0..4 {
+            if !self.sxd_good(k + 1) {
+                return Some(4 + 5 * self.width + k);
+            }
+        }
+        None
+    }
+
+    // `_S0W` to `_S4W`.
+    #[tactic(auto, unfolding(rules::specs::Table::sxw_fields), using(crate::proofs::FirstBad::bad_loop))]
+    fn bad_sxw(&self) -> Option<usize>
+        ensures { result ≡ bad_place (sxw_fields self.now.width (device_of self.now)) }
+    {
+        for x in 0..5 {
+            if !self.sxw_good(x) {
+                return Some(8 + 5 * self.width + x);
+            }
+        }
+        None
+    }
+
+    // The deepest sleep state.
+    #[tactic(auto, unfolding(rules::specs::Table::deepest_fields, crate::specs::Bad::bad_place))]
+    fn bad_deepest(&self) -> Option<usize>
+        ensures { result ≡ bad_place (deepest_fields self.now.width (device_of self.now)) }
+    {
+        if !self.deepest_good() {
+            return Some(13 + 5 * self.width);
+        }
+        None
+    }
+
+    // Where the first bad value of device d starts, if one is bad. By `or`, not `or_else`: a proof does not learn what such a closure
+    // returns, and only a refused device is asked.
+    #[tactic(auto, unfolding(rules::specs::Table::value_fields), using(crate::proofs::FirstBad::place_joined))]
+    pub fn bad_value(&self, d: usize, resources: usize) -> Option<usize>
+        requires { (d < 256) × (resources ≤ limit self.now.width) }
+        ensures { result ≡ bad_place (value_fields self.now.width resources d (device_of self.now)) }
+    {
+        self.bad_head(d)
+            .or(self.bad_set(resources))
+            .or(self.bad_sxd())
+            .or(self.bad_sxw())
+            .or(self.bad_deepest())
+    }
+
+    // The 2 + w zeros to the record's end.
+    #[tactic(auto, unfolding(rules::specs::Table::zero_fields), using(crate::proofs::FirstBad::bad_loop))]
+    fn bad_zero(&self) -> Option<usize>
+        requires { self.now.at + record_size self.now.width ≤ length self.now.bytes.now }
+        ensures { result ≡ bad_place (zero_fields self.now.width self.now.bytes.now self.now.at) }
+    {
+        for k in 0..2 + self.width {
+            if self.bytes[self.at + 14 + 5 * self.width + k] != 0 {
+                return Some(14 + 5 * self.width + k);
+            }
+        }
+        None
+    }
+
+    // Where the first bad field of device d's record starts, if one is bad.
+    #[tactic(auto, unfolding(rules::specs::Table::device_fields), using(crate::proofs::FirstBad::place_joined))]
+    pub fn bad_field(&self, d: usize, resources: usize) -> Option<usize>
+        requires { (self.now.at + record_size self.now.width ≤ length self.now.bytes.now) × (d < 256)
+            × (resources ≤ limit self.now.width) }
+        ensures { result ≡ bad_place (device_fields self.now.width resources self.now.bytes.now d self.now.at) }
+    {
+        self.bad_value(d, resources).or(self.bad_zero())
+    }
 }

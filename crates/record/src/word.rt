@@ -32,6 +32,7 @@ fn write64(s: &mut [u8], at: usize, x: u64)
 }
 
 // The w low bytes of x, from `at` on.
+#[tactic(auto, using(words::proofs::Twice::bytes_low))]
 pub fn write(s: &mut [u8], at: usize, w: usize, x: u64)
     requires { Wide w × (at + w ≤ length s.old) }
     ensures { s.new ≡ put s.old at (bytes_le w x) }

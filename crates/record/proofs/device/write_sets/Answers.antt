@@ -2,17 +2,8 @@ use Rattle.record.proofs.Values.{sets_loop}
 use borrow.Author.Rules.{rules}
 use Rattle.record.proofs.device.write_sets.Goals as goal
 
-pub loop-i-init : goal.loop-i-init
-loop-i-init c = search (rules, sets_loop)
+pub loop-s-init : goal.loop-s-init
+loop-s-init c = search (rules, sets_loop)
 
-pub write-requires : goal.write-requires
-write-requires c = search (rules, sets_loop)
-
-pub overflow_add-p : goal.overflow_add-p
-overflow_add-p c = search (rules, sets_loop)
-
-pub loop-i-preserved : goal.loop-i-preserved
-loop-i-preserved c = search (rules, sets_loop)
-
-pub returns : goal.returns
-returns c = search (rules, sets_loop)
+pub loop-s-preserved : goal.loop-s-preserved
+loop-s-preserved c = search (rules, sets_loop)

@@ -1,6 +1,0 @@
-use Rattle.record.proofs.Values.{held_fields}
-use borrow.Author.Rules.{rules}
-use Rattle.record.proofs.device.sets.Goals as goal
-
-pub returns : goal.returns
-returns c = search (rules, held_fields)

@@ -1,6 +1,0 @@
-use Rattle.record.proofs.Readers.{fields_at}
-use borrow.Author.Rules.{rules}
-use Rattle.record.proofs.read.deepest.Goals as goal
-
-pub returns : goal.returns
-returns c = search (rules, fields_at)

@@ -1,9 +1,0 @@
-use Rattle.record.proofs.Readers.{fields_at}
-use borrow.Author.Rules.{rules}
-use Rattle.record.proofs.read.sxd.Goals as goal
-
-pub returns-then-x-eq0 : goal.returns-then-x-eq0
-returns-then-x-eq0 c = search (rules, fields_at)
-
-pub returns : goal.returns
-returns c = search (rules, fields_at)
