@@ -2,12 +2,13 @@
 use mathlib.Core.Path.{◌≡◌, refl, sym, ap, ap₂, ◌∙◌}
 use mathlib.Core.List.{List, [], ◌∷◌, ◌++◌, append_assoc, append-nil}
 use Prim.Native.Nat.{ℕ, zero, suc, ◌+◌, ◌*◌, ◌/◌, ◌%◌, ◌^◌, ◌≤◌, ◌<◌}
-use native.Mathlib.Nat.{pow-suc, add-zero, mod-one, mod-eq_of_lt, one-le-pow, zero-lt-suc}
+use native.Mathlib.Nat.{div-one, div-div-eq-div-mul, pow-suc, add-zero, mod-one, mod-eq_of_lt, one-le-pow, zero-lt-suc}
 use native.Mathlib.Numerals.{add-one}
 use native.Mathlib.Omega.{arith}
 use lib.Arith.{mod-mul}
 use lib.ListN.{length, get_or, take, drop, length-append, length-drop, take-append-drop, get_or-append}
 use lib.Seq.{get_or-drop, length-take-le, drop_at, take-suc}
+use Rattle.std.specs.Int.{bytes_low_first}
 use Rattle.words.specs.Words.{read_le, bytes_le, put, word_bytes, byte_words}
 use Rattle.words.proofs.Below.{below_append, below_take, below_drop}
 
@@ -49,6 +50,20 @@ bytes_lt (suc k) x (suc i) = bytes_lt k (x / 256) i
 -- x's low byte and the rest, of its k + 1 low bytes
 pub mod_suc : (k x : ℕ) → x % 256 ^ suc k ≡ x / 256 % 256 ^ k * 256 + x % 256
 mod_suc k x = ap (λ (m : ℕ). x % m) (pow-suc 256 k) ∙ mod-mul x (one-le-pow k 256 (zero-lt-suc 255)) (zero-lt-suc 255)
+
+-- the bytes that the library's `to_le_bytes` gives
+low_first : (i k x : ℕ) → bytes_low_first i k x ≡ bytes_le k (x / 256 ^ i)
+unfolding bytes_le
+low_first i zero x = refl
+low_first zero (suc k) x =
+    rw (div-one x) (ap (λ (l : List ℕ). x % 256 ∷ l) (low_first 1 k x))
+low_first (suc i) (suc k) x =
+    let m = 256 ^ suc i in
+    let rest : x / 256 ^ suc (suc i) ≡ x / m / 256 = sym (div-div-eq-div-mul x m 256 ∙ ap (λ (n : ℕ). x / n) (sym (pow-suc 256 (suc i)))) in
+    ap (λ (l : List ℕ). x / m % 256 ∷ l) (low_first (suc (suc i)) k x ∙ ap (bytes_le k) rest)
+
+pub le_bytes : (k x : ℕ) → bytes_low_first 0 k x ≡ bytes_le k x
+le_bytes k x = low_first 0 k x ∙ ap (bytes_le k) (div-one x)
 
 -- ---- there and back
 

@@ -8,6 +8,7 @@ use native.Mathlib.Numerals.{add-one}
 use native.Mathlib.Omega.{arith}
 use lib.ListN.{length, get_or, set, take, drop, length-append, length-take, length-drop, drop_of_length-le, take-append-drop}
 use lib.Seq.{take-suc, sets, sets-eq, take_at, drop_at, drop-drop}
+use borrow.Rule.Slice.PartMut.{put_mid}
 use Rattle.words.specs.Words.{put}
 
 -- ---- one run
@@ -57,6 +58,12 @@ take_put d ws n e = take_at ws (drop (0 + length ws) d) n e
 pub put_all : (d ws : List ℕ) → length ws ≡ length d → put d 0 ws ≡ ws
 unfolding put
 put_all d ws e = rw (drop_of_length-le d {i = 0 + length ws} (omega arith)) (append-nil ws)
+
+-- a part of a slice that was overwritten, as the code leaves it
+pub part_put : {A : Type 0} (d ws : List A) (at k : ℕ) (ys : List A) → ys ≡ ws → k ≡ length ws → put_mid at k d ys ≡ put d at ws
+unfolding put
+part_put d ws at k ys e f =
+    rw (e, f, drop-drop (length ws) at d) (sym (append_assoc (take at d) ws (drop (at + length ws) d)))
 
 -- ---- what was written: d is the list at the start, ws what was put from `at` on, l the list now, p the next place
 

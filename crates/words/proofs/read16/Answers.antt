@@ -2,7 +2,6 @@ use native.Mathlib.Omega.{arith}
 use Rattle.words.specs.Words.{read_le}
 use Rattle.words.proofs.read16.Goals as goal
 
--- `read_le 2` computes to the sum that the code makes.
 pub returns : goal.returns
 unfolding read_le
 returns c = omega arith

@@ -1,7 +1,8 @@
-use Rattle.words.proofs.Twice.{read_twice}
-use borrow.Author.Rules.{rules}
+use native.Mathlib.Nat.{add_assoc}
+use native.Mathlib.Omega.{arith}
+use Rattle.words.specs.Words.{read_le}
 use Rattle.words.proofs.read32.Goals as goal
 
--- Two numbers of two bytes are one of four.
 pub returns : goal.returns
-returns c = read_twice 2 _ _ c.read16.result c.read16-2.result (search rules) (search rules)
+unfolding read_le
+returns c = simp add_assoc (omega arith)
