@@ -4,25 +4,11 @@
 ghost use Rattle.std.specs.Prelude.{◌≡◌, [], ◌∷◌, ◌+◌, ◌*◌, ◌%◌, ◌≤◌, ◌<◌, length};
 ghost use Rattle.words.specs.Words.{read_le, bytes_le, put, word_bytes, byte_words};
 
-// A byte as a wider number; its caller learns the bound.
-pub fn wide(x: u8) -> u32
-    ensures { (result ≡ x) × (result < 256) }
-{
-    u32::from(x)
-}
-
 // The number after x among those of a byte: 0 after 255. What stands for an absent number, 255, so comes before all others.
 pub fn next8(x: u8) -> u32
     ensures { (result ≡ (x + 1) % 256) × (x < 256) }
 {
     u32::from(x.wrapping_add(1))
-}
-
-// The number that four bytes make, lowest first.
-pub fn word4(a: u8, b: u8, c: u8, d: u8) -> u32
-    ensures { result ≡ a + 0x100 * b + 0x1_0000 * c + 0x100_0000 * d }
-{
-    u32::from_le_bytes([a, b, c, d])
 }
 
 // The number that the two bytes from `at` on make.
