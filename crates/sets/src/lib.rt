@@ -68,7 +68,7 @@ pub fn lowest(s: u64) -> u32
     requires { 0 < s }
     ensures { Lowest s result × (result < 64) }
 {
-    u64::trailing_zeros(s)
+    s.trailing_zeros()
 }
 
 // The highest member, found in the same way.
@@ -76,5 +76,5 @@ pub fn highest(s: u64) -> u32
     requires { 0 < s }
     ensures { Highest s result × (result < 64) }
 {
-    63 - u64::leading_zeros(s)
+    s.ilog2()
 }

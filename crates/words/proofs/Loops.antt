@@ -6,7 +6,7 @@ use native.Mathlib.Nat.{add-zero}
 use native.Mathlib.Numerals.{add-one}
 use native.Mathlib.Omega.{arith}
 use lib.ListN.{length, get_or, take, drop, set}
-use lib.Seq.{take_all, take-suc-set}
+use lib.Seq.{take-suc-set}
 use Rattle.words.specs.Words.{read_le, bytes_le, put, word_bytes, byte_words}
 use Rattle.words.proofs.Laws.{bytes_length, word_bytes_one, read_drop}
 use Rattle.words.proofs.Put.{Emitted, emitted_none, emitted_run}

@@ -33,7 +33,14 @@ pub fn read64(s: &[u8], at: usize) -> u64
     ensures { result ≡ read_le 8 s.now at }
 {
     u64::from_le_bytes([
-        s[at], s[at + 1], s[at + 2], s[at + 3], s[at + 4], s[at + 5], s[at + 6], s[at + 7],
+        s[at],
+        s[at + 1],
+        s[at + 2],
+        s[at + 3],
+        s[at + 4],
+        s[at + 5],
+        s[at + 6],
+        s[at + 7],
     ])
 }
 
