@@ -16,7 +16,7 @@ pub fn read16(s: &[u8], at: usize) -> u16
     requires { at + 2 ≤ length s.now }
     ensures { result ≡ read_le 2 s.now at }
 {
-    u16::from_le_bytes([s[at], s[at + 1]])
+    u16::from_le_bytes(s[at..at + 2].try_into().unwrap())
 }
 
 // The number that the four bytes from `at` on make.
@@ -24,7 +24,7 @@ pub fn read32(s: &[u8], at: usize) -> u32
     requires { at + 4 ≤ length s.now }
     ensures { result ≡ read_le 4 s.now at }
 {
-    u32::from_le_bytes([s[at], s[at + 1], s[at + 2], s[at + 3]])
+    u32::from_le_bytes(s[at..at + 4].try_into().unwrap())
 }
 
 // The number that the eight bytes from `at` on make.
@@ -32,16 +32,7 @@ pub fn read64(s: &[u8], at: usize) -> u64
     requires { at + 8 ≤ length s.now }
     ensures { result ≡ read_le 8 s.now at }
 {
-    u64::from_le_bytes([
-        s[at],
-        s[at + 1],
-        s[at + 2],
-        s[at + 3],
-        s[at + 4],
-        s[at + 5],
-        s[at + 6],
-        s[at + 7],
-    ])
+    u64::from_le_bytes(s[at..at + 8].try_into().unwrap())
 }
 
 // The byte x, at `at`: a run of one, for callers that write runs.
