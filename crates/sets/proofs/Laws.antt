@@ -2,15 +2,18 @@
 -- its members.
 use mathlib.Core.Path.{◌≡◌, refl, sym, ap, ◌∙◌}
 use mathlib.Core.Bool.{Bool, true, false, cond, not, ◌||◌, ◌&&◌, and-true, and-false, true≢false}
-use Prim.Native.Nat.{ℕ, zero, suc, ◌+◌, ◌-◌, ◌/◌, ◌%◌, ◌^◌, ◌≤◌, ◌<◌, suc-le-suc}
-use native.Mathlib.Nat.{pow-suc, zero-div, div-eq_of_lt, le_trans, lt_of_le_of_lt, le-max_left}
+use Prim.Native.Nat.{ℕ, zero, suc, ◌-◌, ◌/◌, ◌%◌, ◌^◌, ◌≤◌, ◌<◌}
+use native.Mathlib.Nat.{pow-suc, zero-div, div-eq_of_lt, le_trans, lt_of_le_of_lt}
 use native.Mathlib.Omega.{arith}
 use lib.Arith.{bin_ind}
-use lib.Bits.{bit_and, bit_or, bit_xor, or_step, or_zero_l, or_comm, and_le_l, or_lt, xor_lt, and_shr, or_shr, xor_shr}
+use lib.Bits.{bit_and, bit_or, bit_xor, or_zero_l, or_comm, and_le_l, or_lt, xor_lt, and_shr, or_shr, xor_shr}
 use lib.Bits.{and_mod, or_mod, xor_mod}
 use lib.Dec.{eqb, ltb, eqb-zero-suc, eqb-suc-zero, eqb-suc-suc, leb-suc-suc}
 use lib.Pow.{pow_pos, pow_mono}
 use borrow.Author.Tests.{eqb-true, eqb-false, eq-eqb, ne_eqb, ltb-true, ltb-false, lt-ltb, le-ltb, not-false}
+use Rattle.std.proofs.Math.Bool.{or_assoc}
+use Rattle.std.proofs.lemmas.Nat.{le_or_l}
+use Rattle.std.proofs.lemmas.Nat.Bits.{same_from_bits, same_from_bits_below}
 use Rattle.sets.specs.Sets.{member, union, minus, single, first_n, subset}
 use Rattle.sets.proofs.Bits.{both, member_op}
 pub use Rattle.sets.proofs.Bits.{decide, bit_member, member_zero, member_suc}
@@ -101,38 +104,23 @@ minus_le =
 
 -- ---- a set is known by its members
 
+-- what a bit is, from whether it is a member
+same_bit : (a b r : ℕ) → member a r ≡ member b r → a / 2 ^ r % 2 ≡ b / 2 ^ r % 2
+same_bit a b r e = bit_member a r ∙ ap {B = ℕ} (λ (x : Bool). cond x 1 0) e ∙ sym (bit_member b r)
+
 pub ext : (w a b : ℕ) → a < 2 ^ w → b < 2 ^ w → ((r : ℕ) → r < w → member a r ≡ member b r) → a ≡ b
-ext zero a b ha hb e = omega arith
-ext (suc w) a b ha hb e =
-    let p = pow-suc 2 w in
-    let half : a / 2 ≡ b / 2 =
-    ext w (a / 2) (b / 2) (omega arith) (omega arith) (λ r l. sym (member_suc a r) ∙ e (suc r) (suc-le-suc l) ∙ member_suc b r) in
-    omega (arith, bit_member a 0, bit_member b 0, ap {B = ℕ} (λ (x : Bool). cond x 1 0) (e 0 (omega arith)))
+ext w a b ha hb e = same_from_bits_below w a b ha hb (λ r l. same_bit a b r (e r l))
 
 pub empty : (w s : ℕ) → s < 2 ^ w → ((r : ℕ) → r < w → member s r ≡ false) → s ≡ 0
 empty w s h f = ext w s 0 h (pow_pos w) (λ r l. f r l ∙ sym (member_none r))
 
 -- ---- unions of several sets
 
--- every number is a set of some width, so the laws of members hold of any
-bounded : (n : ℕ) → n < 2 ^ n
-bounded zero = omega arith
-bounded (suc n) = omega (arith, pow-suc 2 n, bounded n)
-
-or_thrice : (x y z : Bool) → (x || y) || z ≡ x || (y || z)
-or_thrice true y z = refl
-or_thrice false y z = refl
-
 pub union_assoc : (a b c : ℕ) → union (union a b) c ≡ union a (union b c)
 union_assoc a b c =
-    let w = a + b + c in
-    let wide = bounded w in
-    let small : (n : ℕ) → n ≤ w → n < 2 ^ w = λ n h. omega (arith, wide) in
-    let ab = union_lt w a b (small a (omega arith)) (small b (omega arith)) in
-    let bc = union_lt w b c (small b (omega arith)) (small c (omega arith)) in
-    ext w _ _ (union_lt w (union a b) c ab (small c (omega arith))) (union_lt w a (union b c) (small a (omega arith)) bc)
-    (λ r l. rw (member_union (union a b) c r, member_union a b r, member_union a (union b c) r, member_union b c r)
-    (or_thrice (member a r) (member b r) (member c r)))
+    same_from_bits _ _
+    (λ r. same_bit _ _ r (rw (member_union (union a b) c r, member_union a b r, member_union a (union b c) r, member_union b c r)
+    (or_assoc (member a r) (member b r) (member c r))))
 
 pub union_comm : (a b : ℕ) → union a b ≡ union b a
 unfolding union
@@ -177,15 +165,11 @@ minus_single_lt s r h =
 
 -- ---- a union is empty where both sets are
 
-or_least : (a b : ℕ) → a ≤ bit_or a b
-or_least = bin_ind (λ (n : ℕ). (b : ℕ) → n ≤ bit_or n b) (λ b. omega arith)
-    (λ n ih b. omega (arith, ih (b / 2), or_step n b, le-max_left (n % 2) (b % 2)))
-
 pub or_none : (a b : ℕ) → eqb (bit_or a b) 0 ≡ eqb a 0 && eqb b 0
 or_none a b =
     decide (eqb a 0)
     (λ e. rw (e, eqb-true a 0 e) refl)
-    (λ e. let no = eqb-false a 0 e in rw e (ne_eqb (bit_or a b) 0 (λ z. no (omega (arith, or_least a b)))))
+    (λ e. let no = eqb-false a 0 e in rw e (ne_eqb (bit_or a b) 0 (λ z. no (omega (arith, le_or_l a b)))))
 
 pub union_none : (a b : ℕ) → eqb (union a b) 0 ≡ eqb a 0 && eqb b 0
 unfolding union

@@ -1,8 +1,6 @@
 // Sets of power resources in a 64-bit word: bit r is 1 where resource r is in the set.
 #![tactic(auto)]
 
-pub mod narrow;
-
 ghost use Rattle.std.specs.Prelude.{◌≡◌, ◌<◌, ◌≤◌, ◌^◌, ltb};
 ghost use Rattle.sets.specs.Sets.{member, union, minus, single, first_n, subset, Lowest, Highest};
 
@@ -32,10 +30,7 @@ pub fn single(r: u32) -> u64
 pub fn has(s: u64, r: u32) -> bool
     ensures { result ≡ member s r }
 {
-    if r < 64 {
-        return (s >> r) % 2 == 1;
-    }
-    false
+    r < 64 && (s >> r) % 2 == 1
 }
 
 // s with resource r taken out.
@@ -51,10 +46,7 @@ pub fn first_n(n: u32) -> u64
     requires { n ≤ 64 }
     ensures { result ≡ first_n n }
 {
-    if n < 64 {
-        return single(n) - 1;
-    }
-    0xffff_ffff_ffff_ffff
+    if n < 64 { single(n) - 1 } else { u64::MAX }
 }
 
 // Whether all of a is in b.
@@ -68,10 +60,7 @@ pub fn within(a: u64, b: u64) -> bool
 pub fn fits(s: u64, n: u32) -> bool
     ensures { result ≡ ltb s (2 ^ n) }
 {
-    if n < 64 {
-        return (s >> n) == 0;
-    }
-    true
+    n >= 64 || (s >> n) == 0
 }
 
 // The lowest member of a set that has one, found by the machine and not by a loop.
@@ -79,7 +68,7 @@ pub fn lowest(s: u64) -> u32
     requires { 0 < s }
     ensures { Lowest s result × (result < 64) }
 {
-    u64::trailing_zeros(s)
+    s.trailing_zeros()
 }
 
 // The highest member, found in the same way.
@@ -87,5 +76,5 @@ pub fn highest(s: u64) -> u32
     requires { 0 < s }
     ensures { Highest s result × (result < 64) }
 {
-    63 - u64::leading_zeros(s)
+    s.ilog2()
 }

@@ -1,13 +1,15 @@
 -- Numbers as bytes and back, over the count of bytes, and lists of 32-bit words as bytes and back.
 use mathlib.Core.Path.{◌≡◌, refl, sym, ap, ap₂, ◌∙◌}
 use mathlib.Core.List.{List, [], ◌∷◌, ◌++◌, append_assoc, append-nil}
-use Prim.Native.Nat.{ℕ, zero, suc, ◌+◌, ◌*◌, ◌/◌, ◌%◌, ◌^◌, ◌≤◌, ◌<◌}
-use native.Mathlib.Nat.{pow-suc, add-zero, mod-one, mod-eq_of_lt, one-le-pow, zero-lt-suc}
+use Prim.Native.Nat.{ℕ, zero, suc, ◌+◌, ◌-◌, ◌*◌, ◌/◌, ◌%◌, ◌^◌, ◌≤◌, ◌<◌}
+use native.Mathlib.Nat.{div-one, div-div-eq-div-mul, pow-suc, add-zero, mod-one, mod-eq_of_lt, one-le-pow, zero-lt-suc}
 use native.Mathlib.Numerals.{add-one}
 use native.Mathlib.Omega.{arith}
 use lib.Arith.{mod-mul}
 use lib.ListN.{length, get_or, take, drop, length-append, length-drop, take-append-drop, get_or-append}
 use lib.Seq.{get_or-drop, length-take-le, drop_at, take-suc}
+use Rattle.std.specs.Array.{IsWholeChunk}
+use Rattle.std.specs.Int.{bytes_low_first}
 use Rattle.words.specs.Words.{read_le, bytes_le, put, word_bytes, byte_words}
 use Rattle.words.proofs.Below.{below_append, below_take, below_drop}
 
@@ -27,6 +29,16 @@ read_append (suc k) p q at h =
 
 pub read_past : (k : ℕ) (p q : List ℕ) (n i : ℕ) → length p ≡ n → read_le k (p ++ q) (n + i) ≡ read_le k q i
 read_past k p q n i e = sym (read_drop k (p ++ q) n i) ∙ rw (drop_at p q n e)
+
+-- the k bytes from `at` on, as an array
+pub read_chunk : (k : ℕ) (s b : List ℕ) (at : ℕ) → at + k ≤ length s → IsWholeChunk (take (at + k - at) (drop at s)) b k
+    → read_le k b 0 ≡ read_le k s at
+read_chunk k s b at h whole =
+    let size : at + k - at ≡ k = omega arith in
+    let rest = drop k (drop at s) in
+    let both : b ++ rest ≡ drop at s = rw (whole.same, size) (take-append-drop k (drop at s)) in
+    let long : length b ≡ k = rw whole.same whole.long in
+    sym (read_append k b rest 0 (omega arith)) ∙ rw both (read_drop k s at 0) ∙ ap (read_le k s) (add-zero at)
 
 pub read_lt : (k : ℕ) (s : List ℕ) (at : ℕ) → ((i : ℕ) → get_or s i 0 < 256) → read_le k s at < 256 ^ k
 unfolding read_le
@@ -49,6 +61,20 @@ bytes_lt (suc k) x (suc i) = bytes_lt k (x / 256) i
 -- x's low byte and the rest, of its k + 1 low bytes
 pub mod_suc : (k x : ℕ) → x % 256 ^ suc k ≡ x / 256 % 256 ^ k * 256 + x % 256
 mod_suc k x = ap (λ (m : ℕ). x % m) (pow-suc 256 k) ∙ mod-mul x (one-le-pow k 256 (zero-lt-suc 255)) (zero-lt-suc 255)
+
+-- the bytes that the library's `to_le_bytes` gives
+low_first : (i k x : ℕ) → bytes_low_first i k x ≡ bytes_le k (x / 256 ^ i)
+unfolding bytes_le
+low_first i zero x = refl
+low_first zero (suc k) x =
+    rw (div-one x) (ap (λ (l : List ℕ). x % 256 ∷ l) (low_first 1 k x))
+low_first (suc i) (suc k) x =
+    let m = 256 ^ suc i in
+    let rest : x / 256 ^ suc (suc i) ≡ x / m / 256 = sym (div-div-eq-div-mul x m 256 ∙ ap (λ (n : ℕ). x / n) (sym (pow-suc 256 (suc i)))) in
+    ap (λ (l : List ℕ). x / m % 256 ∷ l) (low_first (suc (suc i)) k x ∙ ap (bytes_le k) rest)
+
+pub le_bytes : (k x : ℕ) → bytes_low_first 0 k x ≡ bytes_le k x
+le_bytes k x = low_first 0 k x ∙ ap (bytes_le k) (div-one x)
 
 -- ---- there and back
 

@@ -4,10 +4,10 @@ use mathlib.Core.Path.{◌≡◌, refl, sym, ap, ◌∙◌}
 use mathlib.Core.List.{List, [], ◌∷◌, ◌++◌, append_assoc, append-nil}
 use Prim.Native.Nat.{ℕ, ◌+◌, ◌≤◌, ◌<◌}
 use native.Mathlib.Nat.{add_assoc, add-zero}
-use native.Mathlib.Numerals.{add-one}
 use native.Mathlib.Omega.{arith}
-use lib.ListN.{length, get_or, set, take, drop, length-append, length-take, length-drop, drop_of_length-le, take-append-drop}
-use lib.Seq.{take-suc, sets, sets-eq, take_at, drop_at, drop-drop}
+use lib.ListN.{length, set, take, drop, length-append, length-take, length-drop, drop_of_length-le, take-append-drop}
+use lib.Seq.{sets, sets-eq, take_at, drop_at, drop-drop}
+use borrow.Rule.Slice.PartMut.{put_mid}
 use Rattle.words.specs.Words.{put}
 
 -- ---- one run
@@ -58,6 +58,12 @@ pub put_all : (d ws : List ℕ) → length ws ≡ length d → put d 0 ws ≡ ws
 unfolding put
 put_all d ws e = rw (drop_of_length-le d {i = 0 + length ws} (omega arith)) (append-nil ws)
 
+-- a part of a slice that was overwritten, as the code leaves it
+pub part_put : {A : Type 0} (d ws : List A) (at k : ℕ) (ys : List A) → ys ≡ ws → k ≡ length ws → put_mid at k d ys ≡ put d at ws
+unfolding put
+part_put d ws at k ys e f =
+    rw (e, f, drop-drop (length ws) at d) (sym (append_assoc (take at d) ws (drop (at + length ws) d)))
+
 -- ---- what was written: d is the list at the start, ws what was put from `at` on, l the list now, p the next place
 
 pub record Emitted (d : List ℕ) (at : ℕ) (ws l : List ℕ) (p : ℕ) : Type 0 where
@@ -78,16 +84,6 @@ emitted_run {d} {ws} {l} {l'} {at} {p} {r} vs e q h =
       place = simp length-append (omega arith);
       long = rw q.1 (length_put l p vs (omega arith) ∙ e.long);
     }
-
--- one store more
-pub emitted_one : {d ws l : List ℕ} {at p : ℕ} (w : ℕ) → Emitted d at ws l p → p < length d
-    → Emitted d at (ws ++ w ∷ []) (set l p w) (p + 1)
-emitted_one {d} {ws} {l} {at} {p} w e h = emitted_run (w ∷ []) e (refl, sets_put l p (w ∷ []) (omega arith)) (omega arith)
-
--- a turn of a loop that copies src
-pub emitted_copy : {d l : List ℕ} {at p : ℕ} (src : List ℕ) (i : ℕ) → Emitted d at (take i src) l p → i < length src → p < length d
-    → Emitted d at (take (i + 1) src) (set l p (get_or src i 0)) (p + 1)
-emitted_copy src i e h k = rw (add-one i, take-suc src i 0 h) (emitted_one (get_or src i 0) e k)
 
 -- ---- what is still to be written: `rest`, put into l from p on, gives what `all`, put into d from `at` on, gives
 

@@ -12,7 +12,7 @@ bytes_le zero x = []
 bytes_le (suc k) x = x % 256 ∷ bytes_le k (x / 256)
 
 -- d with ws in the place of as many elements from `at` on
-unfoldable pub put : List ℕ → ℕ → List ℕ → List ℕ
+unfoldable pub put : {A : Type 0} → List A → ℕ → List A → List A
 put d at ws = take at d ++ ws ++ drop (at + length ws) d
 
 -- words as bytes, four each

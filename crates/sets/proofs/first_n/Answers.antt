@@ -13,6 +13,6 @@ pub returns-then-n-lt64 : goal.returns-then-n-lt64
 unfolding single first_n
 returns-then-n-lt64 c = ap (λ (x : ℕ). x - 1) c.single.ensures
 
-pub returns : goal.returns
+pub returns-else-n-lt64 : goal.returns-else-n-lt64
 unfolding first_n
-returns c = let e : c.args.n ≡ 64 = omega arith in rw e refl
+returns-else-n-lt64 c = let e : c.args.n ≡ 64 = omega arith in rw e refl

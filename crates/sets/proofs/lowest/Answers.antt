@@ -1,6 +1,6 @@
 use borrow.Author.Rules.{rules}
-use Rattle.sets.proofs.Ends.{end_laws}
+use Rattle.sets.proofs.Ends.{lowest_is}
 use Rattle.sets.proofs.lowest.Goals as goal
 
 pub returns : goal.returns
-returns c = search (rules, end_laws)
+returns c = lowest_is c.args.s (search rules) (search rules)

@@ -1,7 +1,12 @@
-use Rattle.words.proofs.Twice.{read_twice}
-use borrow.Author.Rules.{rules}
+use mathlib.Core.Path.{◌≡◌, ◌∙◌}
+use native.Mathlib.Omega.{arith}
+use Rattle.words.specs.Words.{read_le}
+use Rattle.words.proofs.Laws.{read_chunk}
 use Rattle.words.proofs.read32.Goals as goal
 
--- Two numbers of two bytes are one of four.
 pub returns : goal.returns
-returns c = read_twice 2 _ _ c.read16.result c.read16-2.result (search rules) (search rules)
+unfolding read_le
+returns c =
+    let b = c.unwrap.result in
+    let number : c.from_le_bytes.result ≡ read_le 4 b 0 = omega arith in
+    number ∙ read_chunk 4 c.args.s.now b c.args.at c.requires (rw c.unwrap.ensures at c.try_into.ensures.1)

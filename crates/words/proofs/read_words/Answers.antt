@@ -7,9 +7,3 @@ loop-i-init c = search (rules, reading)
 
 pub loop-i-preserved : goal.loop-i-preserved
 loop-i-preserved c = search (rules, reading)
-
-pub shape_of-out : goal.shape_of-out
-shape_of-out c = search (rules, reading)
-
-pub returns : goal.returns
-returns c = search (rules, reading)

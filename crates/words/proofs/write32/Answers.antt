@@ -1,9 +1,7 @@
-use Rattle.words.proofs.Twice.{put_twice}
-use borrow.Author.Rules.{rules}
+use mathlib.Core.Path.{ap, ◌∙◌}
+use Rattle.words.specs.Words.{put}
+use Rattle.words.proofs.Laws.{le_bytes}
 use Rattle.words.proofs.write32.Goals as goal
 
--- Two runs of two bytes are one of four.
 pub returns : goal.returns
-returns c =
-    let first = c.write16 in
-    put_twice 2 _ _ _ _ _ (search rules) first.ensures c.write16-2.ensures
+returns c = c.copy.ensures ∙ ap (put c.args.s.now c.args.at) (c.to_le_bytes.ensures ∙ le_bytes 4 c.args.x)

@@ -5,11 +5,5 @@ use Rattle.words.proofs.write_words.Goals as goal
 pub loop-i-init : goal.loop-i-init
 loop-i-init c = search (rules, writing)
 
-pub write32-requires : goal.write32-requires
-write32-requires c = search (rules, writing)
-
 pub loop-i-preserved : goal.loop-i-preserved
 loop-i-preserved c = search (rules, writing)
-
-pub returns : goal.returns
-returns c = search (rules, writing)

@@ -1,11 +1,8 @@
-use Prim.Native.Nat.{◌+◌, ◌*◌, ◌-◌, ◌≤◌}
+use Prim.Native.Nat.{◌+◌, ◌*◌}
 use lib.ListN.{take}
 use Rattle.words.specs.Words.{word_bytes}
 use Rattle.words.proofs.Put.{Emitted}
 use Rattle.words.proofs.write_words.Given as goal
 
 abbrev pub invariant-loop-i : goal.invariant-loop-i
-invariant-loop-i l = (l.i ≤ l.n) × Emitted l.initial.out (4 * l.at) (word_bytes (take l.i l.from)) l.out (4 * (l.at + l.i))
-
-abbrev pub decreases-loop-i : goal.decreases-loop-i
-decreases-loop-i l = l.n - l.i
+invariant-loop-i l = Emitted l.initial.out (4 * l.at) (word_bytes (take l.i l.from)) l.out (4 * (l.at + l.i))

@@ -1,7 +1,0 @@
-use borrow.Author.Rules.{rules}
-use Rattle.sets.proofs.Machine.{shl_single}
-use Rattle.sets.proofs.narrow.single.Goals as goal
-
--- `1 << r` loses no bit below 32.
-pub returns : goal.returns
-returns c = shl_single 32 c.args.r (search rules)

@@ -1,0 +1,12 @@
+use mathlib.Core.Path.{◌≡◌, ◌∙◌}
+use native.Mathlib.Omega.{arith}
+use Rattle.words.specs.Words.{read_le}
+use Rattle.words.proofs.Laws.{read_chunk}
+use Rattle.words.proofs.read64.Goals as goal
+
+pub returns : goal.returns
+unfolding read_le
+returns c =
+    let b = c.unwrap.result in
+    let number : c.from_le_bytes.result ≡ read_le 8 b 0 = omega arith in
+    number ∙ read_chunk 8 c.args.s.now b c.args.at c.requires (rw c.unwrap.ensures at c.try_into.ensures.1)
