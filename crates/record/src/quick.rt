@@ -65,7 +65,7 @@ impl Record<'_> {
         let b = self.sxd(2);
         let c = self.sxd(3);
         let d = self.sxd(4);
-        if words::word4(a, b, c, d) == 0xffff_ffff {
+        if u32::from_le_bytes([a, b, c, d]) == 0xffff_ffff {
             return true;
         }
         self.sxd_good(1) && self.sxd_good(2) && self.sxd_good(3) && self.sxd_good(4)

@@ -60,7 +60,7 @@ impl Record<'_> {
         ensures { (result ≡ (device_of self.now).sets k) × (result < 256 ^ self.now.width) }
     {
         if self.width == 8 {
-            return crate::word::read64(self.bytes, self.at + 4 + 8 * k);
+            return words::read64(self.bytes, self.at + 4 + 8 * k);
         }
         u64::from(words::read32(self.bytes, self.at + 4 + 4 * k))
     }

@@ -1,6 +1,6 @@
 -- What the readers of a table cite: its width, where a record starts and that it ends inside the table, and each field of the station, from
 -- what the readers of a record give.
-use mathlib.Core.Path.{◌≡◌, refl}
+use mathlib.Core.Path.{◌≡◌, refl, sym, ◌∙◌}
 use mathlib.Core.Bool.{true}
 use mathlib.Core.List.{List}
 use Prim.Native.Nat.{ℕ, ◌+◌, ◌*◌, ◌<◌, ◌≤◌}
@@ -15,6 +15,8 @@ use Rattle.rules.specs.Station.{Device, version_good, version_of, width, Wide, r
 use Rattle.sets.proofs.Laws.{decide}
 use Rattle.rules.proofs.Width.{version_8, version_4, width_wide}
 use Rattle.laws.proofs.Accepted.{record_inside, resource_at_lem, device_at_lem}
+use Rattle.record.specs.Record.{device_of}
+use Rattle.table.specs.declared.fields.DeviceRecord.{DeviceRecord}
 use Rattle.table.specs.Layout.{WellSized, RecordAt}
 
 -- ---- the width is that of the version which the header states, and in either version there are at most 64 of each
@@ -70,6 +72,13 @@ field_here f t d at w v r k = field f t d at w v r.start r.device r.width k
 pub field_here_at : (f : Device → ℕ → ℕ) (t : List ℕ) (d at w x v : ℕ) → RecordAt t d at w → v ≡ f (device_at w t at) x
     → v ≡ f ((station t).device d) x
 field_here_at f t d at w x v r k = rw (device_at_lem (width t) t d r.device, ← r.start, ← r.width) k
+
+-- what a device's record says is the station's device
+pub device_is : (z : DeviceRecord) → device_of z.record ≡ (station z.record.bytes.now).device z.number
+device_is z =
+    let a = z.there in
+    let t = z.record.bytes.now in
+    sym (device_at_lem (width t) t z.number a.device ∙ rw (a.start, a.width) refl)
 
 -- a device's record, the first one, and the next
 pub record_at : (t : List ℕ) (d at w : ℕ) → WellSized t → d < count_d t → at ≡ device_start (width t) t d → w ≡ width t → RecordAt t d at w

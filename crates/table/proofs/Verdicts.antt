@@ -10,27 +10,35 @@ use borrow.Author.Tests.{eqb-true, leb-true, eq-eqb, lt-ltb, le-ltb, le-leb, lt-
 use lib.Dec.{eqb, leb}
 use lib.ListN.{length, get_or, take, drop}
 use Rattle.rules.specs.Verdict.{Verdict}
-use Rattle.std.specs.Prelude.{Ok}
+use Rattle.std.specs.Prelude.{Ok, Option, Some, None, is_some}
 use Rattle.rules.specs.Verdict.{refuse}
 use Rattle.rules.specs.declared.Reason.{Reason}
 use Rattle.rules.specs.declared.Reason.TheVariants.{NotATable, TooMany, WrongLength, BadResource, BadDevice, BadObjects}
-use Rattle.rules.specs.Index.{least}
+use Rattle.rules.specs.Index.{least_below}
 use Rattle.rules.specs.Answers.{passes, first_of, unless, lowest}
 use Rattle.rules.specs.Station.{version_good, version_of, width, limit, record_size, count_r, count_d, resource_start, device_start}
-use Rattle.rules.specs.Table.{first_bad, device_fields, header_good, counts_good, length_good, resource_good, bad_field, fields_good}
+use Rattle.rules.specs.Table.{device_fields, header_good, counts_good, length_good, resource_good, bad_field, fields_good}
 use Rattle.rules.specs.Table.{fields_or_objects, device_refusal, device_good, table_verdict}
 use Rattle.rules.specs.Outcomes.{record_part}
 use Rattle.rules.proofs.Answers.{answer_passed}
 use Rattle.rules.proofs.Answers.{done_passes, refused_stops, first_pass, first_stop, first_none, first_through, unless_of, unless_stop}
-use Rattle.rules.proofs.Answers.{lowest_stop}
+use Rattle.rules.proofs.Answers.{lowest_some, lowest_no}
+use Rattle.rules.proofs.Index.{least_of_some}
 use Rattle.rules.proofs.Width.{width_wide}
 use Rattle.laws.proofs.Accepted.{accepted, refuses}
 use Rattle.laws.proofs.Describe.{header_says}
 use Rattle.laws.proofs.Every.{least_ext}
 use Rattle.laws.proofs.Tests.{both_true}
 use Rattle.table.specs.Layout.{WellSized}
+use Rattle.table.specs.declared.fields.DeviceRecord.{DeviceRecord}
+use Rattle.record.specs.Bad.{bad_place}
 use Rattle.record.specs.Good.{good_with}
+use Rattle.record.proofs.FirstBad.{no_bad_field}
 use Rattle.record.proofs.AllGood.{table_record}
+
+turned : (a b : Bool) → a ≡ not b → b ≡ not a
+turned a true e = rw e refl
+turned a false e = rw e refl
 
 -- ---- each check, on the bytes
 module _ (t : List ℕ) where
@@ -58,10 +66,13 @@ module _ (t : List ℕ) where
   unfolding length_good
   length_test d s e f = rw (f, e) refl
 
-  module _ (d at w r : ℕ) (e : at ≡ device_start (width t) t d) (i : w ≡ width t) (f : r ≡ count_r t) where
-    pub fields_test : (n s : ℕ) → n ≡ first_bad (record_size w) (device_fields w r t d at) → s ≡ record_size w → eqb n s ≡ fields_good t d
-    unfolding fields_good bad_field
-    fields_test n s g h = rw (g, h, e, i, f) refl
+  pub fields_test : (d r : ℕ) (o : Option ℕ) (b : Bool) (z : DeviceRecord) → z.record.bytes.now ≡ t → z.number ≡ d → r ≡ count_r t
+      → o ≡ bad_place (device_fields z.record.width r z.record.bytes.now d z.record.at) → is_some o ≡ not b → b ≡ fields_good t d
+  unfolding fields_good bad_field
+  fields_test d r o b z x y f g h =
+      let a = z.there in
+      turned (is_some o) b h ∙ ap (λ (x : Option ℕ). not (is_some x)) g ∙ sym (no_bad_field z.record.width r z.record.bytes.now d z.record.at)
+      ∙ rw (a.start, a.width, x, y, f) refl
 
   pub refused_6 : (d : ℕ) (f : Bool) → f ≡ fields_good t d → f ≡ true → refuse BadObjects d ≡ device_refusal t d
   unfolding fields_or_objects
@@ -83,8 +94,8 @@ pub ruleset table_tests = (
 )
 
 -- ---- the lowest bad record, from what the check of a run of records gives
-pub lowest_4 : (t : List ℕ) (n r : ℕ) → n ≡ count_r t → r ≡ least (λ i. not (resource_good t (8 + 4 * i))) n
-    → r ≡ least (λ i. not (resource_good t (resource_start i))) (count_r t)
+pub lowest_4 : (t : List ℕ) (n : ℕ) (r : Option ℕ) → n ≡ count_r t → r ≡ least_below (λ i. not (resource_good t (8 + 4 * i))) n
+    → r ≡ least_below (λ i. not (resource_good t (resource_start i))) (count_r t)
 lowest_4 t n r e f = rw e at f
 
 module _ (t : List ℕ) (first w n resources : ℕ) (e : first ≡ device_start (width t) t 0) (f : w ≡ width t) (g : n ≡ count_d t)
@@ -93,13 +104,13 @@ module _ (t : List ℕ) (first w n resources : ℕ) (e : first ≡ device_start 
   unfolding device_start
   start_of i = rw (e, f, mul-zero (record_size (width t))) (omega arith)
 
-  pub lowest_5 : (d : ℕ) → d ≡ least (λ i. not (good_with true w resources t i (first + record_size w * i))) n
-      → d ≡ least (λ i. not (device_good t i)) (count_d t)
-  unfolding device_good fields_good bad_field
+  pub lowest_5 : (d : Option ℕ) → d ≡ least_below (λ i. not (good_with true w resources t i (first + record_size w * i))) n
+      → d ≡ least_below (λ i. not (device_good t i)) (count_d t)
+  unfolding device_good fields_good bad_field least_below
   lowest_5 d h =
       let same : (i : ℕ) → good_with true w resources t i (first + record_size w * i) ≡ device_good t i =
       λ i. rw (start_of i, f, k) (table_record (width t) (count_r t) t i (device_start (width t) t i)) in
-      h ∙ rw g (least_ext _ (λ i. not (device_good t i)) 0 (count_d t) (λ i a b. ap not (same i)))
+      h ∙ rw (g, least_ext (λ i. not (good_with true w resources t i (first + record_size w * i))) (λ i. not (device_good t i)) 0 (count_d t) (λ i a b. ap not (same i))) refl
 
   pub run_inside : WellSized t → first + record_size w * n ≤ length t
   run_inside z = rw (start_of n, g, z.long) (omega arith)
@@ -154,14 +165,16 @@ module _ (rest : List Verdict) (last : Verdict) where
       let s = unless_stop good why at p in
       sym (first_stop (unless good why at) rest last (ap passes s ∙ refused_stops why at) ∙ s)
 
-  module _ (bad : ℕ → Bool) (n m i : ℕ) (refusal : ℕ → Verdict) (e : i ≡ least bad n) (f : m ≡ n) where
-    pub lowest_passed : m ≤ i → first_of (lowest bad n refusal ∷ rest) last ≡ first_of rest last
-    unfolding passes lowest
-    lowest_passed h = first_pass (lowest bad n refusal) rest last (rw (le-ltb (least bad n) n (rw (f, e) at h)) refl)
+  -- o is the lowest bad one, if there is one
+  module _ (bad : ℕ → Bool) (n : ℕ) (refusal : ℕ → Verdict) (o : Option ℕ) (e : o ≡ least_below bad n) where
+    pub lowest_passed : o ≡ None → first_of (lowest bad n refusal ∷ rest) last ≡ first_of rest last
+    lowest_passed h =
+        first_pass (lowest bad n refusal) rest last (ap passes (lowest_no bad n refusal (sym h ∙ e)) ∙ done_passes 0)
 
-    pub lowest_refused : (v : Verdict) → v ≡ refusal i → passes v ≡ false → i < m → v ≡ first_of (lowest bad n refusal ∷ rest) last
-    lowest_refused v g r h =
-        let s = lowest_stop bad n i refusal e (rw f at h) ∙ sym g in
+    pub lowest_refused : (v : Verdict) (i : ℕ) → v ≡ refusal i → passes v ≡ false → o ≡ Some i
+        → v ≡ first_of (lowest bad n refusal ∷ rest) last
+    lowest_refused v i g r h =
+        let s : lowest bad n refusal ≡ v = sym (g ∙ lowest_some bad n i refusal (sym h ∙ e)) in
         sym (first_stop (lowest bad n refusal) rest last (ap passes s ∙ r) ∙ s)
 
 -- ---- each way out of the table's chain: what passed before, and the check that refuses
@@ -200,9 +213,8 @@ module _ (t : List ℕ) where
       ∙ past_counts h (sym f ∙ not-false c y)
 
   -- from here on the first three have passed
-  module _ (sized : WellSized t) (h : header_good t ≡ true) (r m : ℕ)
-      (e : r ≡ least (λ i. not (resource_good t (resource_start i))) (count_r t))
-      (f : m ≡ count_r t) where
+  module _ (sized : WellSized t) (h : header_good t ≡ true) (r : Option ℕ)
+      (e : r ≡ least_below (λ i. not (resource_good t (resource_start i))) (count_r t)) where
     past_length : first_of (resources_check ∷ devices_check ∷ []) (Ok 0) ≡ table_verdict t
     unfolding counts_good length_good
     past_length =
@@ -213,21 +225,24 @@ module _ (t : List ℕ) where
         ) refl in
         sym (unless_passed _ _ (length_good t) WrongLength 0 (eq-eqb _ _ sized.long)) ∙ past_counts h counts
 
-    pub bad_resource : r < m → refuse BadResource r ≡ table_verdict t
-    bad_resource p = lowest_refused _ _ _ (count_r t) m r (refuse BadResource) e f _ refl (refused_stops BadResource r) p ∙ past_length
+    pub bad_resource : (i : ℕ) → r ≡ Some i → refuse BadResource i ≡ table_verdict t
+    bad_resource i p = lowest_refused _ _ _ (count_r t) (refuse BadResource) r e _ i refl (refused_stops BadResource i) p ∙ past_length
 
-    module _ (p : m ≤ r) (q n : ℕ) (g : q ≡ least (λ i. not (device_good t i)) (count_d t)) (k : n ≡ count_d t) where
+    module _ (p : r ≡ None) (q : Option ℕ) (g : q ≡ least_below (λ i. not (device_good t i)) (count_d t)) where
       past_resources : first_of (devices_check ∷ []) (Ok 0) ≡ table_verdict t
-      past_resources = sym (lowest_passed _ _ _ (count_r t) m r (refuse BadResource) e f p) ∙ past_length
+      past_resources = sym (lowest_passed _ _ _ (count_r t) (refuse BadResource) r e p) ∙ past_length
 
-      pub bad_device : (v : Verdict) → v ≡ device_refusal t q → q < n → v ≡ table_verdict t
-      bad_device v o u = lowest_refused _ _ _ (count_d t) n q (device_refusal t) g k v o (ap passes o ∙ refuses (fields_good t q) q) u
-          ∙ past_resources
+      pub some_device : (d : ℕ) → q ≡ Some d → d < count_d t
+      some_device d u = (least_of_some _ (count_d t) d (sym u ∙ g)).1
 
-      pub all_pass : n ≤ q → Ok 0 ≡ table_verdict t
-      all_pass u = sym (lowest_passed _ _ _ (count_d t) n q (device_refusal t) g k u ∙ first_none (Ok 0)) ∙ past_resources
+      pub bad_device : (v : Verdict) (d : ℕ) → v ≡ device_refusal t d → q ≡ Some d → v ≡ table_verdict t
+      bad_device v d o u =
+          lowest_refused _ _ _ (count_d t) (device_refusal t) q g v d o (ap passes o ∙ refuses (fields_good t d) d) u ∙ past_resources
 
-pub ruleset table_answers = (long_of, version_of_lem, header_passed, no_table, too_many, wrong_length, bad_resource, bad_device, all_pass)
+      pub all_pass : q ≡ None → Ok 0 ≡ table_verdict t
+      all_pass u = sym (lowest_passed _ _ _ (count_d t) (device_refusal t) q g u ∙ first_none (Ok 0)) ∙ past_resources
+
+pub ruleset table_answers = (long_of, version_of_lem, header_passed, no_table, too_many, wrong_length, bad_resource, some_device, bad_device, all_pass)
 
 -- ---- what an accepted table is known to have: from the rules, and from what a caller knows of the answer v of the check, and b whether it
 -- passes

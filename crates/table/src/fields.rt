@@ -1,7 +1,9 @@
 // The fields of a table whose counts and length are known to be good, as its station has them.
 ghost use Rattle.std.specs.Prelude.{◌≡◌, true, ◌+◌, ◌<◌, ◌≤◌, length};
 ghost use Rattle.rules.specs.Station.{version_good, version_of, width, Wide, limit, record_size, table_size, count_r, count_d, device_start, station};
-ghost use Rattle.table.specs.Layout.{WellSized};
+ghost use Rattle.table.specs.Layout.{WellSized, RecordAt};
+
+use record::Record;
 
 // The bytes of a set: those of the version that the header states, four times its number. No other function says what the width of a table
 // is.
@@ -9,7 +11,7 @@ pub fn width(table: &[u8]) -> usize
     requires { (8 ≤ length table.now) × (version_good (version_of table.now) ≡ true) }
     ensures { (result ≡ width table.now) × Wide result }
 {
-    4 * (words::wide(table[4]) as usize)
+    4 * (usize::from(table[4]))
 }
 
 // The most resources and devices that the width allows.
@@ -25,7 +27,7 @@ pub fn resources(table: &[u8]) -> usize
     requires { WellSized table.now }
     ensures { (result ≡ count_r table.now) × (result ≤ 64) }
 {
-    table[3] as usize
+    usize::from(table[3])
 }
 
 // D, the number of devices.
@@ -33,7 +35,7 @@ pub fn devices(table: &[u8]) -> usize
     requires { WellSized table.now }
     ensures { (result ≡ count_d table.now) × (result ≤ 64) }
 {
-    table[6] as usize
+    usize::from(table[6])
 }
 
 // The bytes of a table of R resources and D devices.
@@ -49,7 +51,7 @@ pub fn start_at(table: &[u8], d: usize) -> usize
     requires { (8 ≤ length table.now) × (version_good (version_of table.now) ≡ true) × (d < 256) }
     ensures { result ≡ device_start (width table.now) table.now d }
 {
-    size(width(table), words::wide(table[3]) as usize, d)
+    size(width(table), usize::from(table[3]), d)
 }
 
 // The same of a device that is there: its record ends inside the table.
@@ -77,12 +79,36 @@ pub fn order(table: &[u8], r: usize) -> u16
     words::read16(table, 8 + 4 * r + 2)
 }
 
+// A device of a table: its record, and its number. Who has looked it up once hands it on, as a reference.
+#[derive(Clone, Copy)]
+pub struct DeviceRecord<'a> {
+    pub record: Record<'a>,
+    pub number: usize,
+    pub ghost there: { RecordAt record.bytes.now number record.at record.width },
+}
+
+// Device d of a table.
+pub fn device(table: &[u8], d: usize) -> DeviceRecord<'_>
+    requires { WellSized table.now × (d < count_d table.now) }
+    ensures table { result.record.bytes.now ≡ table.now }
+    ensures number { result.number ≡ d }
+{
+    DeviceRecord {
+        record: Record {
+            bytes: table,
+            at: start(table, d),
+            width: width(table),
+        },
+        number: d,
+    }
+}
+
 // A device's parent, or 255.
 pub fn parent(table: &[u8], d: usize) -> u8
     requires { WellSized table.now × (d < count_d table.now) }
     ensures { result ≡ ((station table.now).device d).parent }
 {
-    record::read::parent(table, start(table, d), width(table))
+    device(table, d).record.parent()
 }
 
 // The `_PS` mask.
@@ -90,7 +116,7 @@ pub fn ps(table: &[u8], d: usize) -> u8
     requires { WellSized table.now × (d < count_d table.now) }
     ensures { result ≡ ((station table.now).device d).ps }
 {
-    record::read::ps(table, start(table, d), width(table))
+    device(table, d).record.ps()
 }
 
 // Bit 0 `_PRW`, bit 1 `_DSW`.
@@ -98,5 +124,5 @@ pub fn flags(table: &[u8], d: usize) -> u8
     requires { WellSized table.now × (d < count_d table.now) }
     ensures { result ≡ ((station table.now).device d).flags }
 {
-    record::read::flags(table, start(table, d), width(table))
+    device(table, d).record.flags()
 }

@@ -5,13 +5,14 @@ pub mod fields;
 pub mod header;
 
 ghost use Rattle.std.specs.Prelude.{◌≡◌, true, not, ◌<◌, ◌≤◌, length};
-ghost use Rattle.rules.specs.Index.{least};
+ghost use Rattle.rules.specs.Index.{least_below};
 ghost use Rattle.rules.specs.Answers.{passes};
 ghost use Rattle.rules.specs.Station.{version_good, version_of, count_r, count_d, resource_start};
 ghost use Rattle.rules.specs.Table.{header_good, counts_good, length_good, resource_good, fields_good, device_good, device_refusal, table_verdict};
 ghost use Rattle.rules.specs.Outcomes.{record_part};
 ghost use Rattle.table.specs.Layout.{WellSized};
 
+use record::lowest::Records;
 use rules::{Reason, Refusal, Verdict};
 
 // 2: at most as many resources and devices as the width allows.
@@ -20,7 +21,7 @@ fn counts_good(table: &[u8]) -> bool
     ensures { result ≡ counts_good table.now }
 {
     let most = crate::fields::limit(table);
-    (words::wide(table[3]) as usize <= most) & (words::wide(table[6]) as usize <= most)
+    (usize::from(table[3]) <= most) & (usize::from(table[6]) <= most)
 }
 
 // 3: the header, the resources and the devices take all bytes.
@@ -28,14 +29,14 @@ fn length_good(table: &[u8]) -> bool
     requires { (8 ≤ length table.now) × (version_good (version_of table.now) ≡ true) }
     ensures { result ≡ length_good table.now }
 {
-    let devices = words::wide(table[6]) as usize;
+    let devices = usize::from(table[6]);
     table.len() == crate::fields::start_at(table, devices)
 }
 
-// 4: the lowest bad resource, R if none is bad.
-fn lowest_resource(table: &[u8]) -> usize
+// 4: the lowest bad resource, if one is bad.
+fn lowest_resource(table: &[u8]) -> Option<usize>
     requires { WellSized table.now }
-    ensures { result ≡ least (λ i. not (resource_good table.now (resource_start i))) (count_r table.now) }
+    ensures { result ≡ least_below (λ i. not (resource_good table.now (resource_start i))) (count_r table.now) }
 {
     record::lowest::lowest_resource(table, 8, crate::fields::resources(table))
 }
@@ -45,22 +46,24 @@ fn fields_good(table: &[u8], d: usize) -> bool
     requires { WellSized table.now × (d < count_d table.now) }
     ensures { result ≡ fields_good table.now d }
 {
-    let at = crate::fields::start(table, d);
-    let w = crate::fields::width(table);
-    record::bad::bad_field(table, at, w, d, crate::fields::resources(table))
-        == record::read::size(w)
+    let resources = crate::fields::resources(table);
+    crate::fields::device(table, d).record.bad_field(d, resources).is_none()
 }
 
-// 5 and 6: the lowest bad device, D if none is bad.
-fn lowest_device(table: &[u8]) -> usize
+// 5 and 6: the lowest bad device, if one is bad.
+#[tactic(auto, using(crate::proofs::Verdicts::lowest_bad))]
+fn lowest_device(table: &[u8]) -> Option<usize>
     requires { WellSized table.now }
-    ensures { result ≡ least (λ i. not (device_good table.now i)) (count_d table.now) }
+    ensures { result ≡ least_below (λ i. not (device_good table.now i)) (count_d table.now) }
 {
-    let first = crate::fields::start_at(table, 0);
-    let w = crate::fields::width(table);
-    let n = crate::fields::devices(table);
-    let resources = crate::fields::resources(table);
-    record::lowest::lowest_device(table, first, w, true, n, resources)
+    let records = Records {
+        bytes: table,
+        first: crate::fields::start_at(table, 0),
+        width: crate::fields::width(table),
+        zeros: true,
+        count: crate::fields::devices(table),
+    };
+    records.lowest_bad(crate::fields::resources(table))
 }
 
 // The answer for a bad device: 5 before 6.
@@ -75,16 +78,15 @@ fn refusal(table: &[u8], d: usize) -> Verdict
 }
 
 // Answers 4 to 6 of bytes that pass 1 to 3.
+#[tactic(auto, using(crate::proofs::Verdicts::table_answers))]
 fn check_records(table: &[u8]) -> Verdict
     requires { WellSized table.now × (header_good table.now ≡ true) }
     ensures { result ≡ table_verdict table.now }
 {
-    let r = lowest_resource(table);
-    if r < crate::fields::resources(table) {
+    if let Some(r) = lowest_resource(table) {
         return Err(Refusal(Reason::BadResource, r));
     }
-    let d = lowest_device(table);
-    if d < crate::fields::devices(table) {
+    if let Some(d) = lowest_device(table) {
         return refusal(table, d);
     }
     Ok(0)

@@ -1,9 +1,6 @@
-use Rattle.table.proofs.Verdicts.{lowest_bad}
-use borrow.Author.Rules.{rules}
+use Rattle.table.proofs.Verdicts.{lowest_5}
 use Rattle.table.proofs.lowest_device.Goals as goal
 
-pub lowest_device-requires : goal.lowest_device-requires
-lowest_device-requires c = (search rules, search (rules, lowest_bad), search (rules, lowest_bad), search (rules, lowest_bad))
-
 pub returns : goal.returns
-returns c = search (rules, lowest_bad)
+returns c =
+    lowest_5 _ _ _ _ _ c.start_at.ensures c.width.ensures.0 c.devices.ensures.0 c.resources.ensures.0 _ c.lowest_bad.ensures
