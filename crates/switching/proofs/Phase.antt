@@ -1,7 +1,8 @@
 -- One phase of a list: the order of two resources, what may come next, and how a turn of the loop shortens `take_phase`.
 use mathlib.Core.Path.{◌≡◌, refl, sym, ap, ◌∙◌}
 use mathlib.Core.Bool.{Bool, true, false, not, ◌||◌}
-use mathlib.Core.List.{List}
+use mathlib.Core.List.{List, [], ◌∷◌}
+use Rattle.std.proofs.lemmas.List.{nil_from_length}
 use Prim.Native.Nat.{ℕ, ◌+◌, ◌^◌, ◌≤◌, ◌<◌}
 use native.Mathlib.Numerals.{add-one}
 use native.Mathlib.Omega.{arith}
@@ -53,55 +54,45 @@ module _ (s : Station) (off : Bool) (todo : ℕ) (first : Bool) (last : ℕ) whe
     next_follows c n f g = rw (sym m ∙ not-false b n, f, g) refl
 
   -- one that may is one of the table's, and a set's word has a bit for it
-  module _ (r : ℕ) (b : Bool) (m : b ≡ comes_next s off todo first last r) (h : not b ≡ false) where
+  module _ (r : ℕ) (m : true ≡ comes_next s off todo first last r) where
     pub next_below : (n : ℕ) → todo < 2 ^ n → r < n
     unfolding comes_next
-    next_below n u = member_below n todo r u (both_true (member todo r) (first || follows s off last r) (sym m ∙ not-false b h)).0
+    next_below n u = member_below n todo r u (both_true (member todo r) (first || follows s off last r) (sym m)).0
 
     pub next_bit : (t : List ℕ) → WellSized t → todo < 2 ^ count_r t → r < 64
     next_bit t z u = omega (arith, resources_few t z, next_below (count_r t) u)
 
-  -- the loop is at place i of the list, and what is to come gives v
-  module _ (i : ℕ) (l : List ℕ) (v : Rest) (inv : take_phase s off todo first last (drop i l) ≡ v) where
-    pub phase_done : todo ≤ 0 → left (drop i l) ≡ v
-    phase_done h = sym (take_stop _ _ todo first last (drop i l) (eq-eqb todo 0 (omega arith))) ∙ inv
+  -- what is to come of the list ws gives v
+  module _ (ws : List ℕ) (v : Rest) (inv : take_phase s off todo first last ws ≡ v) where
+    pub phase_done : todo ≤ 0 → left ws ≡ v
+    phase_done h = sym (take_stop _ _ todo first last ws (eq-eqb todo 0 (omega arith))) ∙ inv
 
-    pub phase_short : 0 < todo → length l ≤ i → refused ≡ v
+    pub phase_short : 0 < todo → length ws ≡ 0 → refused ≡ v
     phase_short k h =
-        sym (ap (take_phase s off todo first last) (drop_of_length-le l {i = i} h) ∙ take_short _ _ todo first last
-        (ne_eqb todo 0 (omega arith)))
-        ∙ inv
+        sym (take_short _ _ todo first last (ne_eqb todo 0 (omega arith))) ∙ rw (nil_from_length ws h) at inv
 
-    -- w stands there
-    module _ (k : 0 < todo) (h : i < length l) where
-      abbrev w : ℕ
-      w = get_or l i 0
+  -- w is the first word of it
+  module _ (w : ℕ) (rest : List ℕ) (v : Rest) (inv : take_phase s off todo first last (w ∷ rest) ≡ v) (k : 0 < todo) where
+    stops : may_come (switch_word off) (follows s off) todo first last w ≡ false → refused ≡ v
+    stops m = sym (take_bad _ _ todo first last w rest (ne_eqb todo 0 (omega arith)) m) ∙ inv
 
-      stops : may_come (switch_word off) (follows s off) todo first last w ≡ false → refused ≡ v
-      stops m =
-          sym (ap (take_phase s off todo first last) (drop-cons l i 0 h) ∙ take_bad _ _ todo first last w _
-          (ne_eqb todo 0 (omega arith)) m) ∙ inv
+    pub phase_other : None ≡ switched off (call_of w) → refused ≡ v
+    phase_other e = stops (come_none s off todo first last w (sym e))
 
-      pub phase_other : (found : Option ℕ) → found ≡ switched off (call_of w) → found ≡ None → refused ≡ v
-      phase_other found e f = stops (come_none s off todo first last w (sym e ∙ f))
+    -- and switches r, a number of one byte
+    module _ (n r : ℕ) (e : Some n ≡ switched off (call_of w)) (byte : (r ≡ n) × (r < 256)) where
+      says : switched off (call_of w) ≡ Some r
+      says = sym e ∙ ap Some (sym byte.0)
 
-      -- and switches r, a number of one byte
-      module _ (found : Option ℕ) (n r : ℕ) (e : found ≡ switched off (call_of w)) (f : found ≡ Some n)
-          (same : r ≡ n) (u : r < 256) where
-        says : switched off (call_of w) ≡ Some r
-        says = sym e ∙ f ∙ ap Some (sym same)
+      pub phase_bad : false ≡ comes_next s off todo first last r → refused ≡ v
+      phase_bad z = stops (come_is s off todo first last w r byte.1 says ∙ sym z)
 
-        pub phase_bad : (b : Bool) → b ≡ comes_next s off todo first last r → not b ≡ true → refused ≡ v
-        phase_bad b m z = stops (come_is s off todo first last w r u says ∙ sym m ∙ not-true b z)
-
-        pub phase_next : (b : Bool) (rest : ℕ) → b ≡ comes_next s off todo first last r → not b ≡ false → rest ≡ minus todo (single r)
-            → take_phase s off rest false r (drop (i + 1) l) ≡ v
-        phase_next b rest m z p =
-            let may = come_is s off todo first last w r u says ∙ sym m ∙ not-false b z in
-            sym (ap (take_phase s off todo first last) (drop-cons l i 0 h) ∙ take_one _ _ todo first last w _
-            (ne_eqb todo 0 (omega arith)) may
-            ∙ rw (come_names s off todo first last w r u says, ← p, ← add-one i) refl)
-            ∙ inv
+      pub phase_next : (after : ℕ) → true ≡ comes_next s off todo first last r → after ≡ minus todo (single r)
+          → take_phase s off after false r rest ≡ v
+      phase_next after z p =
+          sym (take_one _ _ todo first last w rest (ne_eqb todo 0 (omega arith)) (come_is s off todo first last w r byte.1 says ∙ sym z)
+          ∙ rw (come_names s off todo first last w r byte.1 says, ← p) refl)
+          ∙ inv
 
 pub still_below : (n todo r : ℕ) (b : Bool) → todo < 2 ^ n → b ≡ member todo r → not b ≡ false → r < n
 still_below n todo r b u m h = member_below n todo r u (sym m ∙ not-false b h)

@@ -1,19 +1,19 @@
--- The phases of a list, from a place in it on, in terms of the test `conforming`.
-use Rattle.std.specs.Prelude.{ℕ, ◌≤◌, ◌≡◌, Bool, true, false, not, cond, ◌&&◌, ◌||◌, List, [], map, length, drop}
+-- The phases of a list in terms of the test `conforming`.
+use Rattle.std.specs.Prelude.{ℕ, ◌≡◌, Bool, true, false, not, cond, ◌&&◌, ◌||◌, List, [], map}
 use Rattle.sets.specs.Sets.{member}
 use Rattle.rules.specs.declared.Switching.{Switching}
 use Rattle.rules.specs.declared.Call.{Call}
-use Rattle.std.specs.Prelude.{Option}
 use Rattle.rules.specs.Station.{Station}
 use Rattle.rules.specs.Calls.{word_of, list_of}
 use Rattle.rules.specs.Check.{Rest, left, refused, and_then, take_words, take_set, is_end, not_lower, not_higher}
 use Rattle.calls.specs.Switch.{switch_word}
 use Rattle.std.specs.Prelude.{Option, Some, None}
+use Rattle.std.specs.Borrow.{Bor}
 
--- a phase that came up to a place of the list leaves what stands from there on; one that is refused leaves nothing to go on with
-abbrev pub Leaves : List ℕ → Option ℕ → Rest → Type 0
-Leaves ws (Some i) rest = (left (drop i ws) ≡ rest) × (i ≤ length ws)
-Leaves ws None rest = refused ≡ rest
+-- a phase leaves the rest of the list; one that is refused leaves nothing to go on with
+abbrev pub Leaves : Option (Bor (List ℕ)) → Rest → Type 0
+Leaves (Some ws) rest = left ws.now ≡ rest
+Leaves None rest = refused ≡ rest
 
 -- r may follow the resource before it
 unfoldable pub follows : Station → Bool → ℕ → ℕ → Bool
@@ -37,10 +37,13 @@ unfoldable pub take_phases : Station → ℕ → ℕ → List ℕ → Rest
 take_phases s on off ws =
     and_then (take_phase s false on true 0 ws) λ a. take_phase s true off true 0 a
 
--- the own call first or last, what is to be switched after or before it, and nothing else
-unfoldable pub walked : Station → Switching → List ℕ → Bool
-walked s c ws =
-    is_end
-    (and_then (take_words (own_words (not c.last) c.own) ws)
+-- the own call first or last, and what is to be switched after or before it
+unfoldable pub take_switching : Station → Switching → List ℕ → Rest
+take_switching s c ws =
+    and_then (take_words (own_words (not c.last) c.own) ws)
     λ a. and_then (take_phases s c.added c.removed a)
-    λ b. take_words (own_words c.last c.own) b)
+    λ b. take_words (own_words c.last c.own) b
+
+-- these and nothing else
+unfoldable pub walked : Station → Switching → List ℕ → Bool
+walked s c ws = is_end (take_switching s c ws)
