@@ -44,77 +44,33 @@ pub fn says(word: u32, call: Call) -> bool
 }
 
 // What `_DSW`'s last two bytes say: two zeros, or S and 128 + D.
+#[tactic(auto, unfolding(rules::specs::Calls::wake_of))]
 fn wake_of(device: u8, x: u8, y: u8) -> Option<Call>
     ensures { result ≡ wake_of device x y }
 {
-    if y == 0 {
-        if x == 0 {
-            return Some(Call::SetWake {
-                device,
-                wake: Wake::Disable,
-            });
-        }
-        return None;
-    }
-    if x > 4 {
-        return None;
-    }
-    if y < 128 {
-        return None;
-    }
-    if y > 132 {
-        return None;
-    }
-    Some(Call::SetWake {
-        device,
-        wake: Wake::Enable {
+    let wake = match (x, y) {
+        (0, 0) => Wake::Disable,
+        (0..=4, 128..=132) => Wake::Enable {
             sleep: x,
             state: y - 128,
         },
-    })
-}
-
-// The call with these bytes, if there is one.
-fn call_of_bytes(kind: u8, number: u8, x: u8, y: u8) -> Option<Call>
-    ensures { result ≡ call_of_bytes kind number x y }
-{
-    if kind == 4 {
-        return wake_of(number, x, y);
-    }
-    if y != 0 {
-        return None;
-    }
-    if kind == 3 {
-        if x <= 3 {
-            return Some(Call::SetState {
-                device: number,
-                method: x,
-            });
-        }
-        return None;
-    }
-    if x != 0 {
-        return None;
-    }
-    if kind == 1 {
-        return Some(Call::ResourceOn(number));
-    }
-    if kind == 2 {
-        return Some(Call::ResourceOff(number));
-    }
-    None
+        _ => return None,
+    };
+    Some(Call::SetWake { device, wake })
 }
 
 // What a word says: a call, or none.
+#[tactic(auto, unfolding(rules::specs::Calls::call_of, rules::specs::Calls::call_of_bytes))]
 pub fn call_of(word: u32) -> Option<Call>
     ensures { result ≡ call_of word }
 {
-    call_of_bytes(
-        (word % 0x100) as u8,
-        (word / 0x100 % 0x100) as u8,
-        (word / 0x1_0000 % 0x100) as u8,
-        (word / 0x100_0000) as u8,
-    )
+    match word.to_le_bytes() {
+        [1, r, 0, 0] => Some(Call::ResourceOn(r)),
+        [2, r, 0, 0] => Some(Call::ResourceOff(r)),
+        [3, device, method @ 0..=3, 0] => Some(Call::SetState { device, method }),
+        [4, device, x, y] => wake_of(device, x, y),
+        _ => None,
+    }
 }
 
 // The word that turns a resource off, or on.
