@@ -17,8 +17,8 @@ fn wake_word(device: u8, wake: Wake) -> u32
     ensures { result ≡ wake_word device wake }
 {
     match wake {
-        Wake::Enable { sleep, state } => words::word4(4, device, sleep, 128 + state),
-        Wake::Disable => words::word4(4, device, 0, 0),
+        Wake::Enable { sleep, state } => u32::from_le_bytes([4, device, sleep, 128 + state]),
+        Wake::Disable => u32::from_le_bytes([4, device, 0, 0]),
     }
 }
 
@@ -28,9 +28,9 @@ pub fn word_of(call: Call) -> u32
     ensures { result ≡ word_of call }
 {
     match call {
-        Call::ResourceOn(r) => words::word4(1, r, 0, 0),
-        Call::ResourceOff(r) => words::word4(2, r, 0, 0),
-        Call::SetState { device, method } => words::word4(3, device, method, 0),
+        Call::ResourceOn(r) => u32::from_le_bytes([1, r, 0, 0]),
+        Call::ResourceOff(r) => u32::from_le_bytes([2, r, 0, 0]),
+        Call::SetState { device, method } => u32::from_le_bytes([3, device, method, 0]),
         Call::SetWake { device, wake } => wake_word(device, wake),
     }
 }
@@ -74,11 +74,13 @@ pub fn call_of(word: u32) -> Option<Call>
 }
 
 // The word that turns a resource off, or on.
+#[tactic(auto, unfolding(crate::specs::Switch::switch_word))]
 pub fn switch_word(off: bool, r: u8) -> u32
     ensures { result ≡ switch_word off r }
 {
     if off {
-        return word_of(Call::ResourceOff(r));
+        word_of(Call::ResourceOff(r))
+    } else {
+        word_of(Call::ResourceOn(r))
     }
-    word_of(Call::ResourceOn(r))
 }
