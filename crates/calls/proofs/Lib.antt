@@ -5,5 +5,4 @@ pub mod OwnCall
 pub mod Keys
 pub mod Runs
 pub mod Insertion
-pub mod Rewriting
 pub mod Sorting
