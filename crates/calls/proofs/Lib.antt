@@ -1,6 +1,4 @@
-pub mod Coding
 pub mod Inverse
-pub mod Switch
 pub mod OwnCall
 pub mod Keys
 pub mod Runs

@@ -1,4 +1,4 @@
--- One phase of a list: the order of two resources, what may come next, and how a turn of the loop shortens `take_phase`.
+-- One phase of a list: how a turn of the loop shortens `take_phase`.
 use mathlib.Core.Path.{◌≡◌, refl, sym, ap, ◌∙◌}
 use mathlib.Core.Bool.{Bool, true, false, not, ◌||◌}
 use mathlib.Core.List.{List, [], ◌∷◌}
@@ -25,34 +25,8 @@ use Rattle.switching.specs.Decode.{switched}
 use Rattle.switching.specs.Phases.{follows, take_phase, comes_next}
 use Rattle.switching.proofs.Switched.{come_none, come_names, come_is}
 
--- ---- the order of two resources
-module _ (s : Station) (off : Bool) (last r a b : ℕ) where
-  pub order_off : off ≡ true → a ≡ (s.resource last).order → b ≡ (s.resource r).order → leb b a ≡ follows s off last r
-  unfolding follows
-  order_off e p q = rw (e, p, q) refl
-
-  pub order_on : off ≡ false → a ≡ (s.resource last).order → b ≡ (s.resource r).order → leb a b ≡ follows s off last r
-  unfolding follows
-  order_on e p q = rw (e, p, q) refl
-
-pub ruleset orders = (order_off, order_on)
-
 -- ---- what is still to be switched, whether nothing was before, and the last resource
 module _ (s : Station) (off : Bool) (todo : ℕ) (first : Bool) (last : ℕ) where
-  -- whether r may come next; b is whether it is still to be switched
-  module _ (r : ℕ) (b : Bool) (m : b ≡ member todo r) where
-    pub next_missing : not b ≡ true → false ≡ comes_next s off todo first last r
-    unfolding comes_next
-    next_missing n = rw (sym m ∙ not-true b n) refl
-
-    pub next_first : not b ≡ false → first ≡ true → true ≡ comes_next s off todo first last r
-    unfolding comes_next
-    next_first n f = rw (sym m ∙ not-false b n, f) refl
-
-    pub next_follows : (c : Bool) → not b ≡ false → first ≡ false → c ≡ follows s off last r → c ≡ comes_next s off todo first last r
-    unfolding comes_next
-    next_follows c n f g = rw (sym m ∙ not-false b n, f, g) refl
-
   -- one that may is one of the table's, and a set's word has a bit for it
   module _ (r : ℕ) (m : true ≡ comes_next s off todo first last r) where
     pub next_below : (n : ℕ) → todo < 2 ^ n → r < n
@@ -94,15 +68,7 @@ module _ (s : Station) (off : Bool) (todo : ℕ) (first : Bool) (last : ℕ) whe
           ∙ rw (come_names s off todo first last w r byte.1 says, ← p) refl)
           ∙ inv
 
-pub still_below : (n todo r : ℕ) (b : Bool) → todo < 2 ^ n → b ≡ member todo r → not b ≡ false → r < n
-still_below n todo r b u m h = member_below n todo r u (sym m ∙ not-false b h)
-
-pub last_below : (n last : ℕ) (first : Bool) → (first ≡ false → last < n) → first ≡ false → last < n
-last_below n last first h e = h e
-
 pub rest_small : (n todo rest x : ℕ) → rest ≡ minus todo x → todo < 2 ^ n → rest < 2 ^ n
 rest_small n todo rest x e h = rw e (minus_lt _ _ _ h)
-
-pub ruleset next = (next_missing, next_first, next_follows, still_below, last_below)
 
 pub ruleset phases = (phase_done, phase_short, phase_other, phase_bad, phase_next, next_below, next_bit, rest_small)

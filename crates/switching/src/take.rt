@@ -6,30 +6,23 @@ ghost use Rattle.table.specs.Layout.{WellSized};
 ghost use Rattle.switching.specs.Phases.{Leaves, follows, take_phase, comes_next};
 
 // Whether r's resourceorder may follow the last one's: not higher for OFFs, not lower for ONs.
+#[tactic(auto, unfolding(crate::specs::Phases::follows))]
 fn in_order(table: &[u8], off: bool, last: usize, r: usize) -> bool
     requires { WellSized table.now × (last < count_r table.now) × (r < count_r table.now) }
     ensures { result ≡ follows (station table.now) off last r }
 {
     let before = table::fields::order(table, last);
     let here = table::fields::order(table, r);
-    if off {
-        return here <= before;
-    }
-    before <= here
+    if off { here <= before } else { before <= here }
 }
 
 // Whether r may be switched next while `left` is still to be switched.
+#[tactic(auto, unfolding(crate::specs::Phases::comes_next))]
 fn comes_next(table: &[u8], off: bool, left: u64, first: bool, last: usize, r: u32) -> bool
     requires { WellSized table.now × (left < 2 ^ count_r table.now) × (first ≡ false → last < count_r table.now) }
     ensures { result ≡ comes_next (station table.now) off left first last r }
 {
-    if !sets::has(left, r) {
-        return false;
-    }
-    if first {
-        return true;
-    }
-    in_order(table, off, last, r as usize)
+    sets::has(left, r) && (first || in_order(table, off, last, r as usize))
 }
 
 // What is left of the list after the words that switch each resource of the set.
@@ -43,7 +36,7 @@ pub fn take_phase<'a>(table: &[u8], off: bool, set: u64, list: &'a [u32]) -> Opt
     let mut rest = list;
     while left > 0 {
         let (word, after) = rest.split_first()?;
-        let r = words::wide(crate::decode::switched(off, *word)?);
+        let r = u32::from(crate::decode::switched(off, *word)?);
         if !comes_next(table, off, left, first, last, r) {
             return None;
         }
