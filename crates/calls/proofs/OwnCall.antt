@@ -1,22 +1,21 @@
 -- The own call of a request in range has a word.
-use mathlib.Core.Path.{◌≡◌, refl, sym, ◌∙◌}
-use mathlib.Core.Bool.{Bool, true, false, not, and-false, or-false}
+use mathlib.Core.Path.{◌≡◌}
+use mathlib.Core.Bool.{Bool, true, false}
 use mathlib.Core.List.{List}
 use Prim.Native.Nat.{ℕ, ◌≤◌, ◌<◌}
 use native.Mathlib.Omega.{arith}
-use borrow.Author.Tests.{eqb-false, eq-eqb, ne_eqb, not-true, not-false}
+use borrow.Author.Tests.{eqb-false}
 use lib.Dec.{eqb}
-use Rattle.sets.specs.Sets.{member}
 use Rattle.sets.proofs.Laws.{decide}
 use Rattle.rules.specs.declared.Entry.{Entry}
 use Rattle.rules.specs.declared.Request.{Request}
 use Rattle.rules.specs.declared.Wake.TheVariants.{Enable, Disable}
 use Rattle.rules.specs.declared.Call.{Call}
 use Rattle.rules.specs.declared.Call.TheVariants.{SetState, SetWake}
-use Rattle.std.specs.Prelude.{Option, Some, None}
-use Rattle.rules.specs.Station.{Station, count_d, station, has_ps, has_dsw}
+use Rattle.std.specs.Prelude.{Option, Some}
+use Rattle.rules.specs.Station.{count_d, station}
 use Rattle.rules.specs.Request.{is_move, is_arm}
-use Rattle.rules.specs.Calls.{only, method_for, calls_method, move_call, wake_call, own_call, own_last}
+use Rattle.rules.specs.Calls.{only, method_for, move_call, wake_call, own_call}
 use Rattle.table.specs.Layout.{WellSized}
 use Rattle.calls.specs.Ranges.{InRange, OptionalInRange}
 

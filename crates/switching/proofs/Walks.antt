@@ -1,17 +1,14 @@
 -- A whole list from its phases: a phase that is refused ends it, and what the last leaves must be nothing.
 use mathlib.Core.Path.{◌≡◌, refl, sym, ap, ◌∙◌, fun_ext}
-use mathlib.Core.Bool.{Bool, true, false, not}
+use mathlib.Core.Bool.{Bool, true, false}
 use mathlib.Core.List.{List, [], ◌∷◌}
-use Prim.Native.Nat.{ℕ, ◌+◌, ◌≤◌, ◌<◌}
-use native.Mathlib.Numerals.{add-one}
+use Prim.Native.Nat.{ℕ, ◌≤◌, ◌<◌}
 use native.Mathlib.Omega.{arith}
-use borrow.Author.Tests.{not-true, not-false, eqb-true, eqb-false}
 use lib.Dec.{eqb}
-use lib.ListN.{length, get_or, drop, drop_of_length-le}
+use lib.ListN.{length}
 use lib.Seq.{drop-cons}
 use Rattle.sets.proofs.Laws.{decide}
 use Rattle.rules.specs.declared.Call.{Call}
-use Rattle.rules.specs.declared.Switching.{Switching}
 use Rattle.std.specs.Prelude.{Option, Some, None}
 use Rattle.rules.specs.Station.{Station}
 use Rattle.rules.specs.Calls.{word_of, list_of, to_turn_on, to_turn_off, switching_of}
@@ -20,7 +17,7 @@ use Rattle.rules.specs.Check.{first_calls, last_calls, conforming}
 use Rattle.calls.specs.Switch.{switch_word}
 use Rattle.std.specs.Borrow.{Bor}
 use Rattle.std.proofs.lemmas.List.{nil_from_length}
-use Rattle.switching.specs.Phases.{Leaves, follows, take_phase, own_words, take_phases, take_switching, walked}
+use Rattle.switching.specs.Phases.{Leaves, follows, own_words, take_phases, take_switching, walked}
 
 -- ---- a call's word
 module _ (w : ℕ) where

@@ -1,4 +1,3 @@
-use Rattle.calls.proofs.OwnCall.{call_in_range}
 use Rattle.switching.proofs.Walks.{own_call_lem}
 use borrow.Author.Rules.{rules}
 use Rattle.switching.proofs.walk.take_own.Goals as goal
