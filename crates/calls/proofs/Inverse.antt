@@ -1,10 +1,10 @@
 -- A call of RULES.md 2.9 is read back from its word, and a word that says a call is that call's word: no two words say the same.
 use mathlib.Core.Path.{◌≡◌, refl, sym, ap, ◌∙◌, subst}
-use mathlib.Core.Bool.{Bool, true, false, cond, ◌&&◌}
+use mathlib.Core.Bool.{Bool, true, false, cond, ◌&&◌, and-false}
 use mathlib.Core.Logic.{◌↔◌}
-use Prim.Native.Nat.{ℕ, ◌+◌, ◌-◌, ◌*◌, ◌/◌, ◌%◌, ◌<◌}
+use Prim.Native.Nat.{ℕ, ◌+◌, ◌-◌, ◌*◌, ◌/◌, ◌%◌, ◌<◌, ◌≤◌}
 use native.Mathlib.Omega.{arith}
-use borrow.Author.Tests.{eqb-true, leb-true, eq-eqb}
+use borrow.Author.Tests.{eqb-true, leb-true, eq-eqb, ne_eqb, le-leb}
 use lib.Dec.{eqb, leb}
 use Rattle.rules.specs.declared.Wake.TheVariants.{Enable, Disable}
 use Rattle.rules.specs.declared.Call.{Call}
@@ -13,7 +13,6 @@ use Rattle.std.specs.Prelude.{Option, Some, None}
 use Rattle.rules.specs.Calls.{word4, word_of, wake_of, call_of_bytes, call_of}
 use Rattle.laws.proofs.Tests.{both_true}
 use Rattle.calls.specs.Ranges.{InRange}
-use Rattle.calls.proofs.Coding.{wake_off, wake_on, is_on, is_off, is_state, is_wake}
 
 -- the bytes of a word are those it was made of
 of_bytes_lem : (a b c d : ℕ) → a < 256 → b < 256 → c < 256 → call_of (word4 a b c d) ≡ call_of_bytes a b c d
@@ -29,15 +28,18 @@ of_bytes_lem a b c d ha hb hc =
     cc
 
 pub call_of_word : (c : Call) → InRange c → call_of (word_of c) ≡ Some c
-call_of_word (ResourceOn r) h = of_bytes_lem 1 r 0 0 (omega arith) h (omega arith) ∙ sym (is_on 1 r 0 0 refl refl refl)
-call_of_word (ResourceOff r) h = of_bytes_lem 2 r 0 0 (omega arith) h (omega arith) ∙ sym (is_off 2 r 0 0 refl refl refl)
-call_of_word (SetState d x) h = of_bytes_lem 3 d x 0 (omega arith) h.0 (omega arith) ∙ sym (is_state 3 d x 0 refl refl h.1)
+unfolding call_of_bytes wake_of
+call_of_word (ResourceOn r) h = of_bytes_lem 1 r 0 0 (omega arith) h (omega arith)
+call_of_word (ResourceOff r) h = of_bytes_lem 2 r 0 0 (omega arith) h (omega arith)
+call_of_word (SetState d x) h = of_bytes_lem 3 d x 0 (omega arith) h.0 (omega arith) ∙ rw (le-leb x 3 h.1)
 call_of_word (SetWake d (Enable s x)) h =
+    let n : 128 + x ≡ 0 → ⊥ = λ e. omega arith in
     let y : 128 + x - 128 ≡ x = omega arith in
-    of_bytes_lem 4 d s (128 + x) (omega arith) h.0 (omega arith)
-    ∙ sym (is_wake 4 d s (128 + x) _ refl (rw y at (wake_on d s (128 + x) h.1.0 (omega arith) (omega arith))))
-call_of_word (SetWake d Disable) h =
-    of_bytes_lem 4 d 0 0 (omega arith) h.0 (omega arith) ∙ sym (is_wake 4 d 0 0 _ refl (wake_off d 0 0 refl refl))
+    let low : 128 ≤ 128 + x = omega arith in
+    let high : 128 + x ≤ 132 = omega arith in
+    let small : s ≤ 4 = h.1.0 in
+    of_bytes_lem 4 d s (128 + x) (omega arith) h.0 (omega arith) ∙ simp (ne_eqb, and-false, le-leb, y)
+call_of_word (SetWake d Disable) h = of_bytes_lem 4 d 0 0 (omega arith) h.0 (omega arith)
 
 -- the other way: whatever call a tree of tests ends in has the word w
 Right : ℕ → Option Call → Type 0

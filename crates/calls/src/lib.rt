@@ -17,8 +17,8 @@ fn wake_word(device: u8, wake: Wake) -> u32
     ensures { result ≡ wake_word device wake }
 {
     match wake {
-        Wake::Enable { sleep, state } => words::word4(4, device, sleep, 128 + state),
-        Wake::Disable => words::word4(4, device, 0, 0),
+        Wake::Enable { sleep, state } => u32::from_le_bytes([4, device, sleep, 128 + state]),
+        Wake::Disable => u32::from_le_bytes([4, device, 0, 0]),
     }
 }
 
@@ -28,9 +28,9 @@ pub fn word_of(call: Call) -> u32
     ensures { result ≡ word_of call }
 {
     match call {
-        Call::ResourceOn(r) => words::word4(1, r, 0, 0),
-        Call::ResourceOff(r) => words::word4(2, r, 0, 0),
-        Call::SetState { device, method } => words::word4(3, device, method, 0),
+        Call::ResourceOn(r) => u32::from_le_bytes([1, r, 0, 0]),
+        Call::ResourceOff(r) => u32::from_le_bytes([2, r, 0, 0]),
+        Call::SetState { device, method } => u32::from_le_bytes([3, device, method, 0]),
         Call::SetWake { device, wake } => wake_word(device, wake),
     }
 }
@@ -44,85 +44,43 @@ pub fn says(word: u32, call: Call) -> bool
 }
 
 // What `_DSW`'s last two bytes say: two zeros, or S and 128 + D.
+#[tactic(auto, unfolding(rules::specs::Calls::wake_of))]
 fn wake_of(device: u8, x: u8, y: u8) -> Option<Call>
     ensures { result ≡ wake_of device x y }
 {
-    if y == 0 {
-        if x == 0 {
-            return Some(Call::SetWake {
-                device,
-                wake: Wake::Disable,
-            });
-        }
-        return None;
-    }
-    if x > 4 {
-        return None;
-    }
-    if y < 128 {
-        return None;
-    }
-    if y > 132 {
-        return None;
-    }
-    Some(Call::SetWake {
-        device,
-        wake: Wake::Enable {
+    let wake = match (x, y) {
+        (0, 0) => Wake::Disable,
+        (0..=4, 128..=132) => Wake::Enable {
             sleep: x,
             state: y - 128,
         },
-    })
-}
-
-// The call with these bytes, if there is one.
-fn call_of_bytes(kind: u8, number: u8, x: u8, y: u8) -> Option<Call>
-    ensures { result ≡ call_of_bytes kind number x y }
-{
-    if kind == 4 {
-        return wake_of(number, x, y);
-    }
-    if y != 0 {
-        return None;
-    }
-    if kind == 3 {
-        if x <= 3 {
-            return Some(Call::SetState {
-                device: number,
-                method: x,
-            });
-        }
-        return None;
-    }
-    if x != 0 {
-        return None;
-    }
-    if kind == 1 {
-        return Some(Call::ResourceOn(number));
-    }
-    if kind == 2 {
-        return Some(Call::ResourceOff(number));
-    }
-    None
+        _ => return None,
+    };
+    Some(Call::SetWake { device, wake })
 }
 
 // What a word says: a call, or none.
+#[tactic(auto, unfolding(rules::specs::Calls::call_of, rules::specs::Calls::call_of_bytes))]
 pub fn call_of(word: u32) -> Option<Call>
     ensures { result ≡ call_of word }
 {
-    call_of_bytes(
-        (word % 0x100) as u8,
-        (word / 0x100 % 0x100) as u8,
-        (word / 0x1_0000 % 0x100) as u8,
-        (word / 0x100_0000) as u8,
-    )
+    match word.to_le_bytes() {
+        [1, r, 0, 0] => Some(Call::ResourceOn(r)),
+        [2, r, 0, 0] => Some(Call::ResourceOff(r)),
+        [3, device, method @ 0..=3, 0] => Some(Call::SetState { device, method }),
+        [4, device, x, y] => wake_of(device, x, y),
+        _ => None,
+    }
 }
 
 // The word that turns a resource off, or on.
+#[tactic(auto, unfolding(crate::specs::Switch::switch_word))]
 pub fn switch_word(off: bool, r: u8) -> u32
     ensures { result ≡ switch_word off r }
 {
     if off {
-        return word_of(Call::ResourceOff(r));
+        word_of(Call::ResourceOff(r))
+    } else {
+        word_of(Call::ResourceOn(r))
     }
-    word_of(Call::ResourceOn(r))
 }

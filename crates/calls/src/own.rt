@@ -7,30 +7,24 @@ ghost use Rattle.table.specs.Layout.{WellSized};
 use rules::{Call, Entry, Request, Wake};
 
 // Whether a move to state x calls a method, if it exists: the state changes, and not from D3hot to D3cold.
+#[tactic(auto, unfolding(rules::specs::Calls::calls_method))]
 fn calls_method(state: u8, x: u32) -> bool
     ensures { result ≡ calls_method state x }
 {
-    if x == words::wide(state) {
-        return false;
-    }
-    if state == 3 {
-        return x != 4;
-    }
-    true
+    x != u32::from(state) && !(state == 3 && x == 4)
 }
 
 // The x of the `_PSx` that brings a device to a state: `_PS3` also for D3cold.
+#[tactic(auto, unfolding(rules::specs::Calls::method_for))]
 fn method_for(x: u32) -> u32
     requires { x ≤ 4 }
     ensures { (result ≡ method_for x) × (result ≤ 3) }
 {
-    if x == 4 {
-        return 3;
-    }
-    x
+    if x == 4 { 3 } else { x }
 }
 
 // `_PSx`, for a move of device d to state x.
+#[tactic(auto, unfolding(rules::specs::Calls::move_call, rules::specs::Calls::only))]
 fn move_call(table: &[u8], e: Entry, d: u32, x: u32) -> Option<Call>
     requires { WellSized table.now × (d < count_d table.now) × (x ≤ 4) }
     ensures { result ≡ move_call (station table.now) e d x }
@@ -39,63 +33,51 @@ fn move_call(table: &[u8], e: Entry, d: u32, x: u32) -> Option<Call>
         return None;
     }
     let m = method_for(x);
-    if !sets::narrow::has(words::wide(table::fields::ps(table, d as usize)), m) {
-        return None;
-    }
-    Some(Call::SetState {
+    let there = sets::has(u64::from(table::fields::ps(table, d as usize)), m);
+    there.then_some(Call::SetState {
         device: d as u8,
         method: m as u8,
     })
 }
 
 // `_DSW`, for arming and disarming.
+#[tactic(auto, unfolding(rules::specs::Calls::wake_call, rules::specs::Calls::only))]
 fn wake_call(table: &[u8], e: Entry, q: Request) -> Option<Call>
     requires { WellSized table.now × (q.device < count_d table.now) × (q.a ≤ 4) × (q.b ≤ 4) }
     ensures { result ≡ wake_call (station table.now) e q }
 {
-    let d = q.device;
-    if !sets::narrow::has(words::wide(table::fields::flags(table, d as usize)), 1) {
-        return None;
-    }
-    if q.kind == 2 {
-        let wake = Wake::Enable {
+    let wake = match (q.kind, e.armed) {
+        (2, _) => Wake::Enable {
             sleep: q.a as u8,
             state: q.b as u8,
-        };
-        return Some(Call::SetWake {
-            device: d as u8,
-            wake,
-        });
-    }
-    if e.armed == 1 {
-        return Some(Call::SetWake {
-            device: d as u8,
-            wake: Wake::Disable,
-        });
-    }
-    None
+        },
+        (_, 1) => Wake::Disable,
+        _ => return None,
+    };
+    let there = sets::has(u64::from(table::fields::flags(table, q.device as usize)), 1);
+    there.then_some(Call::SetWake {
+        device: q.device as u8,
+        wake,
+    })
 }
 
 // The own call of a request in range, for a device whose entry is e.
+#[tactic(auto, unfolding(rules::specs::Calls::own_call))]
 pub fn own_call(table: &[u8], e: Entry, q: Request) -> Option<Call>
     requires { WellSized table.now × (q.device < count_d table.now) × (q.a ≤ 4) × (q.b ≤ 4) }
     ensures { result ≡ own_call (station table.now) e q }
 {
     if q.kind == 1 {
-        return move_call(table, e, q.device, q.a);
+        move_call(table, e, q.device, q.a)
+    } else {
+        wake_call(table, e, q)
     }
-    wake_call(table, e, q)
 }
 
 // Whether the own call comes last: moving to D0, or arming.
+#[tactic(auto, unfolding(rules::specs::Calls::own_last))]
 pub fn own_last(q: Request) -> bool
     ensures { result ≡ own_last q }
 {
-    if q.kind == 2 {
-        return true;
-    }
-    if q.kind == 1 {
-        return q.a == 0;
-    }
-    false
+    q.kind == 1 && q.a == 0 || q.kind == 2
 }

@@ -26,12 +26,6 @@ narrow_fits t w a z e h n l =
     let few : count_r t ≤ 32 = omega (arith, z.resources) in
     lt_of_lt_of_le l (pow_mono few)
 
--- from its parts
-pub switching_is : (own : Option Call) (last : Bool) (on target u v : ℕ) → u ≡ minus target on → v ≡ minus on target
-    → record { added = u; removed = v; own = own; last = last } ≡ switching_of own last on target
-unfolding to_turn_on to_turn_off
-switching_is own last on target u v e f = rw (e, f) refl
-
 -- what is in one set and not in another, and the other way round
 pub minus_disjoint : (x y : ℕ) → Disjoint (minus x y) (minus y x)
 unfolding Disjoint

@@ -1,14 +1,12 @@
--- One phase of a list: the order of two resources, what may come next, and how a turn of the loop shortens `take_phase`.
+-- One phase of a list: how a turn of the loop shortens `take_phase`.
 use mathlib.Core.Path.{◌≡◌, refl, sym, ap, ◌∙◌}
-use mathlib.Core.Bool.{Bool, true, false, not, ◌||◌}
-use mathlib.Core.List.{List}
-use Prim.Native.Nat.{ℕ, ◌+◌, ◌^◌, ◌≤◌, ◌<◌}
-use native.Mathlib.Numerals.{add-one}
+use mathlib.Core.Bool.{Bool, true, false, ◌||◌}
+use mathlib.Core.List.{List, ◌∷◌}
+use Rattle.std.proofs.lemmas.List.{nil_from_length}
+use Prim.Native.Nat.{ℕ, ◌^◌, ◌≤◌, ◌<◌}
 use native.Mathlib.Omega.{arith}
-use borrow.Author.Tests.{eq-eqb, ne_eqb, not-true, not-false}
-use lib.Dec.{leb}
-use lib.ListN.{length, get_or, drop, drop_of_length-le}
-use lib.Seq.{drop-cons}
+use borrow.Author.Tests.{eq-eqb, ne_eqb}
+use lib.ListN.{length}
 use Rattle.sets.specs.Sets.{member, minus, single}
 use Rattle.sets.proofs.Laws.{member_below, minus_lt}
 use Rattle.rules.specs.Station.{Station, count_r}
@@ -19,99 +17,55 @@ use Rattle.laws.proofs.Take.{take_stop, take_short, take_bad, take_one}
 use Rattle.table.specs.Layout.{WellSized}
 use Rattle.table.proofs.Readers.{resources_few}
 use Rattle.calls.specs.Switch.{switch_word}
-use Rattle.std.specs.Prelude.{Option, Some, None}
+use Rattle.std.specs.Prelude.{Option, Some, None, is_none, unwrap_or}
 use Rattle.switching.specs.Decode.{switched}
 use Rattle.switching.specs.Phases.{follows, take_phase, comes_next}
 use Rattle.switching.proofs.Switched.{come_none, come_names, come_is}
 
--- ---- the order of two resources
-module _ (s : Station) (off : Bool) (last r a b : ℕ) where
-  pub order_off : off ≡ true → a ≡ (s.resource last).order → b ≡ (s.resource r).order → leb b a ≡ follows s off last r
-  unfolding follows
-  order_off e p q = rw (e, p, q) refl
-
-  pub order_on : off ≡ false → a ≡ (s.resource last).order → b ≡ (s.resource r).order → leb a b ≡ follows s off last r
-  unfolding follows
-  order_on e p q = rw (e, p, q) refl
-
-pub ruleset orders = (order_off, order_on)
-
--- ---- what is still to be switched, whether nothing was before, and the last resource
-module _ (s : Station) (off : Bool) (todo : ℕ) (first : Bool) (last : ℕ) where
-  -- whether r may come next; b is whether it is still to be switched
-  module _ (r : ℕ) (b : Bool) (m : b ≡ member todo r) where
-    pub next_missing : not b ≡ true → false ≡ comes_next s off todo first last r
-    unfolding comes_next
-    next_missing n = rw (sym m ∙ not-true b n) refl
-
-    pub next_first : not b ≡ false → first ≡ true → true ≡ comes_next s off todo first last r
-    unfolding comes_next
-    next_first n f = rw (sym m ∙ not-false b n, f) refl
-
-    pub next_follows : (c : Bool) → not b ≡ false → first ≡ false → c ≡ follows s off last r → c ≡ comes_next s off todo first last r
-    unfolding comes_next
-    next_follows c n f g = rw (sym m ∙ not-false b n, f, g) refl
-
+-- ---- what is still to be switched, and the last resource if any
+module _ (s : Station) (off : Bool) (todo : ℕ) (last : Option ℕ) where
   -- one that may is one of the table's, and a set's word has a bit for it
-  module _ (r : ℕ) (b : Bool) (m : b ≡ comes_next s off todo first last r) (h : not b ≡ false) where
+  module _ (r : ℕ) (m : true ≡ comes_next s off todo last r) where
     pub next_below : (n : ℕ) → todo < 2 ^ n → r < n
     unfolding comes_next
-    next_below n u = member_below n todo r u (both_true (member todo r) (first || follows s off last r) (sym m ∙ not-false b h)).0
+    next_below n u = member_below n todo r u (both_true (member todo r) (is_none last || follows s off (unwrap_or last 0) r) (sym m)).0
 
     pub next_bit : (t : List ℕ) → WellSized t → todo < 2 ^ count_r t → r < 64
     next_bit t z u = omega (arith, resources_few t z, next_below (count_r t) u)
 
-  -- the loop is at place i of the list, and what is to come gives v
-  module _ (i : ℕ) (l : List ℕ) (v : Rest) (inv : take_phase s off todo first last (drop i l) ≡ v) where
-    pub phase_done : todo ≤ 0 → left (drop i l) ≡ v
-    phase_done h = sym (take_stop _ _ todo first last (drop i l) (eq-eqb todo 0 (omega arith))) ∙ inv
+  -- what is to come of the list ws gives v
+  module _ (ws : List ℕ) (v : Rest) (inv : take_phase s off todo last ws ≡ v) where
+    pub phase_done : todo ≤ 0 → left ws ≡ v
+    phase_done h = sym (take_stop _ _ todo (is_none last) (unwrap_or last 0) ws (eq-eqb todo 0 (omega arith))) ∙ inv
 
-    pub phase_short : 0 < todo → length l ≤ i → refused ≡ v
+    pub phase_short : 0 < todo → length ws ≡ 0 → refused ≡ v
     phase_short k h =
-        sym (ap (take_phase s off todo first last) (drop_of_length-le l {i = i} h) ∙ take_short _ _ todo first last
-        (ne_eqb todo 0 (omega arith)))
-        ∙ inv
+        sym (take_short _ _ todo (is_none last) (unwrap_or last 0) (ne_eqb todo 0 (omega arith))) ∙ rw (nil_from_length ws h) at inv
 
-    -- w stands there
-    module _ (k : 0 < todo) (h : i < length l) where
-      abbrev w : ℕ
-      w = get_or l i 0
+  -- w is the first word of it
+  module _ (w : ℕ) (rest : List ℕ) (v : Rest) (inv : take_phase s off todo last (w ∷ rest) ≡ v) (k : 0 < todo) where
+    stops : may_come (switch_word off) (follows s off) todo (is_none last) (unwrap_or last 0) w ≡ false → refused ≡ v
+    stops m = sym (take_bad _ _ todo (is_none last) (unwrap_or last 0) w rest (ne_eqb todo 0 (omega arith)) m) ∙ inv
 
-      stops : may_come (switch_word off) (follows s off) todo first last w ≡ false → refused ≡ v
-      stops m =
-          sym (ap (take_phase s off todo first last) (drop-cons l i 0 h) ∙ take_bad _ _ todo first last w _
-          (ne_eqb todo 0 (omega arith)) m) ∙ inv
+    pub phase_other : None ≡ switched off (call_of w) → refused ≡ v
+    phase_other e = stops (come_none s off todo last w (sym e))
 
-      pub phase_other : (found : Option ℕ) → found ≡ switched off (call_of w) → found ≡ None → refused ≡ v
-      phase_other found e f = stops (come_none s off todo first last w (sym e ∙ f))
+    -- and switches r, a number of one byte
+    module _ (n r : ℕ) (e : Some n ≡ switched off (call_of w)) (byte : (r ≡ n) × (r < 256)) where
+      says : switched off (call_of w) ≡ Some r
+      says = sym e ∙ ap Some (sym byte.0)
 
-      -- and switches r, a number of one byte
-      module _ (found : Option ℕ) (n r : ℕ) (e : found ≡ switched off (call_of w)) (f : found ≡ Some n)
-          (same : r ≡ n) (u : r < 256) where
-        says : switched off (call_of w) ≡ Some r
-        says = sym e ∙ f ∙ ap Some (sym same)
+      pub phase_bad : false ≡ comes_next s off todo last r → refused ≡ v
+      phase_bad z = stops (come_is s off todo last w r byte.1 says ∙ sym z)
 
-        pub phase_bad : (b : Bool) → b ≡ comes_next s off todo first last r → not b ≡ true → refused ≡ v
-        phase_bad b m z = stops (come_is s off todo first last w r u says ∙ sym m ∙ not-true b z)
-
-        pub phase_next : (b : Bool) (rest : ℕ) → b ≡ comes_next s off todo first last r → not b ≡ false → rest ≡ minus todo (single r)
-            → take_phase s off rest false r (drop (i + 1) l) ≡ v
-        phase_next b rest m z p =
-            let may = come_is s off todo first last w r u says ∙ sym m ∙ not-false b z in
-            sym (ap (take_phase s off todo first last) (drop-cons l i 0 h) ∙ take_one _ _ todo first last w _
-            (ne_eqb todo 0 (omega arith)) may
-            ∙ rw (come_names s off todo first last w r u says, ← p, ← add-one i) refl)
-            ∙ inv
-
-pub still_below : (n todo r : ℕ) (b : Bool) → todo < 2 ^ n → b ≡ member todo r → not b ≡ false → r < n
-still_below n todo r b u m h = member_below n todo r u (sym m ∙ not-false b h)
-
-pub last_below : (n last : ℕ) (first : Bool) → (first ≡ false → last < n) → first ≡ false → last < n
-last_below n last first h e = h e
+      pub phase_next : (after : ℕ) → true ≡ comes_next s off todo last r → after ≡ minus todo (single r)
+          → take_phase s off after (Some r) rest ≡ v
+      phase_next after z p =
+          sym (take_one _ _ todo (is_none last) (unwrap_or last 0) w rest (ne_eqb todo 0 (omega arith)) (come_is s off todo last w r byte.1 says ∙ sym z)
+          ∙ rw (come_names s off todo last w r byte.1 says, ← p) refl)
+          ∙ inv
 
 pub rest_small : (n todo rest x : ℕ) → rest ≡ minus todo x → todo < 2 ^ n → rest < 2 ^ n
 rest_small n todo rest x e h = rw e (minus_lt _ _ _ h)
-
-pub ruleset next = (next_missing, next_first, next_follows, still_below, last_below)
 
 pub ruleset phases = (phase_done, phase_short, phase_other, phase_bad, phase_next, next_below, next_bit, rest_small)

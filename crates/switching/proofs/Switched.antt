@@ -14,7 +14,7 @@ use Rattle.rules.specs.Calls.{call_of}
 use Rattle.rules.specs.Check.{on_word, off_word, resource_in, may_come}
 use Rattle.calls.specs.Switch.{switch_word}
 use Rattle.calls.proofs.Inverse.{call_of_word, word_of_call}
-use Rattle.std.specs.Prelude.{Some, None}
+use Rattle.std.specs.Prelude.{is_none, unwrap_or}
 use Rattle.switching.specs.Decode.{switched_by, switched}
 use Rattle.switching.specs.Phases.{follows, comes_next}
 
@@ -43,8 +43,8 @@ names true r h = omega arith
 names false r h = omega arith
 
 -- ---- so the test of a word is the test of what it switches
-module _ (s : Station) (off : Bool) (todo : ℕ) (first : Bool) (last w : ℕ) where
-  pub come_none : switched off (call_of w) ≡ None → may_come (switch_word off) (follows s off) todo first last w ≡ false
+module _ (s : Station) (off : Bool) (todo : ℕ) (last : Option ℕ) (w : ℕ) where
+  pub come_none : switched off (call_of w) ≡ None → may_come (switch_word off) (follows s off) todo (is_none last) (unwrap_or last 0) w ≡ false
   unfolding may_come
   come_none e =
       decide (eqb w (switch_word off (resource_in w)))
@@ -59,6 +59,6 @@ module _ (s : Station) (off : Bool) (todo : ℕ) (first : Bool) (last w : ℕ) w
     pub come_names : resource_in w ≡ r
     come_names = ap resource_in is_word ∙ names off r h
 
-    pub come_is : may_come (switch_word off) (follows s off) todo first last w ≡ comes_next s off todo first last r
+    pub come_is : may_come (switch_word off) (follows s off) todo (is_none last) (unwrap_or last 0) w ≡ comes_next s off todo last r
     unfolding may_come comes_next
     come_is = rw (come_names, eq-eqb w (switch_word off r) is_word) refl

@@ -21,21 +21,21 @@ pub fn difference(table: &[u8], a: u64, b: u64) -> u64
     ensures { result ≡ minus a b }
 {
     if table::fields::width(table) == 8 {
-        return sets::minus(a, b);
+        sets::minus(a, b)
+    } else {
+        u64::from(sets::narrow::minus(a as u32, b as u32))
     }
-    sets::narrow::minus(a as u32, b as u32) as u64
 }
 
 // The calls from an on-set to a target set by value; the own call and its place are taken as they are.
+#[tactic(auto, unfolding(rules::specs::Calls::to_turn_on, rules::specs::Calls::to_turn_off))]
 pub fn switching(table: &[u8], own: Option<Call>, last: bool, on: u64, target: u64) -> Switching
     requires { WellSized table.now × (on < 2 ^ count_r table.now) × (target < 2 ^ count_r table.now) }
     ensures { result ≡ switching_of own last on target }
 {
-    let added = difference(table, target, on);
-    let removed = difference(table, on, target);
     Switching {
-        added,
-        removed,
+        added: difference(table, target, on),
+        removed: difference(table, on, target),
         own,
         last,
     }

@@ -69,7 +69,8 @@ pub fn write_calls(table: &[u8], c: Switching, plan: &mut [u32]) -> usize
     if c.last {
         let own = c.own;
         let p = write_switches(table, c.added, c.removed, plan, 0);
-        return write_own(own, plan, p);
+        write_own(own, plan, p)
+    } else {
+        write_own_first(table, c, plan)
     }
-    write_own_first(table, c, plan)
 }

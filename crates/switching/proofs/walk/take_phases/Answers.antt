@@ -1,12 +1,12 @@
-use Rattle.switching.proofs.Walks.{switches}
-use borrow.Author.Rules.{rules}
+use Rattle.rules.specs.Check.{and_then}
+use Rattle.switching.specs.Phases.{take_phases}
 use Rattle.switching.proofs.walk.take_phases.Goals as goal
 
-pub returns-in_default : goal.returns-in_default
-returns-in_default c = search (rules, switches)
-
-pub take_phase-requires-2 : goal.take_phase-requires-2
-take_phase-requires-2 c = search (rules, switches)
+-- The second phase goes on with what the first has left.
+pub returns-in_err-offs : goal.returns-in_err-offs
+unfolding take_phases and_then
+returns-in_err-offs c = rw (c.from_residual.ensures, ← c.in_err-offs.ensures)
 
 pub returns : goal.returns
-returns c = search (rules, switches)
+unfolding take_phases and_then
+returns c = rw (← c.in_ok-offs.ensures) c.take_phase-2.ensures

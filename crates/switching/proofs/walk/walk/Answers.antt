@@ -1,21 +1,16 @@
-use Rattle.switching.proofs.Walks.{walks}
+use Rattle.switching.specs.Phases.{walked}
+use Rattle.switching.proofs.Walks.{endings}
 use borrow.Author.Rules.{rules}
 use Rattle.switching.proofs.walk.walk.Goals as goal
 
+pub returns-in-Some-empty : goal.returns-in-Some-empty
+unfolding walked
+returns-in-Some-empty c = search (rules, endings)
+
 pub returns-in_default : goal.returns-in_default
-returns-in_default c = search (rules, walks)
+unfolding walked
+returns-in_default c = search (rules, endings)
 
-pub take_phases-requires : goal.take_phases-requires
-take_phases-requires c = search (rules, walks)
-
-pub returns-in_default-take_phases : goal.returns-in_default-take_phases
-returns-in_default-take_phases c = search (rules, walks)
-
-pub take_own-requires-2 : goal.take_own-requires-2
-take_own-requires-2 c = search (rules, walks)
-
-pub returns-in_default-take_own : goal.returns-in_default-take_own
-returns-in_default-take_own c = search (rules, walks)
-
-pub returns : goal.returns
-returns c = search (rules, walks)
+pub returns-in_default-2 : goal.returns-in_default-2
+unfolding walked
+returns-in_default-2 c = search (rules, endings)

@@ -1,9 +1,12 @@
-use Rattle.switching.proofs.Walks.{phases_alone}
+use Rattle.switching.proofs.Walks.{endings}
 use borrow.Author.Rules.{rules}
 use Rattle.switching.proofs.walk.walk_phases.Goals as goal
 
-pub returns-in_default : goal.returns-in_default
-returns-in_default c = search (rules, phases_alone)
+pub returns-in-Some-empty : goal.returns-in-Some-empty
+returns-in-Some-empty c = search (rules, endings)
 
-pub returns : goal.returns
-returns c = search (rules, phases_alone)
+pub returns-in_default : goal.returns-in_default
+returns-in_default c = search (rules, endings)
+
+pub returns-in_default-2 : goal.returns-in_default-2
+returns-in_default-2 c = search (rules, endings)
