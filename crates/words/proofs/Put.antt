@@ -4,24 +4,24 @@ use mathlib.Core.Path.{◌≡◌, refl, sym, ap, ◌∙◌}
 use mathlib.Core.List.{List, [], ◌∷◌, ◌++◌, append_assoc, append-nil}
 use Prim.Native.Nat.{ℕ, ◌+◌, ◌≤◌, ◌<◌}
 use native.Mathlib.Nat.{add_assoc, add-zero}
+use native.Mathlib.Numerals.{add-one}
 use native.Mathlib.Omega.{arith}
-use lib.ListN.{length, set, take, drop, length-append, length-take, length-drop, drop_of_length-le, take-append-drop}
-use lib.Seq.{sets, sets-eq, take_at, drop_at, drop-drop}
-use borrow.Rule.Slice.PartMut.{put_mid}
+use lib.ListN.{length, get_or, set, take, drop, length-append, length-take, length-drop, drop_of_length-le, take-append-drop}
+use lib.Seq.{length-take-le, take-suc, take_all, sets, sets-eq, take_at, drop_at, drop-drop}
 use Rattle.words.specs.Words.{put}
 
 -- ---- one run
 
-pub put_none : (d : List ℕ) (at : ℕ) → put d at [] ≡ d
+pub put_none : {A : Type 0} (d : List A) (at : ℕ) → put d at [] ≡ d
 unfolding put
 put_none d at = rw (add-zero at, append-nil (take at d)) (take-append-drop at d)
 
-pub length_put : (d : List ℕ) (at : ℕ) (ws : List ℕ) → at + length ws ≤ length d → length (put d at ws) ≡ length d
+pub length_put : {A : Type 0} (d : List A) (at : ℕ) (ws : List A) → at + length ws ≤ length d → length (put d at ws) ≡ length d
 unfolding put
 length_put d at ws h = simp (length-append, length-take, length-drop) (omega arith)
 
 -- a second run, from where the first ends
-pub put_put : (d : List ℕ) (at : ℕ) (xs ys : List ℕ) → at + length xs ≤ length d
+pub put_put : {A : Type 0} (d : List A) (at : ℕ) (xs ys : List A) → at + length xs ≤ length d
     → put (put d at xs) (at + length xs) ys ≡ put d at (xs ++ ys)
 unfolding put
 put_put d at xs ys h =
@@ -37,12 +37,12 @@ pub put_then : (d l : List ℕ) (at n : ℕ) (xs ys : List ℕ) → at + length 
 put_then d l at n xs ys h e f = f ∙ rw e (put_put d at xs ys h)
 
 -- stores one after another, as straight code makes them
-pub sets_put : (d : List ℕ) (at : ℕ) (ws : List ℕ) → at + length ws ≤ length d → sets d at ws ≡ put d at ws
+pub sets_put : {A : Type 0} (d : List A) (at : ℕ) (ws : List A) → at + length ws ≤ length d → sets d at ws ≡ put d at ws
 unfolding put
 sets_put d at ws h = sets-eq ws d at h
 
 -- one store more
-pub put_one : (d : List ℕ) (at : ℕ) (ws : List ℕ) (w : ℕ) → at + length ws < length d
+pub put_one : {A : Type 0} (d : List A) (at : ℕ) (ws : List A) (w : A) → at + length ws < length d
     → set (put d at ws) (at + length ws) w ≡ put d at (ws ++ w ∷ [])
 put_one d at ws w h =
     let l = length_put d at ws (omega arith) in
@@ -58,11 +58,17 @@ pub put_all : (d ws : List ℕ) → length ws ≡ length d → put d 0 ws ≡ ws
 unfolding put
 put_all d ws e = rw (drop_of_length-le d {i = 0 + length ws} (omega arith)) (append-nil ws)
 
--- a part of a slice that was overwritten, as the code leaves it
-pub part_put : {A : Type 0} (d ws : List A) (at k : ℕ) (ys : List A) → ys ≡ ws → k ≡ length ws → put_mid at k d ys ≡ put d at ws
-unfolding put
-part_put d ws at k ys e f =
-    rw (e, f, drop-drop (length ws) at d) (sym (append_assoc (take at d) ws (drop (at + length ws) d)))
+-- a turn of a loop that copies src, and its end
+module _ {A : Type 0} (d l src : List A) (at i : ℕ) (e : l ≡ put d at (take i src)) where
+  pub put_next : (x : A) → x ≡ get_or src i x → i < length src → at + length src ≤ length d
+      → set l (at + i) x ≡ put d at (take (i + 1) src)
+  put_next x f h k =
+      let long = length-take-le i src (omega (arith, h)) in
+      let place : at + i ≡ at + length (take i src) = omega arith in
+      rw (add-one i, take-suc src i x h, ← f, e, place) (put_one d at (take i src) x (omega arith))
+
+  pub put_last : length src ≤ i → l ≡ put d at src
+  put_last h = e ∙ ap (put d at) (take_all i src h)
 
 -- ---- what was written: d is the list at the start, ws what was put from `at` on, l the list now, p the next place
 

@@ -67,12 +67,14 @@ pub fn write64(s: &mut [u8], at: usize, x: u64)
     copy(&x.to_le_bytes(), s, at);
 }
 
-// All of `from`, from `at` on.
+// All of `from`, from `at` on. A loop: `copy_from_slice` compiles to calls of `memmove`, which the boards do not bring.
 pub fn copy<T: Copy>(from: &[T], out: &mut [T], at: usize)
     requires { at + length from.now ≤ length out.old }
     ensures { out.new ≡ put out.old at from.now }
 {
-    out[at..at + from.len()].copy_from_slice(from);
+    for (i, &x) in from.iter().enumerate() {
+        out[at + i] = x;
+    }
 }
 
 // The words as bytes, from the bytes of word `at` on.
