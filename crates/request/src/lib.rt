@@ -5,7 +5,7 @@ pub mod change;
 pub mod stages;
 
 ghost use Rattle.std.specs.Prelude.{◌≡◌, true, ◌<◌, ◌≤◌};
-ghost use Rattle.rules.specs.Index.{least};
+ghost use Rattle.rules.specs.Index.{least_below};
 ghost use Rattle.rules.specs.Station.{count_d, station};
 ghost use Rattle.rules.specs.Status.{entries};
 ghost use Rattle.rules.specs.Request.{form_good, not_shallower_or_d0, child_bars, wake_allows, move_verdict, arm_verdict, request_verdict};
@@ -65,21 +65,14 @@ fn child_bars(table: &[u8], devices: &[u8], d: usize, x: u8, c: usize) -> bool
     e.state < x
 }
 
-// 14: the lowest such child, or D.
-fn lowest_child(table: &[u8], devices: &[u8], d: usize, x: u8) -> usize
+// 14: the lowest such child.
+fn lowest_child(table: &[u8], devices: &[u8], d: usize, x: u8) -> Option<usize>
     requires { Ready table.now devices.now × (d < count_d table.now) }
-    ensures { result ≡ least (child_bars (station table.now) (entries table.now devices.now) d x)
+    ensures { result ≡ least_below (child_bars (station table.now) (entries table.now devices.now) d x)
         (count_d table.now) }
 {
     let n = table::fields::devices(table);
-    let mut i = 0;
-    while i < n {
-        if child_bars(table, devices, d, x, i) {
-            return i;
-        }
-        i += 1;
-    }
-    i
+    (0..n).find(|&c| child_bars(table, devices, d, x, c))
 }
 
 // 11 to 15: a move of device d to state x.
@@ -99,8 +92,7 @@ fn move_verdict(table: &[u8], devices: &[u8], d: usize, x: u8) -> Verdict
     if !status::consistency::parent_allows(table, devices, d, at, w, x) {
         return Err(Refusal(Reason::ParentDeeper, table::fields::parent(table, d) as usize));
     }
-    let c = lowest_child(table, devices, d, x);
-    if c < table::fields::devices(table) {
+    if let Some(c) = lowest_child(table, devices, d, x) {
         return Err(Refusal(Reason::ChildShallower, c));
     }
     if !wake_allows(e, x) {
