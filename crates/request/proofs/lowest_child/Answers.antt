@@ -1,0 +1,7 @@
+use mathlib.Core.Path.{refl}
+use Rattle.std.proofs.Common.{rules, tests}
+use Rattle.request.proofs.Find.{find_below}
+use Rattle.request.proofs.lowest_child.Goals as goal
+
+pub returns : goal.returns
+returns c = find_below _ _ _ _ _ _ c.find.ensures.ran refl c.devices-n.ensures.0 (λ x b q k. (search (rules, tests), search rules))
