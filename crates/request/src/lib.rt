@@ -19,25 +19,7 @@ use rules::{Entry, Reason, Refusal, Request, Verdict};
 fn numbers_good(q: Request) -> bool
     ensures { result ≡ numbers_good q }
 {
-    if q.kind == 1 {
-        if q.a > 4 {
-            return false;
-        }
-        return q.b == 0;
-    }
-    if q.kind == 2 {
-        if q.a > 4 {
-            return false;
-        }
-        return q.b <= 4;
-    }
-    if q.kind == 3 {
-        if q.a > 0 {
-            return false;
-        }
-        return q.b == 0;
-    }
-    false
+    matches!((q.kind, q.a, q.b), (1, 0..=4, 0) | (2, 0..=4, 0..=4) | (3, 0, 0))
 }
 
 // 10: whether the whole request is in form.
@@ -45,11 +27,7 @@ pub fn form_good(table: &[u8], q: Request) -> bool
     requires { WellSized table.now }
     ensures { result ≡ form_good (station table.now) q }
 {
-    let n = table::fields::devices(table);
-    if q.device as usize >= n {
-        return false;
-    }
-    numbers_good(q)
+    (q.device as usize) < table::fields::devices(table) && numbers_good(q)
 }
 
 // 14: whether c is a child of d and shallower than the target.
@@ -57,12 +35,7 @@ fn child_bars(table: &[u8], devices: &[u8], d: usize, x: u8, c: usize) -> bool
     requires { Ready table.now devices.now × (d < count_d table.now) × (c < count_d table.now) }
     ensures { result ≡ child_bars (station table.now) (entries table.now devices.now) d x c }
 {
-    let p = table::fields::parent(table, c);
-    if p as usize != d {
-        return false;
-    }
-    let e = status::image::entry(devices, c);
-    e.state < x
+    table::fields::parent(table, c) as usize == d && status::image::entry(devices, c).state < x
 }
 
 // 14: the lowest such child.
@@ -105,20 +78,14 @@ fn move_verdict(table: &[u8], devices: &[u8], d: usize, x: u8) -> Verdict
 fn not_shallower_or_d0(e: Entry, x: u8) -> bool
     ensures { result ≡ not_shallower_or_d0 e x }
 {
-    if x == 0 {
-        return true;
-    }
-    e.state <= x
+    x == 0 || e.state <= x
 }
 
 // 15: whether the device is not armed, or the target not deeper than wake D.
 fn wake_allows(e: Entry, x: u8) -> bool
     ensures { result ≡ wake_allows e x }
 {
-    if e.armed != 1 {
-        return true;
-    }
-    x <= e.wake
+    e.armed != 1 || x <= e.wake
 }
 
 // 16 to 18: device d armed for sleep state x and wake state y.
@@ -153,13 +120,11 @@ pub fn request_verdict(table: &[u8], devices: &[u8], q: Request) -> Verdict
         return Err(Refusal(Reason::BadRequest, 0));
     }
     let d = q.device as usize;
-    if q.kind == 1 {
-        return move_verdict(table, devices, d, q.a as u8);
+    match q.kind {
+        1 => move_verdict(table, devices, d, q.a as u8),
+        2 => arm_verdict(table, devices, d, q.a as u8, q.b as u8),
+        _ => Ok(0),
     }
-    if q.kind == 2 {
-        return arm_verdict(table, devices, d, q.a as u8, q.b as u8);
-    }
-    Ok(0)
 }
 
 // The entry after an accepted request.
@@ -167,26 +132,19 @@ pub fn new_entry(e: Entry, q: Request) -> Entry
     requires { (q.a ≤ 4) × (q.b ≤ 4) }
     ensures { result ≡ new_entry e q }
 {
-    if q.kind == 1 {
-        return Entry {
-            state: q.a as u8,
-            armed: e.armed,
-            sleep: e.sleep,
-            wake: e.wake,
-        };
-    }
-    if q.kind == 2 {
-        return Entry {
-            state: e.state,
+    match q.kind {
+        1 => Entry { state: q.a as u8, ..e },
+        2 => Entry {
             armed: 1,
             sleep: q.a as u8,
             wake: q.b as u8,
-        };
-    }
-    Entry {
-        state: e.state,
-        armed: 0,
-        sleep: 0,
-        wake: 0,
+            ..e
+        },
+        _ => Entry {
+            armed: 0,
+            sleep: 0,
+            wake: 0,
+            ..e
+        },
     }
 }
