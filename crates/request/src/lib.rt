@@ -16,6 +16,7 @@ ghost use Rattle.status.specs.Ready.{Ready};
 use rules::{Entry, Reason, Refusal, Request, Verdict};
 
 // 10: whether kind and numbers are in range and unused ones zero.
+#[tactic(auto, unfolding(rules::specs::Request::numbers_good))]
 fn numbers_good(q: Request) -> bool
     ensures { result ≡ numbers_good q }
 {
@@ -23,6 +24,7 @@ fn numbers_good(q: Request) -> bool
 }
 
 // 10: whether the whole request is in form.
+#[tactic(auto, unfolding(rules::specs::Request::form_good, rules::specs::Station::station_of))]
 pub fn form_good(table: &[u8], q: Request) -> bool
     requires { WellSized table.now }
     ensures { result ≡ form_good (station table.now) q }
@@ -31,6 +33,7 @@ pub fn form_good(table: &[u8], q: Request) -> bool
 }
 
 // 14: whether c is a child of d and shallower than the target.
+#[tactic(auto, using(status::proofs::Keeps::entry_ready), unfolding(rules::specs::Request::child_bars))]
 fn child_bars(table: &[u8], devices: &[u8], d: usize, x: u8, c: usize) -> bool
     requires { Ready table.now devices.now × (d < count_d table.now) × (c < count_d table.now) }
     ensures { result ≡ child_bars (station table.now) (entries table.now devices.now) d x c }
@@ -75,6 +78,7 @@ fn move_verdict(table: &[u8], devices: &[u8], d: usize, x: u8) -> Verdict
 }
 
 // 12: whether the target is not shallower than the present state, or D0.
+#[tactic(auto, unfolding(rules::specs::Request::not_shallower_or_d0))]
 fn not_shallower_or_d0(e: Entry, x: u8) -> bool
     ensures { result ≡ not_shallower_or_d0 e x }
 {
@@ -82,6 +86,7 @@ fn not_shallower_or_d0(e: Entry, x: u8) -> bool
 }
 
 // 15: whether the device is not armed, or the target not deeper than wake D.
+#[tactic(auto, unfolding(rules::specs::Request::wake_allows))]
 fn wake_allows(e: Entry, x: u8) -> bool
     ensures { result ≡ wake_allows e x }
 {
@@ -128,6 +133,7 @@ pub fn request_verdict(table: &[u8], devices: &[u8], q: Request) -> Verdict
 }
 
 // The entry after an accepted request.
+#[tactic(auto, unfolding(rules::specs::Request::new_entry))]
 pub fn new_entry(e: Entry, q: Request) -> Entry
     requires { (q.a ≤ 4) × (q.b ≤ 4) }
     ensures { result ≡ new_entry e q }
