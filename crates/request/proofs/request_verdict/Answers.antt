@@ -1,0 +1,24 @@
+use Rattle.std.proofs.Common.{rules}
+use Rattle.request.proofs.Rules.{asking, in_range}
+use Rattle.request.proofs.request_verdict.Goals as goal
+
+pub overflow_cast-q : goal.overflow_cast-q
+overflow_cast-q c = search in_range
+
+pub move_verdict-requires : goal.move_verdict-requires
+move_verdict-requires c = search in_range
+
+pub overflow_cast-q-in-2 : goal.overflow_cast-q-in-2
+overflow_cast-q-in-2 c = search in_range
+
+pub overflow_cast-q-in-2-2 : goal.overflow_cast-q-in-2-2
+overflow_cast-q-in-2-2 c = search in_range
+
+pub arm_verdict-requires : goal.arm_verdict-requires
+arm_verdict-requires c = search in_range
+
+pub returns-in-1 : goal.returns-in-1
+returns-in-1 c = search (rules, asking)
+
+pub returns-in-2 : goal.returns-in-2
+returns-in-2 c = search (rules, asking)
