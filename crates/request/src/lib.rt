@@ -52,7 +52,6 @@ fn lowest_child(table: &[u8], devices: &[u8], d: usize, x: u8) -> Option<usize>
 }
 
 // 11 to 15: a move of device d to state x.
-#[tactic(auto, using(status::proofs::Keeps::entry_ready), unfolding(rules::specs::Request::move_verdict, rules::specs::Answers::first_of, rules::specs::Answers::unless, rules::specs::Answers::passes))]
 fn move_verdict(table: &[u8], devices: &[u8], d: usize, x: u8) -> Verdict
     requires { Ready table.now devices.now × (d < count_d table.now) }
     ensures { result ≡ move_verdict (station table.now) (entries table.now devices.now) d x }
@@ -95,7 +94,6 @@ fn wake_allows(e: Entry, x: u8) -> bool
 }
 
 // 16 to 18: device d armed for sleep state x and wake state y.
-#[tactic(auto, unfolding(rules::specs::Request::arm_verdict, rules::specs::Answers::first_of, rules::specs::Answers::unless, rules::specs::Answers::passes))]
 fn arm_verdict(table: &[u8], devices: &[u8], d: usize, x: u8, y: u8) -> Verdict
     requires { Ready table.now devices.now × (d < count_d table.now) × (x < 5) }
     ensures { result ≡ arm_verdict (station table.now) (entries table.now devices.now) d x y }
@@ -115,7 +113,6 @@ fn arm_verdict(table: &[u8], devices: &[u8], d: usize, x: u8, y: u8) -> Verdict
 }
 
 // 10 to 18.
-#[tactic(auto, unfolding(rules::specs::Request::request_verdict, rules::specs::Request::kind_verdict, rules::specs::Answers::first_of, rules::specs::Answers::unless, rules::specs::Answers::passes))]
 pub fn request_verdict(table: &[u8], devices: &[u8], q: Request) -> Verdict
     requires { Ready table.now devices.now }
     ensures { result ≡ request_verdict (station table.now) (entries table.now devices.now) q }

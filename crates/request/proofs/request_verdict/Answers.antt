@@ -1,6 +1,16 @@
 use Rattle.std.proofs.Common.{rules}
+use Rattle.rules.specs.Answers.{passes, first_of, unless}
+use Rattle.rules.specs.Request.{request_verdict, kind_verdict}
 use Rattle.request.proofs.Rules.{asking, in_range}
 use Rattle.request.proofs.request_verdict.Goals as goal
+
+pub returns-in_default : goal.returns-in_default
+unfolding request_verdict kind_verdict first_of unless passes
+returns-in_default c = search rules
+
+pub returns-then-not-form_good : goal.returns-then-not-form_good
+unfolding request_verdict first_of unless passes
+returns-then-not-form_good c = search rules
 
 pub overflow_cast-q : goal.overflow_cast-q
 overflow_cast-q c = search in_range
