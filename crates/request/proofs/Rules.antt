@@ -2,10 +2,10 @@
 use mathlib.Core.Path.{◌≡◌, refl, sym, ap, ◌∙◌}
 use mathlib.Core.Bool.{Bool, true, false, not, ◌&&◌}
 use mathlib.Core.List.{List, [], ◌∷◌}
-use Prim.Native.Nat.{ℕ, ◌*◌, ◌-◌, ◌<◌, ◌≤◌}
+use Prim.Native.Nat.{ℕ, ◌*◌, ◌<◌, ◌≤◌}
 use native.Mathlib.Omega.{arith}
-use borrow.Author.Tests.{eq-eqb, ne_eqb, le-leb, lt-leb, lt-ltb, le-ltb, not-true, not-false}
-use lib.Dec.{eqb, leb, ltb}
+use borrow.Author.Tests.{ne_eqb, le-leb, lt-leb, not-true, not-false}
+use lib.Dec.{leb}
 use mir.Syntax.{w8}
 use mir.Val.{Fits}
 use Rattle.rules.specs.declared.Entry.{Entry}
@@ -14,14 +14,14 @@ use Rattle.rules.specs.Verdict.{Verdict}
 use Rattle.std.specs.Prelude.{Option, Some, None, Ok}
 use Rattle.rules.specs.Verdict.{refuse}
 use Rattle.rules.specs.declared.Reason.{Reason}
-use Rattle.rules.specs.declared.Reason.TheVariants.{BadRequest, Unsupported, Shallower, ParentDeeper, ChildShallower, TooDeepToWake}
-use Rattle.rules.specs.declared.Reason.TheVariants.{NoWake, WakeUnpowered, BadWakeState}
+use Rattle.rules.specs.declared.Reason.TheVariants.{BadRequest, ChildShallower, TooDeepToWake}
+use Rattle.rules.specs.declared.Reason.TheVariants.{BadWakeState}
 use Rattle.rules.specs.Index.{least_below}
 use Rattle.rules.specs.Answers.{passes, first_of, unless, lowest}
 use Rattle.rules.specs.Station.{Station, count_d, station_of, station}
 use Rattle.rules.specs.Power.{supported, wake_from, wake_powered, wake_state}
 use Rattle.rules.specs.Request.{form_good, not_shallower_or_d0, child_bars, wake_allows, move_verdict, arm_verdict}
-use Rattle.rules.specs.Request.{kind_verdict, request_verdict, new_entry, numbers_good}
+use Rattle.rules.specs.Request.{kind_verdict, request_verdict}
 use Rattle.rules.specs.Status.{entry_at, entries, parent_allows}
 use Rattle.rules.proofs.Answers.{done_passes, lowest_some, lowest_no, first_pass, first_alone}
 use Rattle.laws.proofs.States.{small, form_device}

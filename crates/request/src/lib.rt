@@ -20,7 +20,10 @@ use rules::{Entry, Reason, Refusal, Request, Verdict};
 fn numbers_good(q: Request) -> bool
     ensures { result ≡ numbers_good q }
 {
-    matches!((q.kind, q.a, q.b), (1, 0..=4, 0) | (2, 0..=4, 0..=4) | (3, 0, 0))
+    matches!(
+        (q.kind, q.a, q.b),
+        (1, 0..=4, 0) | (2, 0..=4, 0..=4) | (3, 0, 0)
+    )
 }
 
 // 10: whether the whole request is in form.
@@ -66,7 +69,10 @@ fn move_verdict(table: &[u8], devices: &[u8], d: usize, x: u8) -> Verdict
         return Err(Refusal(Reason::Shallower, 0));
     }
     if !status::consistency::parent_allows(table, devices, d, at, w, x) {
-        return Err(Refusal(Reason::ParentDeeper, table::fields::parent(table, d) as usize));
+        return Err(Refusal(
+            Reason::ParentDeeper,
+            table::fields::parent(table, d) as usize,
+        ));
     }
     if let Some(c) = lowest_child(table, devices, d, x) {
         return Err(Refusal(Reason::ChildShallower, c));
@@ -106,7 +112,9 @@ fn arm_verdict(table: &[u8], devices: &[u8], d: usize, x: u8, y: u8) -> Verdict
     if !power::wake::wake_powered(table, d, at, w, x) {
         return Err(Refusal(Reason::WakeUnpowered, 0));
     }
-    if !power::wake::wake_state(table, d, at, w, x, y) || status::image::entry(devices, d).state > y {
+    if !power::wake::wake_state(table, d, at, w, x, y)
+        || status::image::entry(devices, d).state > y
+    {
         return Err(Refusal(Reason::BadWakeState, 0));
     }
     Ok(0)
@@ -135,7 +143,10 @@ pub fn new_entry(e: Entry, q: Request) -> Entry
     ensures { result ≡ new_entry e q }
 {
     match q.kind {
-        1 => Entry { state: q.a as u8, ..e },
+        1 => Entry {
+            state: q.a as u8,
+            ..e
+        },
         2 => Entry {
             armed: 1,
             sleep: q.a as u8,

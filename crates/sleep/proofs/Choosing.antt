@@ -1,56 +1,31 @@
 -- Which states a device may take, the least of them, and answers 10 and 20: a law for each way out of the code that tests them.
-use mathlib.Core.Path.{◌≡◌, refl, sym, ap, ◌∙◌}
-use mathlib.Core.Bool.{Bool, true, false, not, ◌&&◌, and-true, and-false, and_comm}
+use mathlib.Core.Path.{◌≡◌, refl, sym, ◌∙◌}
+use mathlib.Core.Bool.{Bool, true, false, ◌&&◌, and-false, and_comm}
 use mathlib.Core.Logic.{⊎_elim}
 use mathlib.Core.List.{List}
-use Prim.Native.Nat.{ℕ, ◌+◌, ◌*◌, ◌-◌, ◌≤◌, ◌<◌}
-use native.Mathlib.Nat.{eq-or-lt_of_le}
+use Prim.Native.Nat.{ℕ, ◌+◌, ◌*◌, ◌≤◌, ◌<◌}
 use native.Mathlib.Omega.{arith}
-use borrow.Author.Tests.{eqb-true, eq-eqb, ne_eqb, ltb-true, leb-true, le-leb, lt-leb, not-true, not-false}
+use borrow.Author.Tests.{eqb-true, ltb-true, le-leb, lt-leb}
 use lib.Dec.{eqb, leb, ltb}
 use lib.ListN.{length, set}
 use Rattle.words.specs.Words.{put}
-use Rattle.sets.proofs.Laws.{decide}
 use Rattle.rules.specs.declared.Entry.{Entry}
-use Rattle.rules.specs.declared.Request.{Request}
-use Rattle.rules.specs.Station.{Station, count_d, station_of, station}
+use Rattle.rules.specs.Station.{count_d, station_of, station}
 use Rattle.rules.specs.Table.{parent_good}
 use Rattle.rules.specs.Power.{supported, needs, powered_in}
 use Rattle.rules.specs.Status.{entry_at, entries, under_parent}
 use Rattle.rules.specs.Request.{in_state}
-use Rattle.rules.specs.Sleep.{sleep_form_good, armed_for_other, sxd_allows, wake_d_if_armed, may_take, may_take_under, least_state, least_choice, stays}
-use Rattle.rules.specs.Index.{every, least_from, least, each}
-use Rattle.rules.proofs.Index.{starts, found, next, done, no_hit}
+use Rattle.rules.specs.Sleep.{armed_for_other, sxd_allows, wake_d_if_armed, may_take, may_take_under, least_state, least_choice}
+use Rattle.rules.specs.Index.{each}
 use Rattle.laws.proofs.Tests.{or_cases}
-use Rattle.laws.proofs.Every.{every_from, every_starts, every_next, every_stops, every_done, least_part}
 use Rattle.laws.proofs.Choice.{least_by}
-use Rattle.table.proofs.Readers.{record_at}
 use Rattle.status.specs.Ready.{Ready}
 use Rattle.status.proofs.Keeps.{entry_ready}
 use Rattle.status.proofs.Filled.{filled_none, filled_next, filled_at}
 use Rattle.sleep.specs.Chosen.{states_in, deep_enough, other_rules, least_each}
 
--- ---- the shallowest state that is left: which states y are not shallower than it
--- by `_SxD`, whose value is v
-module _ (s : Station) (x d v : ℕ) (q : v ≡ (s.device d).sxd x) where
-  pub sxd_none : v ≡ 255 → (y : ℕ) → leb 0 y ≡ sxd_allows s x d y
-  unfolding sxd_allows
-  sxd_none e y = rw (← q, eq-eqb v 255 e) (le-leb 0 y (omega arith))
-
-  pub sxd_some : (v ≡ 255 → ⊥) → (y : ℕ) → leb v y ≡ sxd_allows s x d y
-  unfolding sxd_allows
-  sxd_some n y = rw (← q, ne_eqb v 255 n) refl
-
-pub ruleset sxd_laws = (sxd_none, sxd_some)
-
--- by the parent, whose number is p
+-- ---- a parent, whose number is p
 module _ (t : List ℕ) (d p : ℕ) (q : p ≡ ((station t).device d).parent) where
-  pub under_none : (chosen : List ℕ) → p ≡ 255 → (y : ℕ) → leb 0 y ≡ under_parent (station t) (states_in chosen) d y
-  under_none chosen e y = rw (← q, eq-eqb p 255 e) (le-leb 0 y (omega arith))
-
-  pub under_some : (chosen : List ℕ) → (p ≡ 255 → ⊥) → (y : ℕ) → leb (states_in chosen p) y ≡ under_parent (station t) (states_in chosen) d y
-  under_some chosen n y = rw (← q, ne_eqb p 255 n) refl
-
   -- it is lower than its child
   pub parent_inside : (n : ℕ) → parent_good d ((station t).device d) ≡ true → d < count_d t → count_d t ≤ n → (p ≡ 255 → ⊥) → p < n
   unfolding parent_good
@@ -58,22 +33,9 @@ module _ (t : List ℕ) (d p : ℕ) (q : p ≡ ((station t).device d).parent) wh
       let u = ((station t).device d).parent in
       ⊎_elim (λ a. omega (arith, ltb-true u d a)) (λ a. absurd (some (q ∙ eqb-true u 255 a))) (or_cases (ltb u d) (eqb u 255) good)
 
-pub ruleset under_laws = (under_none, under_some, parent_inside)
-
--- ---- a device that stays
-pub stays_is : (t b chosen : List ℕ) (d : ℕ) (e : Entry) → Ready t b → d < count_d t → e ≡ entry_at b (4 * d)
-    → eqb (states_in chosen d) e.state ≡ stays (entries t b) (states_in chosen) d
-stays_is t b chosen d e r h i = rw (entry_ready t b d e r h i) refl
-
 -- whether device d is armed for another sleep state
 abbrev pub other : List ℕ → List ℕ → ℕ → ℕ → Bool
 other t b x d = armed_for_other (entries t b d) x
-
--- what the functions ask that the search for a device's state calls
-pub parent_ready : (t b : List ℕ) (d : ℕ) → Ready t b → d < count_d t → parent_good d ((station t).device d) ≡ true
-parent_ready t b d r h = r.parents d h
-
-pub ruleset asking = (parent_ready, record_at)
 
 -- ---- which states a device may take
 -- the three tests that the shallowest state stands for, brought together before the other three
@@ -104,7 +66,7 @@ module _ (t b chosen : List ℕ) (x d : ℕ) (r : Ready t b) (k : d < count_d t)
   taken_by y c test low = sym (taken_is y ∙ rw (le-leb v y low) (sym test))
 
 -- ---- the loop that chooses; y is the least state of device i, and the devices below it have theirs
-pub choose_next : (t b chosen₀ chosen : List ℕ) (x i n y : ℕ) → Ready t b → n ≡ count_d t → i < n → n ≤ length chosen₀
+pub choose_next : (t b chosen₀ chosen : List ℕ) (x i n y : ℕ) → Ready t b → n ≡ count_d t → i < n → count_d t ≤ length chosen₀
     → chosen ≡ put chosen₀ 0 (each (least_choice (station t) (entries t b) x) i)
     → y ≡ least_state (station t) (entries t b) x (states_in chosen) i
     → set chosen i y ≡ put chosen₀ 0 (each (least_choice (station t) (entries t b) x) (i + 1))
@@ -113,7 +75,7 @@ choose_next t b chosen₀ chosen x i n y r k h l inv e =
     let least : least_state (station t) (entries t b) x (states_in chosen) i ≡ f i =
     least_by (station t) (entries t b) x (states_in chosen) i (unfold station_of in omega arith) (r.parents i (omega arith))
     (λ d u. filled_at f chosen₀ chosen i d inv u) in
-    filled_next f chosen₀ chosen i n y inv h l (e ∙ least)
+    filled_next f chosen₀ chosen i n y inv h (omega arith) (e ∙ least)
 
 pub choose_done : (t b chosen₀ chosen : List ℕ) (x i n : ℕ) → chosen ≡ put chosen₀ 0 (each (least_choice (station t) (entries t b) x) i)
     → i ≤ n → n ≤ i → n ≡ count_d t → chosen ≡ least_each t b x chosen₀

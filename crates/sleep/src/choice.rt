@@ -57,11 +57,16 @@ fn other_rules_allow(table: &[u8], x: u8, d: usize, at: usize, w: usize, e: Entr
 {
     wake_d_if_armed(e, y)
         && power::supported(table, d, at, w, y)
-        && power::wake::powered_in(table, power::needs(table, d, at, w, Entry { state: y, ..e }), x)
+        && power::wake::powered_in(
+            table,
+            power::needs(table, d, at, w, Entry { state: y, ..e }),
+            x,
+        )
 }
 
-// The least state that device d may take under its parent's in `chosen`; 5 if there is none. The loop starts at the shallowest one that
-// is left, which is worked out once, so that no turn asks again for the present state, `_SxD` and the parent's.
+// The least state that device d may take under its parent's in `chosen`; 5 if there is none, a byte and no
+// `Option` since `chosen` holds bytes. The search starts at the shallowest one that is left, which is worked out once, so that no turn asks
+// again for the present state, `_SxD` and the parent's.
 fn least_state(table: &[u8], devices: &[u8], chosen: &[u8], x: u8, d: usize) -> u8
     requires { Ready table.now devices.now × (d < count_d table.now) × (count_d table.now ≤ length chosen.now) × (x < 5) }
     ensures { result ≡ least_state (station table.now) (entries table.now devices.now) x
@@ -71,7 +76,9 @@ fn least_state(table: &[u8], devices: &[u8], chosen: &[u8], x: u8, d: usize) -> 
     let w = table::fields::width(table);
     let e = status::image::entry(devices, d);
     let least = shallowest(table, chosen, x, d, at, w, e.state);
-    (least..5).find(|&y| other_rules_allow(table, x, d, at, w, e, y)).unwrap_or(5)
+    (least..5)
+        .find(|&y| other_rules_allow(table, x, d, at, w, e, y))
+        .unwrap_or(5)
 }
 
 // The least choice, from the lowest device on: a parent's state is there before its children's.
@@ -95,6 +102,7 @@ pub fn has_choice(table: &[u8], chosen: &[u8]) -> bool
 }
 
 // Device d stays: its state in `chosen` is its present one.
+#[tactic(auto, using(status::proofs::Keeps::entry_ready))]
 pub fn stays(table: &[u8], devices: &[u8], chosen: &[u8], d: usize) -> bool
     requires { Ready table.now devices.now × (d < count_d table.now) × (count_d table.now ≤ length chosen.now) }
     ensures { result ≡ stays (entries table.now devices.now) (states_in chosen.now) d }

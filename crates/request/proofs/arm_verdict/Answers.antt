@@ -16,8 +16,8 @@ returns-then-not-wake_powered c = search rules
 pub returns-then-not-wake_state : goal.returns-then-not-wake_state
 returns-then-not-wake_state c =
     elim c.then-not-wake_state.branch [
-      then-not-wake_state-via-then-not-wake_state w ↦ search (rules, arming)
-    | then-not-wake_state-via-else-not-wake_state+then-entry-y w ↦ search (rules, arming)
+      | then-not-wake_state-via-then-not-wake_state w ↦ search (rules, arming)
+      | then-not-wake_state-via-else-not-wake_state+then-entry-y w ↦ search (rules, arming)
     ]
 
 pub returns : goal.returns

@@ -1,5 +1,5 @@
 use mathlib.Core.Path.{refl}
-use Rattle.std.proofs.Common.{rules, tests}
+use Rattle.std.proofs.Common.{rules}
 use Rattle.request.proofs.Find.{find_below}
 use Rattle.request.proofs.lowest_child.Goals as goal
 

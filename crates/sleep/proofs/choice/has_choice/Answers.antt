@@ -1,4 +1,3 @@
-use mathlib.Core.Path.{refl}
 use lib.Dec.{ltb}
 use Rattle.std.proofs.Common.{rules}
 use Rattle.request.proofs.Find.{all_bytes}
