@@ -135,10 +135,6 @@ module _ (t b : List ℕ) (q : Request) (room : Bool) where
   unfolding sleep_stages
   sleep_table v e n = ready_stops room t b _ v (ready_table t v e b room n) n
 
-  -- h: whether the header is good
-  pub sleep_header : (h : Bool) → h ≡ header_good t → not h ≡ true → refuse NotATable 0 ≡ sleep_stages room t b q
-  sleep_header h e n = sleep_table (refuse NotATable 0) (no_table t h e n) (refused_stops NotATable 0)
-
 -- ---- 1 to 9, then these. The checks of requests answer 10 to kind 4 exactly where 1 to 9 pass
 sleep_bad : (s : Station) (entries : ℕ → Entry) (q : Request) → is_sleep q ≡ true → request_verdict s entries q ≡ refuse BadRequest 0
 unfolding request_verdict form_good numbers_good
