@@ -13,11 +13,11 @@ use Rattle.rules.specs.Verdict.{Verdict}
 use Rattle.std.specs.Prelude.{Option, Some, None, Ok}
 use Rattle.rules.specs.Verdict.{refuse}
 use Rattle.rules.specs.declared.Reason.{Reason}
-use Rattle.rules.specs.declared.Reason.TheVariants.{NotATable, BadRequest, ArmedForOther, NoChoice}
+use Rattle.rules.specs.declared.Reason.TheVariants.{BadRequest, ArmedForOther, NoChoice}
 use Rattle.rules.specs.Index.{every, least_below}
 use Rattle.rules.specs.Answers.{number_of, passes, first_of, unless, lowest}
 use Rattle.rules.specs.Station.{Station, count_d, station_of, station}
-use Rattle.rules.specs.Table.{header_good, table_verdict}
+use Rattle.rules.specs.Table.{table_verdict}
 use Rattle.rules.specs.Status.{entries, status_of, status}
 use Rattle.rules.specs.Request.{numbers_good, form_good, request_verdict}
 use Rattle.rules.specs.Sleep.{is_sleep, sleep_form_good, has_choice, armed_verdict, sleep_verdict}
@@ -26,7 +26,6 @@ use Rattle.rules.proofs.Answers.{done_passes, refused_stops, first_pass, first_s
 use Rattle.rules.proofs.Answers.{first_both, lowest_some, lowest_no}
 use Rattle.laws.proofs.Tests.{both_true}
 use Rattle.laws.proofs.Every.{every_ext}
-use Rattle.table.proofs.Verdicts.{no_table}
 use Rattle.status.proofs.Filled.{filled_at}
 use Rattle.laws.proofs.Stages.{ready_at}
 use Rattle.laws.proofs.SleepStages.{ready_below}
