@@ -27,14 +27,14 @@ use Rattle.rules.proofs.Index.{no_hit, some_least, no_least, every_at, every_of_
 use Rattle.laws.proofs.Every.{same_test, least_part}
 
 -- the least number that passes a test, where none below y does: y, if it passes or is the end
-pub least_is : (f : ℕ → Bool) (n y : ℕ) → y ≤ n → (y < n → f y ≡ true) → ((k : ℕ) → k < y → f k ≡ false) → y ≡ least f n
+least_is : (f : ℕ → Bool) (n y : ℕ) → y ≤ n → (y < n → f y ≡ true) → ((k : ℕ) → k < y → f k ≡ false) → y ≡ least f n
 least_is f n y h e none = sym (no_hit f 0 y (λ j a b. none j (omega arith)) ∙ omega arith) ∙ least_part f f y n (λ i l. refl) h e
 
 -- ---- `find` over the numbers of a range, whose end is n
 module _ {F : Type 0} {g : Mut F (Bor ℕ × Unit {0}) Bool} (f : ℕ → Bool) (s u : Range ℕ) (p : F) (n : ℕ) (r : Option ℕ)
     (d : FindsItem nat_range_steps g s p r u) (high : s.end ≡ n)
     (is : (x : ℕ) (b : Bool) (q : F) → CalledAt g p x b q → (q ≡ p) × (s.start ≤ x → x < n → b ≡ f x)) where
-  pub find_in : MatchOption r ((k : ℕ) → s.start ≤ k → k < n → f k ≡ false)
+  find_in : MatchOption r ((k : ℕ) → s.start ≤ k → k < n → f k ≡ false)
       (λ i. (s.start ≤ i) × (i < n) × (f i ≡ true) × ((k : ℕ) → s.start ≤ k → k < i → f k ≡ false))
   find_in =
       by r (first_from_Range s u p r (λ i. s.start ≤ i → i < n → f i ≡ true) (λ i. s.start ≤ i → i < n → f i ≡ false) d

@@ -26,7 +26,7 @@ use Rattle.rules.specs.Status.{entry_at, entries, parent_allows}
 use Rattle.rules.proofs.Answers.{done_passes, lowest_some, lowest_no, first_pass, first_alone}
 use Rattle.laws.proofs.States.{small, form_device}
 use Rattle.status.specs.Ready.{Ready}
-use Rattle.status.proofs.Keeps.{devices_are, entry_ready}
+use Rattle.status.proofs.Keeps.{entry_ready}
 
 -- what the checks of each kind ask, a law for each number, so that the search finds it; f is the answer of the form's test
 module _ (t : List ℕ) (q : Request) (f : Bool) (form : f ≡ form_good (station t) q) (good : not f ≡ false) where
