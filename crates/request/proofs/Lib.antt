@@ -1,3 +1,4 @@
+pub mod Find
 pub mod Rules
 pub mod Chain
 pub mod Changes

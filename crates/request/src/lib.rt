@@ -5,7 +5,7 @@ pub mod change;
 pub mod stages;
 
 ghost use Rattle.std.specs.Prelude.{◌≡◌, true, ◌<◌, ◌≤◌};
-ghost use Rattle.rules.specs.Index.{least};
+ghost use Rattle.rules.specs.Index.{least_below};
 ghost use Rattle.rules.specs.Station.{count_d, station};
 ghost use Rattle.rules.specs.Status.{entries};
 ghost use Rattle.rules.specs.Request.{form_good, not_shallower_or_d0, child_bars, wake_allows, move_verdict, arm_verdict, request_verdict};
@@ -16,70 +16,42 @@ ghost use Rattle.status.specs.Ready.{Ready};
 use rules::{Entry, Reason, Refusal, Request, Verdict};
 
 // 10: whether kind and numbers are in range and unused ones zero.
+#[tactic(auto, unfolding(rules::specs::Request::numbers_good))]
 fn numbers_good(q: Request) -> bool
     ensures { result ≡ numbers_good q }
 {
-    if q.kind == 1 {
-        if q.a > 4 {
-            return false;
-        }
-        return q.b == 0;
-    }
-    if q.kind == 2 {
-        if q.a > 4 {
-            return false;
-        }
-        return q.b <= 4;
-    }
-    if q.kind == 3 {
-        if q.a > 0 {
-            return false;
-        }
-        return q.b == 0;
-    }
-    false
+    matches!(
+        (q.kind, q.a, q.b),
+        (1, 0..=4, 0) | (2, 0..=4, 0..=4) | (3, 0, 0)
+    )
 }
 
 // 10: whether the whole request is in form.
+#[tactic(auto, unfolding(rules::specs::Request::form_good, rules::specs::Station::station_of))]
 pub fn form_good(table: &[u8], q: Request) -> bool
     requires { WellSized table.now }
     ensures { result ≡ form_good (station table.now) q }
 {
-    let n = table::fields::devices(table);
-    if q.device as usize >= n {
-        return false;
-    }
-    numbers_good(q)
+    (q.device as usize) < table::fields::devices(table) && numbers_good(q)
 }
 
 // 14: whether c is a child of d and shallower than the target.
+#[tactic(auto, using(status::proofs::Keeps::entry_ready), unfolding(rules::specs::Request::child_bars))]
 fn child_bars(table: &[u8], devices: &[u8], d: usize, x: u8, c: usize) -> bool
     requires { Ready table.now devices.now × (d < count_d table.now) × (c < count_d table.now) }
     ensures { result ≡ child_bars (station table.now) (entries table.now devices.now) d x c }
 {
-    let p = table::fields::parent(table, c);
-    if p as usize != d {
-        return false;
-    }
-    let e = status::image::entry(devices, c);
-    e.state < x
+    table::fields::parent(table, c) as usize == d && status::image::entry(devices, c).state < x
 }
 
-// 14: the lowest such child, or D.
-fn lowest_child(table: &[u8], devices: &[u8], d: usize, x: u8) -> usize
+// 14: the lowest such child.
+fn lowest_child(table: &[u8], devices: &[u8], d: usize, x: u8) -> Option<usize>
     requires { Ready table.now devices.now × (d < count_d table.now) }
-    ensures { result ≡ least (child_bars (station table.now) (entries table.now devices.now) d x)
+    ensures { result ≡ least_below (child_bars (station table.now) (entries table.now devices.now) d x)
         (count_d table.now) }
 {
     let n = table::fields::devices(table);
-    let mut i = 0;
-    while i < n {
-        if child_bars(table, devices, d, x, i) {
-            return i;
-        }
-        i += 1;
-    }
-    i
+    (0..n).find(|&c| child_bars(table, devices, d, x, c))
 }
 
 // 11 to 15: a move of device d to state x.
@@ -97,10 +69,12 @@ fn move_verdict(table: &[u8], devices: &[u8], d: usize, x: u8) -> Verdict
         return Err(Refusal(Reason::Shallower, 0));
     }
     if !status::consistency::parent_allows(table, devices, d, at, w, x) {
-        return Err(Refusal(Reason::ParentDeeper, table::fields::parent(table, d) as usize));
+        return Err(Refusal(
+            Reason::ParentDeeper,
+            table::fields::parent(table, d) as usize,
+        ));
     }
-    let c = lowest_child(table, devices, d, x);
-    if c < table::fields::devices(table) {
+    if let Some(c) = lowest_child(table, devices, d, x) {
         return Err(Refusal(Reason::ChildShallower, c));
     }
     if !wake_allows(e, x) {
@@ -110,23 +84,19 @@ fn move_verdict(table: &[u8], devices: &[u8], d: usize, x: u8) -> Verdict
 }
 
 // 12: whether the target is not shallower than the present state, or D0.
+#[tactic(auto, unfolding(rules::specs::Request::not_shallower_or_d0))]
 fn not_shallower_or_d0(e: Entry, x: u8) -> bool
     ensures { result ≡ not_shallower_or_d0 e x }
 {
-    if x == 0 {
-        return true;
-    }
-    e.state <= x
+    x == 0 || e.state <= x
 }
 
 // 15: whether the device is not armed, or the target not deeper than wake D.
+#[tactic(auto, unfolding(rules::specs::Request::wake_allows))]
 fn wake_allows(e: Entry, x: u8) -> bool
     ensures { result ≡ wake_allows e x }
 {
-    if e.armed != 1 {
-        return true;
-    }
-    x <= e.wake
+    e.armed != 1 || x <= e.wake
 }
 
 // 16 to 18: device d armed for sleep state x and wake state y.
@@ -142,11 +112,9 @@ fn arm_verdict(table: &[u8], devices: &[u8], d: usize, x: u8, y: u8) -> Verdict
     if !power::wake::wake_powered(table, d, at, w, x) {
         return Err(Refusal(Reason::WakeUnpowered, 0));
     }
-    if !power::wake::wake_state(table, d, at, w, x, y) {
-        return Err(Refusal(Reason::BadWakeState, 0));
-    }
-    let e = status::image::entry(devices, d);
-    if e.state > y {
+    if !power::wake::wake_state(table, d, at, w, x, y)
+        || status::image::entry(devices, d).state > y
+    {
         return Err(Refusal(Reason::BadWakeState, 0));
     }
     Ok(0)
@@ -161,40 +129,35 @@ pub fn request_verdict(table: &[u8], devices: &[u8], q: Request) -> Verdict
         return Err(Refusal(Reason::BadRequest, 0));
     }
     let d = q.device as usize;
-    if q.kind == 1 {
-        return move_verdict(table, devices, d, q.a as u8);
+    match q.kind {
+        1 => move_verdict(table, devices, d, q.a as u8),
+        2 => arm_verdict(table, devices, d, q.a as u8, q.b as u8),
+        _ => Ok(0),
     }
-    if q.kind == 2 {
-        return arm_verdict(table, devices, d, q.a as u8, q.b as u8);
-    }
-    Ok(0)
 }
 
 // The entry after an accepted request.
+#[tactic(auto, unfolding(rules::specs::Request::new_entry))]
 pub fn new_entry(e: Entry, q: Request) -> Entry
     requires { (q.a ≤ 4) × (q.b ≤ 4) }
     ensures { result ≡ new_entry e q }
 {
-    if q.kind == 1 {
-        return Entry {
+    match q.kind {
+        1 => Entry {
             state: q.a as u8,
-            armed: e.armed,
-            sleep: e.sleep,
-            wake: e.wake,
-        };
-    }
-    if q.kind == 2 {
-        return Entry {
-            state: e.state,
+            ..e
+        },
+        2 => Entry {
             armed: 1,
             sleep: q.a as u8,
             wake: q.b as u8,
-        };
-    }
-    Entry {
-        state: e.state,
-        armed: 0,
-        sleep: 0,
-        wake: 0,
+            ..e
+        },
+        _ => Entry {
+            armed: 0,
+            sleep: 0,
+            wake: 0,
+            ..e
+        },
     }
 }

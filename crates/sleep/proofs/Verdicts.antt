@@ -2,7 +2,7 @@
 use mathlib.Core.Path.{◌≡◌, refl, sym, ap, ◌∙◌}
 use mathlib.Core.Bool.{Bool, true, false, not, ◌&&◌, and-false}
 use mathlib.Core.List.{List, [], ◌∷◌}
-use Prim.Native.Nat.{ℕ, ◌≤◌, ◌<◌}
+use Prim.Native.Nat.{ℕ, ◌<◌}
 use native.Mathlib.Omega.{arith}
 use borrow.Author.Tests.{eqb-true, leb-true, not-true, not-false}
 use lib.Dec.{eqb, leb, ltb}
@@ -10,23 +10,22 @@ use Rattle.sets.proofs.Laws.{decide}
 use Rattle.rules.specs.declared.Entry.{Entry}
 use Rattle.rules.specs.declared.Request.{Request}
 use Rattle.rules.specs.Verdict.{Verdict}
-use Rattle.std.specs.Prelude.{Ok}
+use Rattle.std.specs.Prelude.{Option, Some, None, Ok}
 use Rattle.rules.specs.Verdict.{refuse}
 use Rattle.rules.specs.declared.Reason.{Reason}
-use Rattle.rules.specs.declared.Reason.TheVariants.{NotATable, BadRequest, ArmedForOther, NoChoice}
-use Rattle.rules.specs.Index.{every, least}
+use Rattle.rules.specs.declared.Reason.TheVariants.{BadRequest, ArmedForOther, NoChoice}
+use Rattle.rules.specs.Index.{every, least_below}
 use Rattle.rules.specs.Answers.{number_of, passes, first_of, unless, lowest}
 use Rattle.rules.specs.Station.{Station, count_d, station_of, station}
-use Rattle.rules.specs.Table.{header_good, table_verdict}
+use Rattle.rules.specs.Table.{table_verdict}
 use Rattle.rules.specs.Status.{entries, status_of, status}
 use Rattle.rules.specs.Request.{numbers_good, form_good, request_verdict}
 use Rattle.rules.specs.Sleep.{is_sleep, sleep_form_good, has_choice, armed_verdict, sleep_verdict}
 use Rattle.rules.specs.Outcomes.{ready_verdict, request_stage, stages_verdict, sleep_stage, sleep_stages}
 use Rattle.rules.proofs.Answers.{done_passes, refused_stops, first_pass, first_stop, first_none, first_alone, unless_of, unless_stop}
-use Rattle.rules.proofs.Answers.{first_both, lowest_stop, lowest_none}
+use Rattle.rules.proofs.Answers.{first_both, lowest_some, lowest_no}
 use Rattle.laws.proofs.Tests.{both_true}
 use Rattle.laws.proofs.Every.{every_ext}
-use Rattle.table.proofs.Verdicts.{no_table}
 use Rattle.status.proofs.Filled.{filled_at}
 use Rattle.laws.proofs.Stages.{ready_at}
 use Rattle.laws.proofs.SleepStages.{ready_below}
@@ -67,37 +66,35 @@ module _ (t b : List ℕ) (q : Request) (f : Bool) (form : f ≡ sleep_form_good
   pub left_10 : not f ≡ true → (chosen : List ℕ) → chosen ≡ states_left t b q chosen
   left_10 n chosen = left_stops t b q BadRequest 0 (armed_10 n) chosen
 
-  -- d is the lowest device that is armed for another sleep state, n the number of devices
-  module _ (good : not f ≡ false) (d n : ℕ) (low : d ≡ least (other t b q.a) (count_d t)) (all : n ≡ count_d t) where
+  -- k is the lowest device that is armed for another sleep state
+  module _ (good : not f ≡ false) (k : Option ℕ) (low : k ≡ least_below (other t b q.a) (count_d t)) where
     to_armed : armed_verdict (station t) (entries t b) q
-        ≡ first_of (lowest (other t b q.a) (station t).devices (refuse ArmedForOther) ∷ []) (Ok 0)
-    unfolding armed_verdict
+        ≡ first_of (lowest (other t b q.a) (count_d t) (refuse ArmedForOther) ∷ []) (Ok 0)
+    unfolding armed_verdict station_of
     to_armed = first_pass _ _ (Ok 0) (ap passes (unless_of _ BadRequest 0 (sym form ∙ not-false f good)) ∙ done_passes 0)
 
-    armed_20 : d < n → armed_verdict (station t) (entries t b) q ≡ refuse ArmedForOther d
-    unfolding station_of
-    armed_20 h =
-        let stop = lowest_stop (other t b q.a) (count_d t) d (refuse ArmedForOther) low (omega arith) in
+    armed_20 : (d : ℕ) → k ≡ Some d → armed_verdict (station t) (entries t b) q ≡ refuse ArmedForOther d
+    armed_20 d some =
+        let stop = sym (lowest_some (other t b q.a) (count_d t) d (refuse ArmedForOther) (sym some ∙ low)) in
         to_armed ∙ first_stop _ _ (Ok 0) (ap passes stop ∙ refused_stops ArmedForOther d) ∙ stop
 
-    pub answer_20 : d < n → refuse ArmedForOther d ≡ sleep_verdict (station t) (entries t b) q
-    answer_20 h = armed_stops t b q ArmedForOther d (armed_20 h)
+    pub answer_20 : (d : ℕ) → k ≡ Some d → refuse ArmedForOther d ≡ sleep_verdict (station t) (entries t b) q
+    answer_20 d some = armed_stops t b q ArmedForOther d (armed_20 d some)
 
-    pub left_20 : d < n → (chosen : List ℕ) → chosen ≡ states_left t b q chosen
-    left_20 h chosen = left_stops t b q ArmedForOther d (armed_20 h) chosen
+    pub left_20 : (d : ℕ) → k ≡ Some d → (chosen : List ℕ) → chosen ≡ states_left t b q chosen
+    left_20 d some chosen = left_stops t b q ArmedForOther d (armed_20 d some) chosen
 
-    armed_0 : n ≤ d → passes (armed_verdict (station t) (entries t b) q) ≡ true
-    unfolding station_of
-    armed_0 h =
-        let pass = lowest_none (other t b q.a) (count_d t) d (refuse ArmedForOther) low (omega arith) in
+    armed_0 : k ≡ None → passes (armed_verdict (station t) (entries t b) q) ≡ true
+    armed_0 none =
+        let pass = lowest_no (other t b q.a) (count_d t) (refuse ArmedForOther) (sym none ∙ low) in
         ap passes (to_armed ∙ first_pass _ _ (Ok 0) (ap passes pass ∙ done_passes 0) ∙ first_none (Ok 0)) ∙ done_passes 0
 
-    pub left_chosen : n ≤ d → (chosen chosen' : List ℕ) → chosen' ≡ least_each t b q.a chosen → chosen' ≡ states_left t b q chosen
+    pub left_chosen : k ≡ None → (chosen chosen' : List ℕ) → chosen' ≡ least_each t b q.a chosen → chosen' ≡ states_left t b q chosen
     unfolding states_left
-    left_chosen h chosen chosen' e = rw (armed_0 h) e
+    left_chosen none chosen chosen' e = rw (armed_0 none) e
 
     -- c is whether every device has a state
-    module _ (h : n ≤ d) (chosen₀ chosen : List ℕ) (least : chosen ≡ least_each t b q.a chosen₀) (c : Bool)
+    module _ (none : k ≡ None) (chosen₀ chosen : List ℕ) (least : chosen ≡ least_each t b q.a chosen₀) (c : Bool)
         (test : c ≡ every (λ k. ltb (states_in chosen k) 5) (count_d t)) where
       choice_is : c ≡ has_choice (station t) (entries t b) q.a
       unfolding has_choice station_of
@@ -106,7 +103,7 @@ module _ (t b : List ℕ) (q : Request) (f : Bool) (form : f ≡ sleep_form_good
       to_choice : sleep_verdict (station t) (entries t b) q
           ≡ first_of (unless (has_choice (station t) (entries t b) q.a) NoChoice 0 ∷ []) (Ok 0)
       unfolding sleep_verdict
-      to_choice = first_pass _ _ (Ok 0) (armed_0 h)
+      to_choice = first_pass _ _ (Ok 0) (armed_0 none)
 
       pub answer_21 : not c ≡ true → refuse NoChoice 0 ≡ sleep_verdict (station t) (entries t b) q
       answer_21 y =
@@ -136,10 +133,6 @@ module _ (t b : List ℕ) (q : Request) (room : Bool) where
   pub sleep_table : (v : Verdict) → v ≡ table_verdict t → passes v ≡ false → v ≡ sleep_stages room t b q
   unfolding sleep_stages
   sleep_table v e n = ready_stops room t b _ v (ready_table t v e b room n) n
-
-  -- h: whether the header is good
-  pub sleep_header : (h : Bool) → h ≡ header_good t → not h ≡ true → refuse NotATable 0 ≡ sleep_stages room t b q
-  sleep_header h e n = sleep_table (refuse NotATable 0) (no_table t h e n) (refused_stops NotATable 0)
 
 -- ---- 1 to 9, then these. The checks of requests answer 10 to kind 4 exactly where 1 to 9 pass
 sleep_bad : (s : Station) (entries : ℕ → Entry) (q : Request) → is_sleep q ≡ true → request_verdict s entries q ≡ refuse BadRequest 0

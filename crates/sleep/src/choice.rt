@@ -11,26 +11,13 @@ ghost use Rattle.sleep.specs.Chosen.{states_in, deep_enough, other_rules, least_
 
 use rules::Entry;
 
-// The deeper of two states.
-fn deeper(a: u8, b: u8) -> u8
-    ensures { (y : ℕ) → leb result y ≡ leb a y && leb b y }
-{
-    if a < b {
-        return b;
-    }
-    a
-}
-
 // The shallowest state that `_SxD` allows: D0 without it.
 fn shallowest_of_sxd(table: &[u8], x: u8, d: usize, at: usize, w: usize) -> u8
     requires { RecordAt table.now d at w × (x < 5) }
     ensures { (y : ℕ) → leb result y ≡ sxd_allows (station table.now) x d y }
 {
     let least = record::read::sxd(table, at, w, x as usize);
-    if least == 255 {
-        return 0;
-    }
-    least
+    if least == 255 { 0 } else { least }
 }
 
 // The shallowest state that device d's parent in `chosen` allows: D0 without a parent.
@@ -40,10 +27,7 @@ fn shallowest_of_parent(table: &[u8], chosen: &[u8], d: usize, at: usize, w: usi
     ensures { (y : ℕ) → leb result y ≡ under_parent (station table.now) (states_in chosen.now) d y }
 {
     let p = record::read::parent(table, at, w);
-    if p == 255 {
-        return 0;
-    }
-    chosen[p as usize]
+    if p == 255 { 0 } else { chosen[p as usize] }
 }
 
 // The shallowest state that is left to device d by its present one, `_SxD` and its parent's in `chosen`.
@@ -54,17 +38,15 @@ fn shallowest(table: &[u8], chosen: &[u8], x: u8, d: usize, at: usize, w: usize,
 {
     let sxd = shallowest_of_sxd(table, x, d, at, w);
     let parent = shallowest_of_parent(table, chosen, d, at, w);
-    deeper(deeper(state, sxd), parent)
+    state.max(sxd).max(parent)
 }
 
 // State y is wake D, if the device is armed.
+#[tactic(auto, unfolding(rules::specs::Sleep::wake_d_if_armed))]
 fn wake_d_if_armed(e: Entry, y: u8) -> bool
     ensures { result ≡ wake_d_if_armed e y }
 {
-    if e.armed != 1 {
-        return true;
-    }
-    y == e.wake
+    e.armed != 1 || y == e.wake
 }
 
 // Whether device d, whose entry is e, may take state y by the rules that `shallowest` leaves: support, power and wake D. What takes least
@@ -73,23 +55,18 @@ fn other_rules_allow(table: &[u8], x: u8, d: usize, at: usize, w: usize, e: Entr
     requires { RecordAt table.now d at w }
     ensures { result ≡ other_rules (station table.now) x d e y }
 {
-    if !wake_d_if_armed(e, y) {
-        return false;
-    }
-    if !power::supported(table, d, at, w, y) {
-        return false;
-    }
-    let taken = Entry {
-        state: y,
-        armed: e.armed,
-        sleep: e.sleep,
-        wake: e.wake,
-    };
-    power::wake::powered_in(table, power::needs(table, d, at, w, taken), x)
+    wake_d_if_armed(e, y)
+        && power::supported(table, d, at, w, y)
+        && power::wake::powered_in(
+            table,
+            power::needs(table, d, at, w, Entry { state: y, ..e }),
+            x,
+        )
 }
 
-// The least state that device d may take under its parent's in `chosen`; 5 if there is none. The loop starts at the shallowest one that
-// is left, which is worked out once, so that no turn asks again for the present state, `_SxD` and the parent's.
+// The least state that device d may take under its parent's in `chosen`; 5 if there is none, a byte and no
+// `Option` since `chosen` holds bytes. The search starts at the shallowest one that is left, which is worked out once, so that no turn asks
+// again for the present state, `_SxD` and the parent's.
 fn least_state(table: &[u8], devices: &[u8], chosen: &[u8], x: u8, d: usize) -> u8
     requires { Ready table.now devices.now × (d < count_d table.now) × (count_d table.now ≤ length chosen.now) × (x < 5) }
     ensures { result ≡ least_state (station table.now) (entries table.now devices.now) x
@@ -98,14 +75,10 @@ fn least_state(table: &[u8], devices: &[u8], chosen: &[u8], x: u8, d: usize) -> 
     let at = table::fields::start(table, d);
     let w = table::fields::width(table);
     let e = status::image::entry(devices, d);
-    let mut y = shallowest(table, chosen, x, d, at, w, e.state);
-    while y < 5 {
-        if other_rules_allow(table, x, d, at, w, e, y) {
-            return y;
-        }
-        y += 1;
-    }
-    5
+    let least = shallowest(table, chosen, x, d, at, w, e.state);
+    (least..5)
+        .find(|&y| other_rules_allow(table, x, d, at, w, e, y))
+        .unwrap_or(5)
 }
 
 // The least choice, from the lowest device on: a parent's state is there before its children's.
@@ -114,11 +87,8 @@ pub fn choose(table: &[u8], devices: &[u8], x: u8, chosen: &mut [u8])
     ensures { chosen.new ≡ least_each table.now devices.now x chosen.old }
 {
     let n = table::fields::devices(table);
-    let mut i = 0;
-    while i < n {
-        let y = least_state(table, devices, chosen, x, i);
-        chosen[i] = y;
-        i += 1;
+    for i in 0..n {
+        chosen[i] = least_state(table, devices, chosen, x, i);
     }
 }
 
@@ -128,18 +98,11 @@ pub fn has_choice(table: &[u8], chosen: &[u8]) -> bool
     ensures { result ≡ every (λ d. ltb (states_in chosen.now d) 5) (count_d table.now) }
 {
     let n = table::fields::devices(table);
-    let mut i = 0;
-    while i < n {
-        let found = chosen[i] < 5;
-        if !found {
-            return false;
-        }
-        i += 1;
-    }
-    true
+    chosen[..n].iter().all(|&y| y < 5)
 }
 
 // Device d stays: its state in `chosen` is its present one.
+#[tactic(auto, using(status::proofs::Keeps::entry_ready))]
 pub fn stays(table: &[u8], devices: &[u8], chosen: &[u8], d: usize) -> bool
     requires { Ready table.now devices.now × (d < count_d table.now) × (count_d table.now ≤ length chosen.now) }
     ensures { result ≡ stays (entries table.now devices.now) (states_in chosen.now) d }
@@ -155,12 +118,5 @@ pub fn none_moves(table: &[u8], devices: &[u8], chosen: &[u8]) -> bool
         (count_d table.now) }
 {
     let n = table::fields::devices(table);
-    let mut i = 0;
-    while i < n {
-        if !stays(table, devices, chosen, i) {
-            return false;
-        }
-        i += 1;
-    }
-    true
+    (0..n).all(|d| stays(table, devices, chosen, d))
 }

@@ -5,7 +5,7 @@ pub mod choice;
 pub mod stages;
 
 ghost use Rattle.std.specs.Prelude.{◌≡◌, ◌≤◌, length};
-ghost use Rattle.rules.specs.Index.{least};
+ghost use Rattle.rules.specs.Index.{least_below};
 ghost use Rattle.rules.specs.Station.{count_d, station};
 ghost use Rattle.rules.specs.Status.{entries};
 ghost use Rattle.rules.specs.Sleep.{sleep_form_good, armed_for_other, sleep_verdict};
@@ -15,47 +15,29 @@ ghost use Rattle.sleep.specs.Chosen.{states_left};
 use rules::{Entry, Reason, Refusal, Request, Verdict};
 
 // 10: the sleep state is 1 to 4, and the other two numbers are zero.
+#[tactic(auto, unfolding(rules::specs::Sleep::sleep_form_good))]
 fn form_good(q: Request) -> bool
     ensures { result ≡ sleep_form_good q }
 {
-    if q.a < 1 {
-        return false;
-    }
-    if q.a > 4 {
-        return false;
-    }
-    if q.device != 0 {
-        return false;
-    }
-    q.b == 0
+    matches!((q.a, q.device, q.b), (1..=4, 0, 0))
 }
 
 // 20: armed, and not for sleep state x.
+#[tactic(auto, unfolding(rules::specs::Sleep::armed_for_other))]
 fn armed_for_other(e: Entry, x: u8) -> bool
     ensures { result ≡ armed_for_other e x }
 {
-    if e.armed != 1 {
-        return false;
-    }
-    e.sleep != x
+    e.armed == 1 && e.sleep != x
 }
 
-// The lowest such device, or D.
-fn lowest_other(table: &[u8], devices: &[u8], x: u8) -> usize
+// The lowest such device.
+fn lowest_other(table: &[u8], devices: &[u8], x: u8) -> Option<usize>
     requires { Ready table.now devices.now }
-    ensures { result ≡ least (λ d. armed_for_other (entries table.now devices.now d) x)
+    ensures { result ≡ least_below (λ d. armed_for_other (entries table.now devices.now d) x)
         (count_d table.now) }
 {
     let n = table::fields::devices(table);
-    let mut i = 0;
-    while i < n {
-        let e = status::image::entry(devices, i);
-        if armed_for_other(e, x) {
-            return i;
-        }
-        i += 1;
-    }
-    i
+    (0..n).find(|&d| armed_for_other(status::image::entry(devices, d), x))
 }
 
 // 10, 20 and 21. Where it is done, the states that the devices take stand in `chosen`.
@@ -68,8 +50,7 @@ pub fn verdict(table: &[u8], devices: &[u8], q: Request, chosen: &mut [u8]) -> V
         return Err(Refusal(Reason::BadRequest, 0));
     }
     let x = q.a as u8;
-    let d = lowest_other(table, devices, x);
-    if d < table::fields::devices(table) {
+    if let Some(d) = lowest_other(table, devices, x) {
         return Err(Refusal(Reason::ArmedForOther, d));
     }
     crate::choice::choose(table, devices, x, chosen);

@@ -16,6 +16,7 @@ pub fn past_table(table: &[u8], state: &[u8], room: bool, q: Request, chosen: &m
     ensures { (result ≡ sleep_stages room table.now state.now q)
         × (chosen.new ≡ stages_left room table.now state.now q chosen.old) }
 {
+    // By its number: a pattern `Err(Refusal(Reason::BadRequest, _))` gives the other arm no fact that it is another refusal.
     let v = request::stages::past_table(table, state, room, q);
     if rules::number(v) != 10 {
         return v;

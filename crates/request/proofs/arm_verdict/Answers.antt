@@ -1,28 +1,24 @@
+use Rattle.std.proofs.Common.{rules}
+use Rattle.rules.specs.Answers.{passes, first_of, unless}
+use Rattle.rules.specs.Request.{arm_verdict}
 use Rattle.request.proofs.Rules.{arming}
-use Rattle.table.proofs.Readers.{record_at}
-use borrow.Author.Rules.{rules}
+use Rattle.request.proofs.arm_verdict.Goals.{then-not-wake_state-via-then-not-wake_state, then-not-wake_state-via-else-not-wake_state+then-entry-y}
 use Rattle.request.proofs.arm_verdict.Goals as goal
 
-pub wake_from-requires : goal.wake_from-requires
-wake_from-requires c = search (rules, record_at)
-
 pub returns-then-not-wake_from : goal.returns-then-not-wake_from
-returns-then-not-wake_from c = search (rules, arming)
-
-pub wake_powered-requires : goal.wake_powered-requires
-wake_powered-requires c = search (rules, record_at)
+unfolding arm_verdict first_of unless passes
+returns-then-not-wake_from c = search rules
 
 pub returns-then-not-wake_powered : goal.returns-then-not-wake_powered
-returns-then-not-wake_powered c = search (rules, arming)
-
-pub wake_state-requires : goal.wake_state-requires
-wake_state-requires c = search (rules, record_at)
+unfolding arm_verdict first_of unless passes
+returns-then-not-wake_powered c = search rules
 
 pub returns-then-not-wake_state : goal.returns-then-not-wake_state
-returns-then-not-wake_state c = search (rules, arming)
-
-pub returns-then-e-y : goal.returns-then-e-y
-returns-then-e-y c = search (rules, arming)
+returns-then-not-wake_state c =
+    elim c.then-not-wake_state.branch [
+      | then-not-wake_state-via-then-not-wake_state w ↦ search (rules, arming)
+      | then-not-wake_state-via-else-not-wake_state+then-entry-y w ↦ search (rules, arming)
+    ]
 
 pub returns : goal.returns
 returns c = search (rules, arming)

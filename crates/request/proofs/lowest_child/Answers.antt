@@ -1,15 +1,7 @@
-use borrow.Author.Rules.{rules}
-use Rattle.request.proofs.Rules.{lowest_bad}
+use mathlib.Core.Path.{refl}
+use Rattle.std.proofs.Common.{rules}
+use Rattle.request.proofs.Find.{find_below}
 use Rattle.request.proofs.lowest_child.Goals as goal
 
-pub loop-i-init : goal.loop-i-init
-loop-i-init c = search (rules, lowest_bad)
-
-pub returns-then-child_bars : goal.returns-then-child_bars
-returns-then-child_bars c = search (rules, lowest_bad)
-
-pub loop-i-preserved : goal.loop-i-preserved
-loop-i-preserved c = search (rules, lowest_bad)
-
 pub returns : goal.returns
-returns c = search (rules, lowest_bad)
+returns c = find_below _ _ _ _ _ _ c.find.ensures.ran c.devices-n.ensures.0 (λ x b q k. (search rules, search rules)) refl

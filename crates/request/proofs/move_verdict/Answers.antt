@@ -1,25 +1,24 @@
+use Rattle.std.proofs.Common.{rules}
+use Rattle.rules.specs.Answers.{passes, first_of, unless}
+use Rattle.rules.specs.Request.{move_verdict}
+use Rattle.status.proofs.Keeps.{entry_ready}
 use Rattle.request.proofs.Rules.{moving}
-use Rattle.table.proofs.Readers.{record_at}
-use borrow.Author.Rules.{rules}
 use Rattle.request.proofs.move_verdict.Goals as goal
 
-pub supported-requires : goal.supported-requires
-supported-requires c = search (rules, record_at)
-
 pub returns-then-not-supported : goal.returns-then-not-supported
-returns-then-not-supported c = search (rules, moving)
+unfolding move_verdict first_of unless passes
+returns-then-not-supported c = search (rules, entry_ready)
 
 pub returns-then-not-not_shallower_or_d0 : goal.returns-then-not-not_shallower_or_d0
-returns-then-not-not_shallower_or_d0 c = search (rules, moving)
-
-pub parent_allows-requires : goal.parent_allows-requires
-parent_allows-requires c = search (rules, record_at)
+unfolding move_verdict first_of unless passes
+returns-then-not-not_shallower_or_d0 c = search (rules, entry_ready)
 
 pub returns-then-not-parent_allows : goal.returns-then-not-parent_allows
-returns-then-not-parent_allows c = search (rules, moving)
+unfolding move_verdict first_of unless passes
+returns-then-not-parent_allows c = search (rules, entry_ready)
 
-pub returns-then-c-devices : goal.returns-then-c-devices
-returns-then-c-devices c = search (rules, moving)
+pub returns-in-Some : goal.returns-in-Some
+returns-in-Some c = search (rules, moving)
 
 pub returns-then-not-wake_allows : goal.returns-then-not-wake_allows
 returns-then-not-wake_allows c = search (rules, moving)

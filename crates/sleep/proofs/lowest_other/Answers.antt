@@ -1,15 +1,11 @@
-use Rattle.sleep.proofs.Choosing.{others}
-use borrow.Author.Rules.{rules}
+use mathlib.Core.Path.{refl}
+use Rattle.std.proofs.Common.{rules}
+use Rattle.status.proofs.Keeps.{entry_ready}
+use Rattle.request.proofs.Find.{find_below}
 use Rattle.sleep.proofs.lowest_other.Goals as goal
 
-pub loop-i-init : goal.loop-i-init
-loop-i-init c = search (rules, others)
-
-pub returns-then-armed_for_other : goal.returns-then-armed_for_other
-returns-then-armed_for_other c = search (rules, others)
-
-pub loop-i-preserved : goal.loop-i-preserved
-loop-i-preserved c = search (rules, others)
-
 pub returns : goal.returns
-returns c = search (rules, others)
+returns c =
+    find_below _ _ _ _ _ _ c.find.ensures.ran c.devices-n.ensures.0
+    (λ x b q k. (search rules, λ a l. let own = entry_ready c.args.table.now c.args.devices.now x _ c.requires l refl in search rules))
+    refl

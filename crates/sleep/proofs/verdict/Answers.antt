@@ -10,8 +10,8 @@ returns-then-not-form_good c = (search (rules, answers), search (rules, lefts))
 pub overflow_cast-x : goal.overflow_cast-x
 overflow_cast-x c = search (rules, form_small, byte_below)
 
-pub returns-then-d-devices : goal.returns-then-d-devices
-returns-then-d-devices c = (search (rules, answers), search (rules, lefts))
+pub returns-in-Some : goal.returns-in-Some
+returns-in-Some c = (search (rules, answers), search (rules, lefts))
 
 pub choose-requires : goal.choose-requires
 choose-requires c = (search rules, search rules, search (rules, form_small))

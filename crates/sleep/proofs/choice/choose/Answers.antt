@@ -1,5 +1,5 @@
+use Rattle.std.proofs.Common.{rules}
 use Rattle.sleep.proofs.Choosing.{choosing}
-use borrow.Author.Rules.{rules}
 use Rattle.sleep.proofs.choice.choose.Goals as goal
 
 pub loop-i-init : goal.loop-i-init

@@ -1,15 +1,7 @@
-use Rattle.sleep.proofs.Choosing.{staying}
-use borrow.Author.Rules.{rules}
+use lib.Dec.{ltb}
+use Rattle.std.proofs.Common.{rules}
+use Rattle.request.proofs.Find.{all_bytes}
 use Rattle.sleep.proofs.choice.has_choice.Goals as goal
 
-pub loop-i-init : goal.loop-i-init
-loop-i-init c = search (rules, staying)
-
-pub returns-then-not-found : goal.returns-then-not-found
-returns-then-not-found c = search (rules, staying)
-
-pub loop-i-preserved : goal.loop-i-preserved
-loop-i-preserved c = search (rules, staying)
-
 pub returns : goal.returns
-returns c = search (rules, staying)
+returns c = all_bytes (λ y. ltb y 5) _ _ _ _ _ _ c.all.ensures.ran (search rules) c.requires.1 (λ x b q k. (search rules, search rules))

@@ -1,13 +1,13 @@
+use Rattle.std.proofs.Common.{rules, tests}
 use Rattle.table.proofs.Readers.{field_here}
-use Rattle.sleep.proofs.Choosing.{under_laws}
-use borrow.Author.Rules.{rules}
+use Rattle.sleep.proofs.Choosing.{parent_inside}
 use Rattle.sleep.proofs.choice.shallowest_of_parent.Goals as goal
 
 pub returns-then-p : goal.returns-then-p
-returns-then-p c = search (rules, under_laws, field_here (λ v. v.parent))
+returns-then-p c = search (rules, tests, field_here (λ v. v.parent))
 
 pub bounds-chosen-p : goal.bounds-chosen-p
-bounds-chosen-p c = search (rules, under_laws, field_here (λ v. v.parent))
+bounds-chosen-p c = search (rules, parent_inside, field_here (λ v. v.parent))
 
-pub returns : goal.returns
-returns c = search (rules, under_laws, field_here (λ v. v.parent))
+pub returns-else-p : goal.returns-else-p
+returns-else-p c = search (rules, tests, field_here (λ v. v.parent))
