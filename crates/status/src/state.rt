@@ -103,8 +103,7 @@ impl<S: OnSet, const N: usize> State<S, N> {
         requires { (N ≡ entries_size S.bytes) × (length image.old ≡ image_size S.bytes) }
         ensures { image.new ≡ stored S.bytes (held S.number self) }
     {
-        let devices = self.devices;
-        words::copy(&devices, image, 0);
+        words::copy(&self.devices, image, 0);
         self.on.write(image, N);
     }
 
