@@ -82,20 +82,6 @@ entries_front w b =
     (λ k h. entry_same (take (entries_size w) b) b (4 * k) (λ i l. get_or-take (entries_size w) b (4 * k + i) 0 (omega arith))
     ∙ sym (entry_in w b k h)) (entry_out w b)
 
--- the device part has its length in the image, fits an array and is an image's front
-module _ (w : ℕ) where
-  pub front_long : (b : List ℕ) → length b ≡ image_size w → entries_size w ≡ length (take (entries_size w) b)
-  front_long b l = sym (length-take-le (entries_size w) b (omega arith))
-
-  pub front_fits : (b : List ℕ) → length b ≡ image_size w → 0 + length (take (entries_size w) b) ≤ entries_size w
-  front_fits b l = omega (arith, front_long b l)
-
-  pub part_fits : (ds b : List ℕ) → length ds ≡ entries_size w → length b ≡ image_size w → 0 + length ds ≤ length b
-  part_fits ds b l m = omega arith
-
-  pub entry_fits : (ds : List ℕ) (d : ℕ) → length ds ≡ entries_size w → d < limit w → 4 * d + 4 ≤ length ds
-  entry_fits ds d l h = omega arith
-
 -- the first bytes, copied over as many others, and the number after them
 pub loaded_is : (w n : ℕ) (b ds₀ ds : List ℕ) (on : ℕ) → n ≡ entries_size w → ds ≡ put ds₀ 0 (take n b) → length ds₀ ≡ n
     → length b ≡ image_size w → on ≡ read_le w b n
@@ -104,10 +90,6 @@ unfolding loaded
 loaded_is w n b ds₀ ds on same e l m r =
     let long : length (take n b) ≡ n = length-take-le n b (omega arith) in
     rw (e ∙ put_all ds₀ (take n b) (omega arith), r, same) refl
-
-pub loaded_status : (w : ℕ) (b : List ℕ) → status_in w (loaded w b) ≡ status_of w b
-unfolding loaded status_in status_of
-loaded_status w b = rw (entries_front w b) refl
 
 -- ---- what is stored
 
