@@ -25,7 +25,7 @@ use Rattle.laws.proofs.Accepted.{accepted}
 use Rattle.laws.proofs.States.{GoodValues, values_of}
 use Rattle.table.proofs.Verdicts.{sized_done, sized_told, sized_passed, table_passed}
 use Rattle.status.proofs.Keeps.{with_power, without_power}
-use Rattle.status.specs.Ready.{Ready, status_with, consistency_verdict_with}
+use Rattle.status.specs.Ready.{Ready, consistency_verdict_with}
 
 -- ---- the image; n is the size that it has, good and fits are what the tests of the entries and of the on-set returned
 module _ (t b : List ℕ) (n : ℕ) (z : n ≡ image_size (width t)) where

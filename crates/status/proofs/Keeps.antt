@@ -1,6 +1,6 @@
 -- A device's consistency by its parts: one law for each way out of the code that tests them.
-use mathlib.Core.Path.{◌≡◌, refl, ap, ◌∙◌, fun_ext}
-use mathlib.Core.Bool.{Bool, true, false, not, ◌&&◌, ◌||◌, and-true}
+use mathlib.Core.Path.{◌≡◌, refl, ap, ◌∙◌}
+use mathlib.Core.Bool.{Bool, true, false, not, ◌&&◌, ◌||◌}
 use mathlib.Core.Logic.{⊎_elim}
 use mathlib.Core.List.{List}
 use Prim.Native.Nat.{ℕ, ◌+◌, ◌*◌, ◌≤◌, ◌<◌}
@@ -17,7 +17,7 @@ use Rattle.rules.specs.Answers.{lowest}
 use Rattle.rules.specs.Station.{Station, width, limit, count_d, station_of, station}
 use Rattle.rules.specs.Table.{parent_good}
 use Rattle.rules.specs.Power.{supported, needs, wake_pair}
-use Rattle.rules.specs.Status.{Status, entry_at, entries, entry_good, entries_good, parent_allows, wake_consistent, consistent_but_power}
+use Rattle.rules.specs.Status.{entry_at, entries, entry_good, entries_good, parent_allows, wake_consistent, consistent_but_power}
 use Rattle.rules.specs.Status.{powered, consistent, consistency_verdict}
 use Rattle.rules.proofs.Index.{every_at}
 use Rattle.laws.proofs.Tests.{both_true, or_cases}

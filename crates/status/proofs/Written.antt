@@ -2,7 +2,7 @@
 use mathlib.Core.Path.{◌≡◌, refl, sym, ap, ◌∙◌, fun_ext}
 use mathlib.Core.List.{List, [], ◌∷◌}
 use mathlib.Core.Logic.{◌⊎◌, inl, inr, ⊎_elim}
-use Prim.Native.Nat.{ℕ, zero, suc, ◌+◌, ◌*◌, ◌%◌, ◌^◌, ◌≤◌, ◌<◌}
+use Prim.Native.Nat.{ℕ, zero, suc, ◌+◌, ◌*◌, ◌≤◌, ◌<◌}
 use native.Mathlib.Nat.{add-zero}
 use native.Mathlib.Numerals.{towards_suc}
 use native.Mathlib.Omega.{arith}
@@ -14,13 +14,12 @@ use Rattle.sets.proofs.Laws.{decide}
 use Rattle.words.specs.Words.{bytes_le}
 use Rattle.rules.specs.declared.Entry.{Entry}
 use Rattle.rules.specs.declared.Request.{Request}
-use Rattle.rules.specs.Station.{width, Wide, limit, count_r, station_of, station}
+use Rattle.rules.specs.Station.{width, limit, count_r, station_of, station}
 use Rattle.rules.specs.Status.{entry_at, entry_bytes, entries_size, entries_of, entries, status_of, status, image_of, image_size}
 use Rattle.rules.specs.Status.{fresh_status}
 use Rattle.rules.specs.Request.{in_state, new_entry, replace_entry}
 use Rattle.rules.specs.Calls.{end_set, status_after}
 use Rattle.rules.specs.Outcomes.{state_after}
-use Rattle.table.specs.Layout.{WellSized}
 use Rattle.status.specs.Ready.{status_with, entry_with}
 use Rattle.status.specs.State.{Held, loaded, stored, status_in, fresh_held, changed}
 use Rattle.status.proofs.Held.{entry_in, entry_out, entry_same, entries_front, image_of_lem, fresh_image}

@@ -10,9 +10,9 @@ pub wake_consistent-requires : goal.wake_consistent-requires
 wake_consistent-requires c = search (rules, keep_laws)
 
 pub returns-then-parent_allows : goal.returns-then-parent_allows
-returns-then-parent_allows c = 
+returns-then-parent_allows c =
     elim c.if-supported.branch [ then-supported w ↦ search (rules, keep_laws) | else-supported w ↦ search (rules, keep_laws) ]
 
 pub returns-else-parent_allows : goal.returns-else-parent_allows
-returns-else-parent_allows c = 
+returns-else-parent_allows c =
     elim c.if-supported.branch [ then-supported w ↦ search (rules, keep_laws) | else-supported w ↦ search (rules, keep_laws) ]

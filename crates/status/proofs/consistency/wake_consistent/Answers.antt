@@ -9,11 +9,11 @@ pub wake_pair-requires : goal.wake_pair-requires
 wake_pair-requires c = search (rules, keep_laws)
 
 pub returns-else-wake_pair : goal.returns-else-wake_pair
-returns-else-wake_pair c = 
+returns-else-wake_pair c =
     wake_illegal _ _ _ (search rules) (search rules) c.entry-e.result
     c.wake_pair.result (search rules) (search rules) (search rules) (search rules)
 
 pub returns-then-wake_pair : goal.returns-then-wake_pair
-returns-then-wake_pair c = 
+returns-then-wake_pair c =
     wake_legal _ _ _ (search rules) (search rules) c.entry-e.result
     c.wake_pair.result (search rules) (search rules) (search rules) (search rules)

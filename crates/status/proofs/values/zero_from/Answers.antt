@@ -22,5 +22,5 @@ returns c =
     elim c.loop-i-test.branch [
       | else-loop-i-test w ↦ rw w.all-is (zero_done _ _ c.loop-i.i _ _ inv.3 (search rules) (search rules))
       | then-loop-i-test+else-end-i-gt2 w ↦ rw w.all-is
-        (zero_done _ _ (c.loop-i.i + 2) _ _ (zero_pair _ _ _ _ _ _ inv.3 inv.0 w.read64.ensures w.union-all.ensures) (search rules) (search rules))
+          (zero_done _ _ (c.loop-i.i + 2) _ _ (zero_pair _ _ _ _ _ _ inv.3 inv.0 w.read64.ensures w.union-all.ensures) (search rules) (search rules))
     ]
