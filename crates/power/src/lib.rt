@@ -71,17 +71,19 @@ pub fn listed_set(table: &[u8], d: usize, at: usize, w: usize, x: u8) -> u64
     own_set(table, d, at, w, mask, 0)
 }
 
-// What a device needs in state x.
+// What a device needs in state x. As a match it was tried: the compiler then asks for D3hot first, two instructions more for each device.
 pub fn state_needs(table: &[u8], d: usize, at: usize, w: usize, x: u8) -> u64
     requires { RecordAt table.now d at w }
     ensures { result ≡ state_needs ((station table.now).device d) x }
 {
     let present = record::read::pr(table, at, w);
-    match x {
-        0..=2 => own_set(table, d, at, w, present, x),
-        3 => listed_set(table, d, at, w, 3),
-        _ => 0,
+    if x < 3 {
+        return own_set(table, d, at, w, present, x);
     }
+    if x > 3 {
+        return 0;
+    }
+    listed_set(table, d, at, w, 3)
 }
 
 // What a device needs to wake the system: its `_PRW` set while it is armed.
