@@ -1,7 +1,8 @@
 -- What a device supports and needs, a law for each way that the code answers: from the tests on the way and what the readers of the table
 -- gave.
-use mathlib.Core.Path.{◌≡◌, sym, ◌∙◌}
+use mathlib.Core.Path.{◌≡◌, refl, sym, ◌∙◌}
 use mathlib.Core.Bool.{Bool, true, false, or-false, and-true, and-false}
+use mathlib.Core.Logic.{◌⊎◌, ⊎_elim}
 use Prim.Native.Nat.{ℕ, zero, suc, ◌-◌, ◌≤◌, ◌<◌}
 use native.Mathlib.Omega.{arith}
 use borrow.Author.Tests.{lt-ltb, le-ltb, eq-eqb, ne_eqb}
@@ -11,23 +12,19 @@ use Rattle.rules.specs.declared.Entry.{Entry}
 use Rattle.rules.specs.Station.{Device, Station, has_ps, has_pr, has_prw}
 use Rattle.rules.specs.Power.{supported, own_set, listed_set, state_needs, wake_needs, needs}
 
--- a bit of a mask, both copied
-pub bit_of : (m n x y : ℕ) (b : Bool) → b ≡ member m x → m ≡ n → x ≡ y → b ≡ member n y
-bit_of m n x y b e p q = rw (← p, ← q) e
+-- a bit of a mask, the mask read
+pub bit_of : (m n x : ℕ) (b : Bool) → b ≡ member m x → m ≡ n → b ≡ member n x
+bit_of m n x b e p = rw (← p) e
 
 -- ---- supported states
 module _ (s : Station) (d x : ℕ) where
-  pub always_d0 : x ≡ 0 → true ≡ supported s d x
+  pub always : (x ≡ 0) ⊎ (x ≡ 3) → true ≡ supported s d x
   unfolding supported
-  always_d0 e = rw (eq-eqb x 0 e)
+  always h = ⊎_elim (λ e. rw (eq-eqb x 0 e)) (λ e. rw (ne_eqb x 0 (λ z. omega arith), eq-eqb x 3 e)) h
 
-  pub always_d3hot : (x ≡ 0 → ⊥) → x ≡ 3 → true ≡ supported s d x
+  pub by_ps : (b : Bool) → (x ≡ 0 → ⊥) → x < 3 → b ≡ has_ps (s.device d) x → b ≡ true → b ≡ supported s d x
   unfolding supported
-  always_d3hot n e = rw (ne_eqb x 0 n, eq-eqb x 3 e)
-
-  pub by_ps : (b : Bool) → (x ≡ 0 → ⊥) → x < 3 → b ≡ has_ps (s.device d) x → b ≡ true → true ≡ supported s d x
-  unfolding supported
-  by_ps b n h e t = rw (ne_eqb x 0 n, ne_eqb x 3 (λ q. omega arith), lt-ltb x 3 h, sym e ∙ t)
+  by_ps b n h e t = t ∙ rw (ne_eqb x 0 n, ne_eqb x 3 (λ q. omega arith), lt-ltb x 3 h, sym e ∙ t) refl
 
   pub by_pr : (b r : Bool) → (x ≡ 0 → ⊥) → x < 3 → b ≡ has_ps (s.device d) x → b ≡ false → r ≡ has_pr (s.device d) x → r ≡ supported s d x
   unfolding supported
@@ -38,11 +35,11 @@ module _ (s : Station) (d x : ℕ) where
   unfolding supported
   by_pr3 b h n e t = rw (ne_eqb x 0 (λ z. omega arith), ne_eqb x 3 n, le-ltb x 3 h, sym e ∙ t, and-true (eqb x 4))
 
-  pub no_pr3 : (b : Bool) → 3 ≤ x → (x ≡ 3 → ⊥) → b ≡ has_pr (s.device d) 3 → b ≡ false → false ≡ supported s d x
+  pub no_pr3 : (b : Bool) → 3 ≤ x → (x ≡ 3 → ⊥) → b ≡ has_pr (s.device d) 3 → b ≡ false → b ≡ supported s d x
   unfolding supported
-  no_pr3 b h n e t = rw (ne_eqb x 0 (λ z. omega arith), ne_eqb x 3 n, le-ltb x 3 h, sym e ∙ t, and-false (eqb x 4))
+  no_pr3 b h n e t = t ∙ rw (ne_eqb x 0 (λ z. omega arith), ne_eqb x 3 n, le-ltb x 3 h, sym e ∙ t, and-false (eqb x 4)) refl
 
-pub ruleset supported_laws = (always_d0, always_d3hot, by_ps, by_pr, by_pr3, no_pr3)
+pub ruleset supported_laws = (always, by_ps, by_pr, by_pr3, no_pr3)
 
 -- ---- the sets of `_PR0` to `_PR3`
 module _ (v : Device) where

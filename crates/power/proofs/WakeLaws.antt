@@ -16,9 +16,9 @@ pub from_told : (s : Station) (d x k : ℕ) (b : Bool) → b ≡ has_prw (s.devi
 unfolding wake_from
 from_told s d x k b e t q = rw (sym e ∙ t, q)
 
-pub from_none : (s : Station) (d x : ℕ) (b : Bool) → b ≡ has_prw (s.device d) → b ≡ false → false ≡ wake_from s d x
+pub from_none : (s : Station) (d x : ℕ) (b : Bool) → b ≡ has_prw (s.device d) → b ≡ false → b ≡ wake_from s d x
 unfolding wake_from
-from_none s d x b e t = rw (sym e ∙ t)
+from_none s d x b e t = t ∙ rw (sym e ∙ t) refl
 
 -- ---- the resources: one of them, which the table has or not, and the loop over the members of the set
 pub level_told : (t : List ℕ) (r x k n : ℕ) → n ≡ count_r t → r < n → k ≡ ((station t).resource r).level
@@ -42,26 +42,27 @@ wake_set s d x set b e p = e ∙ ap (powered_in s x) p
 
 -- ---- the device state, and the pair
 module _ (s : Station) (d x y : ℕ) where
-  pub state_told : (a b : ℕ) (u v : Bool) → u ≡ supported s d y → u ≡ true → a ≡ (s.device d).sxd x → b ≡ (s.device d).sxw x
+  pub state_told : (a b : ℕ) (u v : Bool) → u ≡ supported s d y → not u ≡ false → a ≡ (s.device d).sxd x → b ≡ (s.device d).sxw x
       → v ≡ wake_range a b y → v ≡ wake_state s d x y
   unfolding wake_state
-  state_told a b u v e t p q r = rw (sym e ∙ t, ← p, ← q) r
+  state_told a b u v e t p q r = rw (sym e ∙ not-false u t, ← p, ← q) r
 
-  pub state_unsupported : (u : Bool) → u ≡ supported s d y → u ≡ false → false ≡ wake_state s d x y
+  pub state_unsupported : (u : Bool) → u ≡ supported s d y → not u ≡ true → false ≡ wake_state s d x y
   unfolding wake_state
-  state_unsupported u e t = rw (sym e ∙ t)
+  state_unsupported u e t = rw (sym e ∙ not-true u t)
 
-  pub pair_sleep : (u : Bool) → u ≡ wake_from s d x → not u ≡ true → false ≡ wake_pair s d x y
+  -- v is whether the first two hold, of which the second is asked only after the first
+  pub pair_sleep : (u v : Bool) → u ≡ wake_from s d x → u ≡ false → v ≡ u → v ≡ wake_pair s d x y
   unfolding wake_pair
-  pair_sleep u e t = rw (sym e ∙ not-true u t)
+  pair_sleep u v e t q = q ∙ t ∙ rw (sym e ∙ t) refl
 
-  pub pair_unpowered : (u v : Bool) → u ≡ wake_from s d x → not u ≡ false → v ≡ wake_powered s d x → not v ≡ true → false ≡ wake_pair s d x y
+  pub pair_unpowered : (u p v : Bool) → u ≡ wake_from s d x → u ≡ true → p ≡ wake_powered s d x → v ≡ p → v ≡ false → v ≡ wake_pair s d x y
   unfolding wake_pair
-  pair_unpowered u v e t f h = rw (sym e ∙ not-false u t, sym f ∙ not-true v h)
+  pair_unpowered u p v e t f q n = n ∙ rw (sym e ∙ t, sym f ∙ sym q ∙ n) refl
 
-  pub pair_told : (u v w : Bool) → u ≡ wake_from s d x → not u ≡ false → v ≡ wake_powered s d x → not v ≡ false → w ≡ wake_state s d x y
+  pub pair_told : (u p v w : Bool) → u ≡ wake_from s d x → u ≡ true → p ≡ wake_powered s d x → v ≡ p → v ≡ true → w ≡ wake_state s d x y
       → w ≡ wake_pair s d x y
   unfolding wake_pair
-  pair_told u v w e t f h q = rw (sym e ∙ not-false u t, sym f ∙ not-false v h) q
+  pair_told u p v w e t f q h r = rw (sym e ∙ t, sym f ∙ sym q ∙ h) r
 
 pub ruleset wake_laws = (from_told, from_none, level_told, level_free, state_told, state_unsupported, pair_sleep, pair_unpowered, pair_told)

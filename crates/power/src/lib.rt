@@ -5,24 +5,16 @@
 pub mod wake;
 
 ghost use Rattle.std.specs.Prelude.{◌≡◌, ◌<◌};
-ghost use Rattle.sets.specs.Sets.{member};
 ghost use Rattle.rules.specs.Station.{has_ps, has_pr, has_prw, station};
 ghost use Rattle.rules.specs.Power.{supported, own_set, listed_set, state_needs, wake_needs, needs};
 ghost use Rattle.table.specs.Layout.{RecordAt};
-
-// Bit x of a mask.
-pub fn has_bit(mask: u8, x: u8) -> bool
-    ensures { result ≡ member mask x }
-{
-    sets::narrow::has(words::wide(mask), words::wide(x))
-}
 
 // Whether `_PSx` exists.
 pub fn has_ps(table: &[u8], d: usize, at: usize, w: usize, x: u8) -> bool
     requires { RecordAt table.now d at w }
     ensures { result ≡ has_ps ((station table.now).device d) x }
 {
-    has_bit(record::read::ps(table, at, w), x)
+    record::good::bit(record::read::ps(table, at, w), u32::from(x))
 }
 
 // Whether `_PRx` exists.
@@ -30,7 +22,7 @@ pub fn has_pr(table: &[u8], d: usize, at: usize, w: usize, x: u8) -> bool
     requires { RecordAt table.now d at w }
     ensures { result ≡ has_pr ((station table.now).device d) x }
 {
-    has_bit(record::read::pr(table, at, w), x)
+    record::good::bit(record::read::pr(table, at, w), u32::from(x))
 }
 
 // Whether `_PRW` exists.
@@ -38,7 +30,7 @@ pub fn has_prw(table: &[u8], d: usize, at: usize, w: usize) -> bool
     requires { RecordAt table.now d at w }
     ensures { result ≡ has_prw ((station table.now).device d) }
 {
-    has_bit(record::read::flags(table, at, w), 0)
+    record::good::bit(record::read::flags(table, at, w), 0)
 }
 
 // D0 and D3hot always; D1 or D2 with either object for it; D3cold with `_PR3`, whose bit is asked before the state: like this the code is
@@ -47,22 +39,11 @@ pub fn supported(table: &[u8], d: usize, at: usize, w: usize, x: u8) -> bool
     requires { RecordAt table.now d at w }
     ensures { result ≡ supported (station table.now) d x }
 {
-    if x == 0 {
-        return true;
+    match x {
+        0 | 3 => true,
+        1 | 2 => has_ps(table, d, at, w, x) || has_pr(table, d, at, w, x),
+        _ => has_pr(table, d, at, w, 3) && x == 4,
     }
-    if x == 3 {
-        return true;
-    }
-    if x < 3 {
-        if has_ps(table, d, at, w, x) {
-            return true;
-        }
-        return has_pr(table, d, at, w, x);
-    }
-    if has_pr(table, d, at, w, 3) {
-        return x == 4;
-    }
-    false
 }
 
 // The set of `_PRx`, empty without it, by the device's `_PR` mask.
@@ -70,7 +51,7 @@ pub fn own_set(table: &[u8], d: usize, at: usize, w: usize, mask: u8, x: u8) -> 
     requires { RecordAt table.now d at w × (mask ≡ ((station table.now).device d).pr) × (x < 5) }
     ensures { result ≡ own_set ((station table.now).device d) x }
 {
-    if has_bit(mask, x) {
+    if record::good::bit(mask, u32::from(x)) {
         return record::read::set(table, at, w, x as usize);
     }
     0
@@ -82,17 +63,15 @@ pub fn listed_set(table: &[u8], d: usize, at: usize, w: usize, x: u8) -> u64
     ensures { result ≡ listed_set ((station table.now).device d) x }
 {
     let mask = record::read::pr(table, at, w);
-    let mut k = x;
-    while 0 < k {
-        if has_bit(mask, k) {
-            return record::read::set(table, at, w, k as usize);
+    for k in (1..=x).rev() {
+        if record::good::bit(mask, u32::from(k)) {
+            return record::read::set(table, at, w, usize::from(k));
         }
-        k -= 1;
     }
     own_set(table, d, at, w, mask, 0)
 }
 
-// What a device needs in state x.
+// What a device needs in state x. As a match it was tried: the compiler then asks for D3hot first, two instructions more for each device.
 pub fn state_needs(table: &[u8], d: usize, at: usize, w: usize, x: u8) -> u64
     requires { RecordAt table.now d at w }
     ensures { result ≡ state_needs ((station table.now).device d) x }

@@ -9,10 +9,7 @@ pub fn wake_from(table: &[u8], d: usize, at: usize, w: usize, x: u8) -> bool
     requires { RecordAt table.now d at w }
     ensures { result ≡ wake_from (station table.now) d x }
 {
-    if crate::has_prw(table, d, at, w) {
-        return x <= record::read::deepest(table, at, w);
-    }
-    false
+    crate::has_prw(table, d, at, w) && x <= record::read::deepest(table, at, w)
 }
 
 // Resource r, if the table has it, has systemlevel x or more.
@@ -20,10 +17,7 @@ pub fn powered(table: &[u8], r: usize, x: u8) -> bool
     requires { WellSized table.now }
     ensures { result ≡ (not (ltb r (count_r table.now)) || leb x ((station table.now).resource r).level) }
 {
-    if r < table::fields::resources(table) {
-        return x <= table::fields::level(table, r);
-    }
-    true
+    r >= table::fields::resources(table) || x <= table::fields::level(table, r)
 }
 
 // Every resource of a set has systemlevel x or more: from one member to the next, so that a small set takes few turns.
@@ -96,7 +90,7 @@ pub fn wake_range(sxd: u8, sxw: u8, x: u8) -> bool
     if from > 4 || to > 5 || x > 4 {
         return false;
     }
-    sets::narrow::has(VERDICTS[from as usize], to * 5 + x as u32)
+    sets::has(u64::from(VERDICTS[from as usize]), to * 5 + u32::from(x))
 }
 
 // State y is supported and in the wake range for x.
@@ -104,12 +98,12 @@ pub fn wake_state(table: &[u8], d: usize, at: usize, w: usize, x: u8, y: u8) -> 
     requires { RecordAt table.now d at w × (x < 5) }
     ensures { result ≡ wake_state (station table.now) d x y }
 {
-    if crate::supported(table, d, at, w, y) {
-        let sxd = record::read::sxd(table, at, w, x as usize);
-        let sxw = record::read::sxw(table, at, w, x as usize);
-        return wake_range(sxd, sxw, y);
+    if !crate::supported(table, d, at, w, y) {
+        return false;
     }
-    false
+    let sxd = record::read::sxd(table, at, w, usize::from(x));
+    let sxw = record::read::sxw(table, at, w, usize::from(x));
+    wake_range(sxd, sxw, y)
 }
 
 // The wake pair (x, y) is legal.
@@ -117,11 +111,7 @@ pub fn wake_pair(table: &[u8], d: usize, at: usize, w: usize, x: u8, y: u8) -> b
     requires { RecordAt table.now d at w × (x < 5) }
     ensures { result ≡ wake_pair (station table.now) d x y }
 {
-    if !wake_from(table, d, at, w, x) {
-        return false;
-    }
-    if !wake_powered(table, d, at, w, x) {
-        return false;
-    }
-    wake_state(table, d, at, w, x, y)
+    wake_from(table, d, at, w, x)
+        && wake_powered(table, d, at, w, x)
+        && wake_state(table, d, at, w, x, y)
 }

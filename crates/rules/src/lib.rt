@@ -85,20 +85,6 @@ pub struct Change {
     pub switching: Switching,
 }
 
-// The state image of a version 1 table: four bytes a device, and the set of the resources that are on.
-#[derive(Clone, Copy)]
-pub struct State {
-    pub devices: [u8; 128],
-    pub on: u32,
-}
-
-// The same of a version 2 table.
-#[derive(Clone, Copy)]
-pub struct WideState {
-    pub devices: [u8; 256],
-    pub on: u64,
-}
-
 // Why a table, a state, a request, a list, a description or a buffer is refused, in the order of the answers' numbers, 1 to 21.
 #[derive(Clone, Copy)]
 pub enum Reason {

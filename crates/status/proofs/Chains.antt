@@ -9,7 +9,7 @@ use lib.Dec.{eqb, ltb}
 use lib.ListN.{length}
 use Rattle.sets.proofs.Laws.{decide}
 use Rattle.rules.specs.Verdict.{Verdict}
-use Rattle.std.specs.Prelude.{Ok}
+use Rattle.std.specs.Prelude.{Ok, Some, None}
 use Rattle.rules.specs.Verdict.{refuse}
 use Rattle.rules.specs.declared.Reason.TheVariants.{BadState, Inconsistent}
 use Rattle.rules.specs.Index.{least}
@@ -25,7 +25,7 @@ use Rattle.laws.proofs.Accepted.{accepted}
 use Rattle.laws.proofs.States.{GoodValues, values_of}
 use Rattle.table.proofs.Verdicts.{sized_done, sized_told, sized_passed, table_passed}
 use Rattle.status.proofs.Keeps.{with_power, without_power}
-use Rattle.status.specs.Ready.{Ready, status_with, consistency_verdict_with}
+use Rattle.status.specs.Ready.{Ready, consistency_verdict_with}
 
 -- ---- the image; n is the size that it has, good and fits are what the tests of the entries and of the on-set returned
 module _ (t b : List ℕ) (n : ℕ) (z : n ≡ image_size (width t)) where
@@ -37,13 +37,13 @@ module _ (t b : List ℕ) (n : ℕ) (z : n ≡ image_size (width t)) where
     long : eqb (length b) (image_size (width t)) ≡ true
     long = eq-eqb (length b) (image_size (width t)) (l ∙ z)
 
-    pub entries_bad : not good ≡ true → false ≡ image_good t b
+    pub entries_bad : good ≡ false → good ≡ image_good t b
     unfolding image_good values_good status_of
-    entries_bad m = rw (long, ← q, not-true good m) refl
+    entries_bad m = m ∙ rw (long, ← q, m) refl
 
-    pub on_last : not good ≡ false → (on : ℕ) (fits : Bool) → on ≡ (status t b).on → fits ≡ on_good (station t) on → fits ≡ image_good t b
+    pub on_last : good ≡ true → (on : ℕ) (fits : Bool) → on ≡ (status t b).on → fits ≡ on_good (station t) on → fits ≡ image_good t b
     unfolding image_good values_good status_of
-    on_last m on fits r o = rw (long, ← q, not-false good m, ← r, ← o) refl
+    on_last m on fits r o = rw (long, ← q, m, ← r, ← o) refl
 
 pub ruleset image_laws = (sized_done, length_bad, entries_bad, on_last)
 
@@ -84,19 +84,19 @@ module _ (t b : List ℕ) (g : Bool) (i : g ≡ image_good t b) where
           good = values.entries;
         }
 
-    pub state_is : (on : ℕ) (v : Verdict) → on ≡ (status t b).on → v ≡ consistency_verdict_with true (station t) (status_with t b on)
+    pub state_is : (on : ℕ) (v : Verdict) → on ≡ (status t b).on → v ≡ consistency_verdict_with (Some on) (station t) (entries t b)
         → v ≡ state_verdict t b
     unfolding state_verdict values_verdict status_of consistency_verdict
     state_is on v r c =
         rw (← i, not-false g n, ← r, unless_of true BadState 0 refl, first_pass (Ok 0) _ (Ok 0) (done_passes 0))
-        (c ∙ with_power (station t) (status_with t b on) ∙ sym (lowest_last _ (station t).devices (refuse Inconsistent) (refused_stops Inconsistent)))
+        (c ∙ with_power (station t) (entries t b) on ∙ sym (lowest_last _ (station t).devices (refuse Inconsistent) (refused_stops Inconsistent)))
 
     -- whatever is on
-    pub but_power_is : (on : ℕ) (v : Verdict) → v ≡ consistency_verdict_with false (station t) (status_with t b on) → v ≡ state_but_power_verdict t b
+    pub but_power_is : (v : Verdict) → v ≡ consistency_verdict_with None (station t) (entries t b) → v ≡ state_but_power_verdict t b
     unfolding state_but_power_verdict values_verdict status_of but_power_verdict
-    but_power_is on v c =
+    but_power_is v c =
         rw (← i, not-false g n, unless_of true BadState 0 refl, first_pass (Ok 0) _ (Ok 0) (done_passes 0))
-        (c ∙ without_power (station t) (status_with t b on)
+        (c ∙ without_power (station t) (entries t b)
         ∙ sym (lowest_last _ (station t).devices (refuse Inconsistent) (refused_stops Inconsistent)))
 
 pub ruleset state_laws = (sized_done, image_long, ready_by, state_values, state_is)

@@ -82,42 +82,24 @@ entries_front w b =
     (λ k h. entry_same (take (entries_size w) b) b (4 * k) (λ i l. get_or-take (entries_size w) b (4 * k + i) 0 (omega arith))
     ∙ sym (entry_in w b k h)) (entry_out w b)
 
--- the device part has its length in the image, fits an array and is an image's front
-module _ (w : ℕ) where
-  pub front_long : (b : List ℕ) → length b ≡ image_size w → entries_size w ≡ length (take (entries_size w) b)
-  front_long b l = sym (length-take-le (entries_size w) b (omega arith))
-
-  pub front_fits : (b : List ℕ) → length b ≡ image_size w → 0 + length (take (entries_size w) b) ≤ entries_size w
-  front_fits b l = omega (arith, front_long b l)
-
-  pub part_fits : (ds b : List ℕ) → length ds ≡ entries_size w → length b ≡ image_size w → 0 + length ds ≤ length b
-  part_fits ds b l m = omega arith
-
-  pub entry_fits : (ds : List ℕ) (d : ℕ) → length ds ≡ entries_size w → d < limit w → 4 * d + 4 ≤ length ds
-  entry_fits ds d l h = omega arith
-
 -- the first bytes, copied over as many others, and the number after them
-pub loaded_is : (w : ℕ) (b ds₀ ds : List ℕ) (on : ℕ) → ds ≡ put ds₀ 0 (take (entries_size w) b) → length ds₀ ≡ entries_size w
-    → length b ≡ image_size w → on ≡ read_le w b (entries_size w)
+pub loaded_is : (w n : ℕ) (b ds₀ ds : List ℕ) (on : ℕ) → n ≡ entries_size w → ds ≡ put ds₀ 0 (take n b) → length ds₀ ≡ n
+    → length b ≡ image_size w → on ≡ read_le w b n
     → record { devices = ds; on = on } ≡ loaded w b
 unfolding loaded
-loaded_is w b ds₀ ds on e l m r =
-    let long : length (take (entries_size w) b) ≡ entries_size w = length-take-le (entries_size w) b (omega arith) in
-    rw (e ∙ put_all ds₀ (take (entries_size w) b) (omega arith), r) refl
-
-pub loaded_status : (w : ℕ) (b : List ℕ) → status_in w (loaded w b) ≡ status_of w b
-unfolding loaded status_in status_of
-loaded_status w b = rw (entries_front w b) refl
+loaded_is w n b ds₀ ds on same e l m r =
+    let long : length (take n b) ≡ n = length-take-le n b (omega arith) in
+    rw (e ∙ put_all ds₀ (take n b) (omega arith), r, same) refl
 
 -- ---- what is stored
 
 -- the device part over the first bytes, and the number after it
-pub stored_is : (w : ℕ) (ds : List ℕ) (on : ℕ) (b l m : List ℕ) → l ≡ put b 0 ds → m ≡ put l (entries_size w) (bytes_le w on)
-    → length ds ≡ entries_size w → length b ≡ image_size w → m ≡ stored w (record { devices = ds; on = on })
+pub stored_is : (w n : ℕ) (ds : List ℕ) (on : ℕ) (b l m : List ℕ) → n ≡ entries_size w → l ≡ put b 0 ds → m ≡ put l n (bytes_le w on)
+    → length ds ≡ n → length b ≡ image_size w → m ≡ stored w (record { devices = ds; on = on })
 unfolding stored
-stored_is w ds on b l m e f d n =
+stored_is w n ds on b l m same e f d k =
     let long = bytes_length w on in
-    let one = put_then b m 0 (entries_size w) ds (bytes_le w on) (omega (arith, long)) (omega arith) (rw e at f) in
+    let one = put_then b m 0 n ds (bytes_le w on) (omega (arith, long)) (omega arith) (rw e at f) in
     one ∙ put_all b (ds ++ bytes_le w on) (length-append ds (bytes_le w on) ∙ omega (arith, long))
 
 -- the four bytes of an entry, and those after it
@@ -168,9 +150,9 @@ on_written t b at on b' l a w = on_stored (width t) b b' on l (w ∙ ap (λ (n :
 
 -- ---- what a fresh state says
 
-pub fresh_is : (w n on : ℕ) → on ≡ first_n n → record { devices = replicate (entries_size w) 0; on = on } ≡ fresh_held w n
+pub fresh_is : (w n m on : ℕ) → n ≡ entries_size w → on ≡ first_n m → record { devices = replicate n 0; on = on } ≡ fresh_held w m
 unfolding fresh_held
-fresh_is w n on e = rw e refl
+fresh_is w n m on same e = rw (same, e) refl
 
 fresh_status_lem : (w : ℕ) (s : Station) → status_in w (fresh_held w s.resources) ≡ fresh_status s
 unfolding status_in fresh_held fresh_status entry_at

@@ -1,6 +1,6 @@
 -- A device's consistency by its parts: one law for each way out of the code that tests them.
-use mathlib.Core.Path.{◌≡◌, refl, ap, ◌∙◌, fun_ext}
-use mathlib.Core.Bool.{Bool, true, false, not, ◌&&◌, ◌||◌, and-true}
+use mathlib.Core.Path.{◌≡◌, refl, ap, ◌∙◌}
+use mathlib.Core.Bool.{Bool, true, false, not, ◌&&◌, ◌||◌}
 use mathlib.Core.Logic.{⊎_elim}
 use mathlib.Core.List.{List}
 use Prim.Native.Nat.{ℕ, ◌+◌, ◌*◌, ◌≤◌, ◌<◌}
@@ -10,14 +10,14 @@ use lib.Dec.{eqb, leb, ltb}
 use lib.ListN.{length, get_or}
 use Rattle.sets.specs.Sets.{subset}
 use Rattle.rules.specs.declared.Entry.{Entry}
-use Rattle.std.specs.Prelude.{Ok}
+use Rattle.std.specs.Prelude.{Ok, Option, Some, None}
 use Rattle.rules.specs.Verdict.{refuse}
 use Rattle.rules.specs.declared.Reason.TheVariants.{Inconsistent}
 use Rattle.rules.specs.Answers.{lowest}
 use Rattle.rules.specs.Station.{Station, width, limit, count_d, station_of, station}
 use Rattle.rules.specs.Table.{parent_good}
 use Rattle.rules.specs.Power.{supported, needs, wake_pair}
-use Rattle.rules.specs.Status.{Status, entry_at, entries, entry_good, entries_good, parent_allows, wake_consistent, consistent_but_power}
+use Rattle.rules.specs.Status.{entry_at, entries, entry_good, entries_good, parent_allows, wake_consistent, consistent_but_power}
 use Rattle.rules.specs.Status.{powered, consistent, consistency_verdict}
 use Rattle.rules.proofs.Index.{every_at}
 use Rattle.laws.proofs.Tests.{both_true, or_cases}
@@ -37,7 +37,7 @@ entry_ready t b d e r h q = entry_is t b d e r.sized h q
 
 -- ---- the parent, whose number is p
 module _ (t b : List ℕ) (d x p : ℕ) (q : p ≡ ((station t).device d).parent) where
-  pub parent_none : p ≡ 255 → true ≡ parent_allows (station t) (entries t b) d x
+  pub parent_none : p ≡ 255 → eqb p 255 ≡ parent_allows (station t) (entries t b) d x
   unfolding parent_allows
   parent_none e = rw (← q, eq-eqb p 255 e) refl
 
@@ -69,31 +69,30 @@ module _ (t b : List ℕ) (d : ℕ) (r : Ready t b) (h : d < count_d t) where
 
   module _ (e : Entry) (legal : Bool) (a : get_or b (4 * d + 1) 0 ≡ 1) (read : e ≡ entry_at b (4 * d))
       (q : legal ≡ wake_pair (station t) d e.sleep e.wake) where
-    pub wake_illegal : not legal ≡ true → false ≡ wake_consistent (station t) d (entries t b d)
+    pub wake_illegal : legal ≡ false → legal ≡ wake_consistent (station t) d (entries t b d)
     unfolding wake_consistent
-    wake_illegal n = rw (← armed_is, eq-eqb (get_or b (4 * d + 1) 0) 1 a, ← entry_ready t b d e r h read, ← q, not-true legal n) refl
+    wake_illegal n = rw (← armed_is, eq-eqb (get_or b (4 * d + 1) 0) 1 a, ← entry_ready t b d e r h read, ← q, n) refl
 
-    pub wake_legal : not legal ≡ false → leb e.state e.wake ≡ wake_consistent (station t) d (entries t b d)
+    pub wake_legal : legal ≡ true → leb e.state e.wake ≡ wake_consistent (station t) d (entries t b d)
     unfolding wake_consistent
-    wake_legal n = rw (← armed_is, eq-eqb (get_or b (4 * d + 1) 0) 1 a, ← entry_ready t b d e r h read, ← q, not-false legal n) refl
+    wake_legal n = rw (← armed_is, eq-eqb (get_or b (4 * d + 1) 0) 1 a, ← entry_ready t b d e r h read, ← q, n) refl
 
--- ---- the three rules apart from power
-module _ (t b : List ℕ) (d : ℕ) (r : Ready t b) (h : d < count_d t) (e : Entry) (known : Bool) (read : e ≡ entry_at b (4 * d))
+-- ---- the three rules apart from power; two is whether the first two hold, of which the second is asked only after the first
+module _ (t b : List ℕ) (d : ℕ) (r : Ready t b) (h : d < count_d t) (e : Entry) (known two : Bool) (read : e ≡ entry_at b (4 * d))
     (a : known ≡ supported (station t) d e.state) where
-  pub apart_known : not known ≡ true → false ≡ consistent_but_power (station t) (entries t b) d
+  pub apart_known : known ≡ false → two ≡ known → two ≡ consistent_but_power (station t) (entries t b) d
   unfolding consistent_but_power
-  apart_known n = rw (← entry_ready t b d e r h read, ← a, not-true known n) refl
+  apart_known n q = q ∙ n ∙ rw (← entry_ready t b d e r h read, ← a, n) refl
 
-  module _ (under : Bool) (m : not known ≡ false) (u : under ≡ parent_allows (station t) (entries t b) d e.state) where
-    pub apart_under : not under ≡ true → false ≡ consistent_but_power (station t) (entries t b) d
+  module _ (under : Bool) (m : known ≡ true) (u : under ≡ parent_allows (station t) (entries t b) d e.state) (q : two ≡ under) where
+    pub apart_under : two ≡ false → two ≡ consistent_but_power (station t) (entries t b) d
     unfolding consistent_but_power
-    apart_under n = rw (← entry_ready t b d e r h read, ← a, not-false known m, ← u, not-true under n) refl
+    apart_under n = n ∙ rw (← entry_ready t b d e r h read, ← a, m, ← u, ← q, n) refl
 
-    pub apart_wake : (wake : Bool) → not under ≡ false → wake ≡ wake_consistent (station t) d (entries t b d) → wake ≡ consistent_but_power
+    pub apart_wake : (wake : Bool) → two ≡ true → wake ≡ wake_consistent (station t) d (entries t b d) → wake ≡ consistent_but_power
         (station t) (entries t b) d
     unfolding consistent_but_power
-    apart_wake wake n c = rw (← entry_ready t b d e r h read, ← a, not-false known m, ← u, not-false under n)
-        (rw (← entry_ready t b d e r h read) at c)
+    apart_wake wake n c = rw (← entry_ready t b d e r h read, ← a, m, ← u, ← q, n) (rw (← entry_ready t b d e r h read) at c)
 
 -- ---- power
 pub power_is : (t b : List ℕ) (on d : ℕ) (e : Entry) (n : ℕ) (v : Bool) → Ready t b → d < count_d t → e ≡ entry_at b (4 * d)
@@ -103,18 +102,20 @@ unfolding powered
 power_is t b on d e n v r h p q f = rw (← entry_ready t b d e r h p, ← q) f
 
 -- ---- all rules, or those apart from power
-module _ (power : Bool) (s : Station) (st : Status) (d : ℕ) (apart : Bool) (a : apart ≡ consistent_but_power s st.entries d) where
-  pub breaks : not apart ≡ true → false ≡ consistent_with power s st d
+module _ (s : Station) (f : ℕ → Entry) (d : ℕ) (apart : Bool) (a : apart ≡ consistent_but_power s f d) where
+  pub breaks : (on : Option ℕ) → not apart ≡ true → false ≡ consistent_with on s f d
   unfolding consistent_with
-  breaks n = rw (← a, not-true apart n) refl
+  breaks (Some on) n = rw (← a, not-true apart n) refl
+  breaks None n = rw (← a, not-true apart n) refl
 
-  pub keeps_apart : not apart ≡ false → not power ≡ true → true ≡ consistent_with power s st d
-  unfolding consistent_with
-  keeps_apart n p = rw (← a, not-false apart n, p) refl
+  module _ (on : Option ℕ) (n : not apart ≡ false) where
+    pub keeps_apart : on ≡ None → true ≡ consistent_with on s f d
+    unfolding consistent_with
+    keeps_apart p = rw (p, ← a, not-false apart n) refl
 
-  pub keeps : (on : Bool) → not apart ≡ false → not power ≡ false → on ≡ powered s st d → on ≡ consistent_with power s st d
-  unfolding consistent_with
-  keeps on n p q = rw (← a, not-false apart n, p) q
+    pub keeps : (set : ℕ) (v : Bool) → on ≡ Some set → v ≡ powered s (record { entries = f; on = set }) d → v ≡ consistent_with on s f d
+    unfolding consistent_with
+    keeps set v p q = rw (p, ← a, not-false apart n) q
 
 -- ---- what the stages before have shown
 sleep_in : (e : Entry) → entry_good e ≡ true → e.sleep < 5
@@ -151,25 +152,25 @@ pub ruleset keep_laws = (
 )
 
 -- ---- all devices
-module _ (power : Bool) (s : Station) (st : Status) (n i : ℕ) (look : Looking (consistent_with power s st) n i) (all : n ≡ s.devices) where
-  pub inconsistent : (b : Bool) → i < n → b ≡ consistent_with power s st i → not b ≡ true → refuse Inconsistent i ≡ consistency_verdict_with power s st
+module _ (on : Option ℕ) (s : Station) (f : ℕ → Entry) (n i : ℕ) (look : Looking (consistent_with on s f) n i) (all : n ≡ s.devices) where
+  pub inconsistent : (b : Bool) → i < n → b ≡ consistent_with on s f i → not b ≡ true → refuse Inconsistent i ≡ consistency_verdict_with on s f
   unfolding consistency_verdict_with
-  inconsistent b h e t = lowest_found (consistent_with power s st) n i b (refuse Inconsistent) look h e t
-      ∙ ap (λ (k : ℕ). lowest (λ j. not (consistent_with power s st j)) k (refuse Inconsistent)) all
+  inconsistent b h e t = lowest_found (consistent_with on s f) n i b (refuse Inconsistent) look h e t
+      ∙ ap (λ (k : ℕ). lowest (λ j. not (consistent_with on s f j)) k (refuse Inconsistent)) all
 
-  pub consistent_all : n ≤ i → Ok 0 ≡ consistency_verdict_with power s st
+  pub consistent_all : n ≤ i → Ok 0 ≡ consistency_verdict_with on s f
   unfolding consistency_verdict_with
-  consistent_all h = lowest_all (consistent_with power s st) n i (refuse Inconsistent) look h
-      ∙ ap (λ (k : ℕ). lowest (λ j. not (consistent_with power s st j)) k (refuse Inconsistent)) all
+  consistent_all h = lowest_all (consistent_with on s f) n i (refuse Inconsistent) look h
+      ∙ ap (λ (k : ℕ). lowest (λ j. not (consistent_with on s f j)) k (refuse Inconsistent)) all
 
--- with a look at power it is answer 8, and without one answer 8 of bring-up
-pub with_power : (s : Station) (st : Status) → consistency_verdict_with true s st ≡ consistency_verdict s st
+-- with a set it is answer 8, and without one answer 8 of bring-up
+pub with_power : (s : Station) (f : ℕ → Entry) (on : ℕ)
+    → consistency_verdict_with (Some on) s f ≡ consistency_verdict s (record { entries = f; on = on })
 unfolding consistency_verdict_with consistency_verdict consistent_with consistent
-with_power s st = refl
+with_power s f on = refl
 
-pub without_power : (s : Station) (st : Status) → consistency_verdict_with false s st ≡ but_power_verdict s st.entries
+pub without_power : (s : Station) (f : ℕ → Entry) → consistency_verdict_with None s f ≡ but_power_verdict s f
 unfolding consistency_verdict_with but_power_verdict consistent_with
-without_power s st =
-    ap (λ (f : ℕ → Bool). lowest f s.devices (refuse Inconsistent)) (fun_ext λ d. ap not (and-true (consistent_but_power s st.entries d)))
+without_power s f = refl
 
 pub ruleset turn_laws = (devices_are, inconsistent, consistent_all)

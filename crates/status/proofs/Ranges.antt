@@ -6,7 +6,7 @@ use mathlib.Core.List.{List}
 use Prim.Native.Nat.{ℕ, zero, suc, ◌+◌, ◌*◌, ◌^◌, ◌≤◌, ◌<◌}
 use native.Mathlib.Nat.{add_assoc}
 use native.Mathlib.Omega.{arith}
-use borrow.Author.Tests.{ltb-true, lt-ltb, le-ltb, leb-true, le-leb, eqb-true, eqb-false, eq-eqb, not-true, not-false}
+use borrow.Author.Tests.{ltb-true, lt-ltb, le-ltb, leb-true, le-leb, eqb-true, eqb-false, eq-eqb}
 use lib.Dec.{eqb, leb, ltb}
 use Rattle.sets.specs.Sets.{union}
 use Rattle.sets.proofs.Laws.{decide, union_none}
@@ -95,8 +95,8 @@ module _ (b : List ℕ) (k w : ℕ) (q : w ≡ read_le 4 b (4 * k)) where
   unfolding read_le entry_at
   value_is = q ∙ rw (add_assoc (4 * k) 1 1, add_assoc (4 * k) 2 1) (omega arith)
 
-  pub word_good : w ≤ 4 → true ≡ entry_good (entry_at b (4 * k))
-  word_good l = sym (low_good here (omega (arith, value_is)))
+  pub word_good : w ≤ 4 → leb w 4 ≡ entry_good (entry_at b (4 * k))
+  word_good l = le-leb w 4 l ∙ sym (low_good here (omega (arith, value_is)))
 
   pub entry_told : 4 < w → (e : Entry) (g : Bool) → e ≡ entry_at b (4 * k) → g ≡ is_armed e && entry_good e
       → g ≡ entry_good (entry_at b (4 * k))
@@ -188,12 +188,12 @@ module _ (t b : List ℕ) (n : ℕ) (c : n ≡ count_d t) (z : WellSized t) wher
       (every_of_lem (zero_from b n) end (λ k l. (at k l).1))))
 
   module _ (first : Bool) (q : first ≡ every good n) where
-    pub entries_first : not first ≡ true → false ≡ entries_good (limit (width t)) (station t) (entries t b)
-    entries_first x = rw (← q, not-true first x) at all_good_lem
+    pub entries_first : first ≡ false → first ≡ entries_good (limit (width t)) (station t) (entries t b)
+    entries_first x = x ∙ (rw (← q, x) at all_good_lem)
 
-    pub entries_rest : (m : ℕ) (rest : Bool) → m ≡ limit (width t) → not first ≡ false → rest ≡ every (zero_from b n) m
+    pub entries_rest : (m : ℕ) (rest : Bool) → m ≡ limit (width t) → first ≡ true → rest ≡ every (zero_from b n) m
         → rest ≡ entries_good (limit (width t)) (station t) (entries t b)
-    entries_rest m rest p x r = (rw p at r) ∙ (rw (← q, not-false first x) at all_good_lem)
+    entries_rest m rest p x r = (rw p at r) ∙ (rw (← q, x) at all_good_lem)
 
 pub ruleset range_laws = (word_good, entry_told, zero_even, zero_odd, zero_pair, zero_done, entries_first, entries_rest)
 

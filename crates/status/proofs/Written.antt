@@ -2,7 +2,7 @@
 use mathlib.Core.Path.{◌≡◌, refl, sym, ap, ◌∙◌, fun_ext}
 use mathlib.Core.List.{List, [], ◌∷◌}
 use mathlib.Core.Logic.{◌⊎◌, inl, inr, ⊎_elim}
-use Prim.Native.Nat.{ℕ, zero, suc, ◌+◌, ◌*◌, ◌%◌, ◌^◌, ◌≤◌, ◌<◌}
+use Prim.Native.Nat.{ℕ, zero, suc, ◌+◌, ◌*◌, ◌≤◌, ◌<◌}
 use native.Mathlib.Nat.{add-zero}
 use native.Mathlib.Numerals.{towards_suc}
 use native.Mathlib.Omega.{arith}
@@ -11,16 +11,15 @@ use lib.Dec.{eqb, ltb}
 use lib.ListN.{length, get_or, take, set, length-set}
 use lib.Seq.{sets, length-take-le, get_or-set_same, get_or-set_other, length-sets}
 use Rattle.sets.proofs.Laws.{decide}
-use Rattle.words.proofs.Twice.{bytes_low}
+use Rattle.words.specs.Words.{bytes_le}
 use Rattle.rules.specs.declared.Entry.{Entry}
 use Rattle.rules.specs.declared.Request.{Request}
-use Rattle.rules.specs.Station.{width, Wide, limit, count_r, station_of, station}
+use Rattle.rules.specs.Station.{width, limit, count_r, station_of, station}
 use Rattle.rules.specs.Status.{entry_at, entry_bytes, entries_size, entries_of, entries, status_of, status, image_of, image_size}
 use Rattle.rules.specs.Status.{fresh_status}
 use Rattle.rules.specs.Request.{in_state, new_entry, replace_entry}
 use Rattle.rules.specs.Calls.{end_set, status_after}
 use Rattle.rules.specs.Outcomes.{state_after}
-use Rattle.table.specs.Layout.{WellSized}
 use Rattle.status.specs.Ready.{status_with, entry_with}
 use Rattle.status.specs.State.{Held, loaded, stored, status_in, fresh_held, changed}
 use Rattle.status.proofs.Held.{entry_in, entry_out, entry_same, entries_front, image_of_lem, fresh_image}
@@ -106,62 +105,29 @@ changed_image w b d e on l h =
     let new = changed (loaded w b) d e on in
     sym (image_of_lem w new (changed_long w b d e on ∙ long)) ∙ ap (image_of w) (changed_status w b d e on h long)
 
--- a set stored in w bytes may be cut to them before
-stored_low : (w : ℕ) (h : Held) (d : ℕ) (e : Entry) (on : ℕ) → stored w (changed h d e (on % 256 ^ w)) ≡ stored w (changed h d e on)
+-- a set of which w bytes are stored may be cut to them before
+stored_low : (w : ℕ) (h : Held) (d : ℕ) (e : Entry) (on x : ℕ) → bytes_le w x ≡ bytes_le w on
+    → stored w (changed h d e x) ≡ stored w (changed h d e on)
 unfolding stored changed
-stored_low w h d e on = rw (bytes_low w on) refl
+stored_low w h d e on x q = rw q refl
 
 resources_are : (t : List ℕ) (n : ℕ) → n ≡ count_r t → n ≡ (station t).resources
 unfolding station_of
 resources_are t n e = e
 
--- ---- the width of a table, which is v: the size of its image, and what is stored in it
-module _ (t b : List ℕ) (v : ℕ) (same : v ≡ width t) (l : length b ≡ image_size (width t)) where
-  module _ (eight : v ≡ 8) where
-    pub image_264 : length b ≡ 264
-    image_264 = omega arith
+-- ---- the state of a version, whose sets have w bytes, in the image of a table of that version
+module _ (w : ℕ) (t : List ℕ) (same : w ≡ width t) where
+  pub entry_stored : (b : List ℕ) (d : ℕ) (e : Entry) (on x : ℕ) (before after : Held) (b' : List ℕ) → length b ≡ image_size (width t)
+      → d < limit (width t) → before ≡ loaded w b → after ≡ changed before d e x → bytes_le w x ≡ bytes_le w on → b' ≡ stored w after
+      → b' ≡ image_of (width t) (entry_with t b d e on)
+  entry_stored b d e on x before after b' l h r c q s =
+      rw (sym same, s, c, r) (stored_low w (loaded w b) d e on x q ∙ changed_image w b d e on (omega arith) (omega arith))
 
-    pub device_64 : (d : ℕ) → d < limit (width t) → d < 64
-    device_64 d h = omega arith
-
-    pub entry_8 : (d : ℕ) (e : Entry) (on : ℕ) (before after : Held) (b' : List ℕ) → d < limit (width t) → before ≡ loaded 8 b
-        → after ≡ changed before d e on → b' ≡ stored 8 after → b' ≡ image_of (width t) (entry_with t b d e on)
-    entry_8 d e on before after b' h r c s =
-        let w : width t ≡ 8 = omega arith in
-        rw (w, s, c, r) (changed_image 8 b d e on (omega arith) (omega arith))
-
-    pub fresh_8 : (n : ℕ) (st : Held) (b' : List ℕ) → n ≡ count_r t → st ≡ fresh_held 8 n → b' ≡ stored 8 st
-        → b' ≡ image_of (width t) (fresh_status (station t))
-    fresh_8 n st b' r f s =
-        let w : width t ≡ 8 = omega arith in
-        s ∙ ap (stored 8) (f ∙ ap (fresh_held 8) (resources_are t n r)) ∙ fresh_image 8 (station t)
-        ∙ ap (λ (k : ℕ). image_of k (fresh_status (station t))) (sym w)
-
-  module _ (wide : Wide v) (less : v ≡ 8 → ⊥) where
-    four : width t ≡ 4
-    four = let h : v ≡ 4 = omega arith in omega arith
-
-    pub image_132 : length b ≡ 132
-    image_132 = omega (arith, four)
-
-    pub device_32 : (d : ℕ) → d < limit (width t) → d < 32
-    device_32 d h = omega (arith, four)
-
-    pub resources_32 : (n : ℕ) → n ≡ count_r t → WellSized t → n ≤ 32
-    resources_32 n e z = omega (arith, four, z.resources)
-
-    pub entry_4 : (d : ℕ) (e : Entry) (on : ℕ) (before after : Held) (b' : List ℕ) → d < limit (width t) → before ≡ loaded 4 b
-        → after ≡ changed before d e (on % 256 ^ 4) → b' ≡ stored 4 after → b' ≡ image_of (width t) (entry_with t b d e on)
-    entry_4 d e on before after b' h r c s =
-        rw (four, s, c, r) (stored_low 4 (loaded 4 b) d e on ∙ changed_image 4 b d e on (omega (arith, four)) (omega (arith, four)))
-
-    pub fresh_4 : (n : ℕ) (st : Held) (b' : List ℕ) → n ≡ count_r t → st ≡ fresh_held 4 n → b' ≡ stored 4 st
-        → b' ≡ image_of (width t) (fresh_status (station t))
-    fresh_4 n st b' r f s =
-        s ∙ ap (stored 4) (f ∙ ap (fresh_held 4) (resources_are t n r)) ∙ fresh_image 4 (station t)
-        ∙ ap (λ (k : ℕ). image_of k (fresh_status (station t))) (sym four)
-
-pub ruleset by_version = (image_264, device_64, entry_8, fresh_8, image_132, device_32, resources_32, entry_4, fresh_4)
+  pub fresh_stored : (n : ℕ) (st : Held) (b' : List ℕ) → n ≡ count_r t → st ≡ fresh_held w n → b' ≡ stored w st
+      → b' ≡ image_of (width t) (fresh_status (station t))
+  fresh_stored n st b' r f s =
+      s ∙ ap (stored w) (f ∙ ap (fresh_held w) (resources_are t n r)) ∙ fresh_image w (station t)
+      ∙ ap (λ (k : ℕ). image_of k (fresh_status (station t))) same
 
 -- a state written in the image itself
 module _ (t b : List ℕ) (d y : ℕ) (h : d < limit (width t)) (l : length b ≡ image_size (width t)) where

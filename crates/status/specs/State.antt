@@ -4,8 +4,7 @@ use Rattle.std.specs.Prelude.{ℕ, ◌*◌, List, ◌++◌, take, replicate}
 use Rattle.std.proofs.lemmas.List.Edits.{sets}
 use Rattle.sets.specs.Sets.{first_n}
 use Rattle.words.specs.Words.{read_le, bytes_le}
-use Rattle.rules.specs.declared.State.{State}
-use Rattle.rules.specs.declared.WideState.{WideState}
+use Rattle.status.specs.declared.state.State.{State}
 use Rattle.rules.specs.declared.Entry.{Entry}
 use Rattle.rules.specs.Status.{Status, entry_bytes, entries_size, entries_of}
 
@@ -14,12 +13,9 @@ pub record Held : Type 0 where
   pub devices : List ℕ
   pub on : ℕ
 
--- that of version 1, and that of version 2
-abbrev pub held : State → Held
-held st = record { devices = st.devices; on = st.on }
-
-abbrev pub held_wide : WideState → Held
-held_wide st = record { devices = st.devices; on = st.on }
+-- that of a state, whose on-set is a number of its version's type
+abbrev pub held : {S : Type 0} {N : ℕ} → (S → ℕ) → State S N → Held
+held number st = record { devices = st.devices; on = number st.on }
 
 -- the state that the bytes of an image hold
 unfoldable pub loaded : ℕ → List ℕ → Held

@@ -11,11 +11,7 @@ pub fn parent_allows(table: &[u8], devices: &[u8], d: usize, at: usize, w: usize
     ensures { result ≡ parent_allows (station table.now) (entries table.now devices.now) d x }
 {
     let p = record::read::parent(table, at, w);
-    if p == 255 {
-        return true;
-    }
-    let up = crate::image::entry(devices, p as usize);
-    up.state <= x
+    p == 255 || crate::image::entry(devices, usize::from(p)).state <= x
 }
 
 // If armed, its pair is legal and its state is not deeper than wake D. The pair is read only then.
@@ -28,10 +24,7 @@ pub fn wake_consistent(table: &[u8], devices: &[u8], d: usize, at: usize, w: usi
         return true;
     }
     let e = crate::image::entry(devices, d);
-    if !power::wake::wake_pair(table, d, at, w, e.sleep, e.wake) {
-        return false;
-    }
-    e.state <= e.wake
+    power::wake::wake_pair(table, d, at, w, e.sleep, e.wake) && e.state <= e.wake
 }
 
 // A supported state, not shallower than the parent, and the wake rules.
@@ -40,13 +33,9 @@ pub fn consistent_but_power(table: &[u8], devices: &[u8], d: usize, at: usize, w
     ensures { result ≡ consistent_but_power (station table.now) (entries table.now devices.now) d }
 {
     let e = crate::image::entry(devices, d);
-    if !power::supported(table, d, at, w, e.state) {
-        return false;
-    }
-    if !parent_allows(table, devices, d, at, w, e.state) {
-        return false;
-    }
-    wake_consistent(table, devices, d, at, w)
+    power::supported(table, d, at, w, e.state)
+        && parent_allows(table, devices, d, at, w, e.state)
+        && wake_consistent(table, devices, d, at, w)
 }
 
 // Everything that device d needs is on.
@@ -58,48 +47,41 @@ pub fn powered(table: &[u8], devices: &[u8], on: u64, d: usize, at: usize, w: us
     sets::within(power::needs(table, d, at, w, e), on)
 }
 
-// Device d keeps every rule, or every one but that on power.
+// Device d keeps every rule with these resources on, or every one but that on power if none are given.
 pub fn consistent(
     table: &[u8],
     devices: &[u8],
-    on: u64,
-    power: bool,
+    on: Option<u64>,
     d: usize,
     at: usize,
     w: usize,
 ) -> bool
     requires { Ready table.now devices.now × RecordAt table.now d at w }
-    ensures { result ≡ consistent_with power (station table.now)
-        (status_with table.now devices.now on) d }
+    ensures { result ≡ consistent_with on (station table.now) (entries table.now devices.now) d }
 {
     if !consistent_but_power(table, devices, d, at, w) {
         return false;
     }
-    if !power {
-        return true;
+    match on {
+        Some(on) => powered(table, devices, on, d, at, w),
+        None => true,
     }
-    powered(table, devices, on, d, at, w)
 }
 
 // The lowest device that does not. One loop for both, so that the compiler puts the rules into it.
-pub fn consistency(table: &[u8], devices: &[u8], on: u64, power: bool) -> rules::Verdict
+pub fn consistency(table: &[u8], devices: &[u8], on: Option<u64>) -> rules::Verdict
     requires { Ready table.now devices.now }
-    ensures { result ≡ consistency_verdict_with power (station table.now)
-        (status_with table.now devices.now on) }
+    ensures { result ≡ consistency_verdict_with on (station table.now) (entries table.now devices.now) }
 {
     let n = table::fields::devices(table);
     let w = table::fields::width(table);
     let size = record::read::size(w);
-    let mut next = table::fields::start_at(table, 0);
-    let mut i = 0;
-    while i < n {
-        let d = i;
-        let at = next;
-        i += 1;
-        next += size;
-        if !consistent(table, devices, on, power, d, at, w) {
+    let mut at = table::fields::start_at(table, 0);
+    for d in 0..n {
+        if !consistent(table, devices, on, d, at, w) {
             return Err(rules::Refusal(rules::Reason::Inconsistent, d));
         }
+        at += size;
     }
     Ok(0)
 }

@@ -6,6 +6,7 @@ ghost use Rattle.rules.specs.Request.{in_state};
 ghost use Rattle.table.specs.Layout.{WellSized};
 ghost use Rattle.status.specs.Ready.{status_with, entry_with};
 
+use crate::state::State;
 use rules::Entry;
 
 // The bytes that the image of a table's state has.
@@ -53,13 +54,13 @@ pub fn set_entry(table: &[u8], image: &mut [u8], d: usize, e: Entry, on: u64)
         (entry_with table.now image.old d e on) }
 {
     if table::fields::width(table) == 8 {
-        let before = crate::state::load_wide(image);
-        crate::state::store_wide(crate::state::with_entry_wide(before, d, e, on), image);
+        let before = State::<u64, 256>::load(image);
+        before.with_entry(d, e, on).store(image);
         return;
     }
-    let before = crate::state::load(image);
+    let before = State::<u32, 128>::load(image);
     let low = (on % 0x1_0000_0000) as u32;
-    crate::state::store(crate::state::with_entry(before, d, e, low), image);
+    before.with_entry(d, e, low).store(image);
 }
 
 // A fresh state over all of the image.
@@ -69,10 +70,10 @@ pub fn write_fresh(table: &[u8], image: &mut [u8])
 {
     let resources = table::fields::resources(table) as u32;
     if table::fields::width(table) == 8 {
-        crate::state::store_wide(crate::state::fresh_wide(resources), image);
+        State::<u64, 256>::fresh(resources).store(image);
         return;
     }
-    crate::state::store(crate::state::fresh_state(resources), image);
+    State::<u32, 128>::fresh(resources).store(image);
 }
 
 // Device d's entry, of bytes that start with the device part.

@@ -24,10 +24,8 @@ pub fn image_good(table: &[u8], image: &[u8]) -> bool
     if image.len() != crate::image::size(table) {
         return false;
     }
-    if !crate::values::entries_good(table, image) {
-        return false;
-    }
-    crate::values::on_good(table, crate::image::on_set(table, image))
+    crate::values::entries_good(table, image)
+        && crate::values::on_good(table, crate::image::on_set(table, image))
 }
 
 // 7 and 8 of an image, for an accepted table.
@@ -39,7 +37,7 @@ pub fn check_state(table: &[u8], image: &[u8]) -> Verdict
         return Err(Refusal(Reason::BadState, 0));
     }
     let on = crate::image::on_set(table, image);
-    crate::consistency::consistency(table, image, on, true)
+    crate::consistency::consistency(table, image, Some(on))
 }
 
 // The same without rule 4 of RULES.md 4.3, and so whatever is on.
@@ -50,7 +48,7 @@ pub fn check_but_power(table: &[u8], image: &[u8]) -> Verdict
     if !image_good(table, image) {
         return Err(Refusal(Reason::BadState, 0));
     }
-    crate::consistency::consistency(table, image, 0, false)
+    crate::consistency::consistency(table, image, None)
 }
 
 // Answers 1 to 8 of any bytes: whether they are a power table and a consistent state of it.

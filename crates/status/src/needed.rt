@@ -20,11 +20,9 @@ fn needed_from(table: &[u8], devices: &[u8], set: u64, from: usize, end: usize) 
     let size = record::read::size(w);
     let mut at = table::fields::start_at(table, from);
     let mut all = set;
-    let mut i = from;
-    while i < end {
-        let e = crate::image::entry(devices, i);
-        all = sets::union(all, power::needs(table, i, at, w, e));
-        i += 1;
+    for d in from..end {
+        let e = crate::image::entry(devices, d);
+        all = sets::union(all, power::needs(table, d, at, w, e));
         at += size;
     }
     all
@@ -49,12 +47,10 @@ pub fn needed_below(table: &[u8], devices: &[u8], out: &mut [u64])
     let size = record::read::size(w);
     let mut at = table::fields::start_at(table, 0);
     let mut all: u64 = 0;
-    let mut i = 0;
-    while i < n {
-        out[i] = all;
-        let e = crate::image::entry(devices, i);
-        all = sets::union(all, power::needs(table, i, at, w, e));
-        i += 1;
+    for d in 0..n {
+        out[d] = all;
+        let e = crate::image::entry(devices, d);
+        all = sets::union(all, power::needs(table, d, at, w, e));
         at += size;
     }
 }

@@ -1,72 +1,121 @@
 // The state by value and its image, in the form of each version: 128 bytes beside 32 bits, and 256 bytes beside 64 bits.
-ghost use Rattle.std.specs.Prelude.{◌≡◌, ◌+◌, ◌*◌, ◌<◌, ◌≤◌, length};
+ghost use Rattle.std.specs.Prelude.{◌≡◌, ℕ, ◌+◌, ◌*◌, ◌≤◌, length};
 ghost use Rattle.std.proofs.lemmas.List.Edits.{sets};
-ghost use Rattle.rules.specs.Status.{entry_bytes};
-ghost use Rattle.status.specs.State.{held, held_wide, loaded, stored, fresh_held, changed};
+ghost use Rattle.sets.specs.Sets.{first_n};
+ghost use Rattle.words.specs.Words.{read_le, bytes_le, put};
+ghost use Rattle.rules.specs.Status.{entry_bytes, entries_size, image_size};
+ghost use Rattle.status.specs.State.{held, loaded, stored, fresh_held, changed};
 
-use rules::{Entry, State, WideState};
+use rules::Entry;
 
-// Every device in D0, none armed, the given number of resources on.
-pub fn fresh_state(resources: u32) -> State
-    requires { resources ≤ 32 }
-    ensures { held result ≡ fresh_held 4 resources }
-{
-    let on = sets::narrow::first_n(resources);
-    State {
-        devices: [0u8; 128],
-        on,
+// The set of the resources that are on: 32 bits in version 1, 64 bits in version 2.
+pub trait OnSet: Copy {
+    // how many bytes it has in an image, and the set as a number
+    ghost bytes: { ℕ };
+
+    ghost number: { Self → ℕ };
+
+    // The n resources from 0 on.
+    fn first_n(n: u32) -> Self
+        requires { n ≤ 8 * bytes }
+        ensures { number result ≡ first_n n };
+
+    // The on-set whose bytes start at `at`.
+    fn read(image: &[u8], at: usize) -> Self
+        requires { at + bytes ≤ length image.now }
+        ensures { number result ≡ read_le bytes image.now at };
+
+    // Its bytes, from `at` on.
+    fn write(self, image: &mut [u8], at: usize)
+        requires { at + bytes ≤ length image.old }
+        ensures { image.new ≡ put image.old at (bytes_le bytes (number self)) };
+}
+
+impl OnSet for u32 {
+    ghost bytes = { 4 };
+
+    ghost number = { λ on. on };
+
+    fn first_n(n: u32) -> u32 {
+        sets::first_n(n) as u32
+    }
+
+    fn read(image: &[u8], at: usize) -> u32 {
+        words::read32(image, at)
+    }
+
+    fn write(self, image: &mut [u8], at: usize) {
+        words::write32(image, at, self);
     }
 }
 
-pub fn fresh_wide(resources: u32) -> WideState
-    requires { resources ≤ 64 }
-    ensures { held_wide result ≡ fresh_held 8 resources }
-{
-    let on = sets::first_n(resources);
-    WideState {
-        devices: [0u8; 256],
-        on,
+impl OnSet for u64 {
+    ghost bytes = { 8 };
+
+    ghost number = { λ on. on };
+
+    fn first_n(n: u32) -> u64 {
+        sets::first_n(n)
+    }
+
+    fn read(image: &[u8], at: usize) -> u64 {
+        record::word::read(image, at, 8)
+    }
+
+    fn write(self, image: &mut [u8], at: usize) {
+        record::word::write(image, at, 8, self);
     }
 }
 
-// The state that an image holds.
-pub fn load(image: &[u8]) -> State
-    requires { length image.now ≡ 132 }
-    ensures { held result ≡ loaded 4 image.now }
-{
-    let mut devices = [0u8; 128];
-    words::copy(&image[..128], &mut devices, 0);
-    let on = words::read32(image, 128);
-    State { devices, on }
+// The state of a table: four bytes a device, and the set of the resources that are on. Of version 1 it is a `State<u32, 128>`, of version 2
+// a `State<u64, 256>`.
+#[derive(Clone, Copy)]
+pub struct State<S, const N: usize> {
+    pub devices: [u8; N],
+    pub on: S,
 }
 
-pub fn load_wide(image: &[u8]) -> WideState
-    requires { length image.now ≡ 264 }
-    ensures { held_wide result ≡ loaded 8 image.now }
-{
-    let mut devices = [0u8; 256];
-    words::copy(&image[..256], &mut devices, 0);
-    let on = record::word::read(image, 256, 8);
-    WideState { devices, on }
-}
+impl<S: OnSet, const N: usize> State<S, N> {
+    // Every device in D0, none armed, the given number of resources on.
+    pub fn fresh(resources: u32) -> State<S, N>
+        requires { (N ≡ entries_size S.bytes) × (resources ≤ 8 * S.bytes) }
+        ensures { held S.number result ≡ fresh_held S.bytes resources }
+    {
+        State {
+            devices: [0u8; N],
+            on: S::first_n(resources),
+        }
+    }
 
-// The state's image, written over all of the lent bytes.
-pub fn store(state: State, image: &mut [u8])
-    requires { length image.old ≡ 132 }
-    ensures { image.new ≡ stored 4 (held state) }
-{
-    let devices = state.devices;
-    words::copy(&devices, image, 0);
-    words::write32(image, 128, state.on);
-}
+    // The state that an image holds.
+    pub fn load(image: &[u8]) -> State<S, N>
+        requires { (N ≡ entries_size S.bytes) × (length image.now ≡ image_size S.bytes) }
+        ensures { held S.number result ≡ loaded S.bytes image.now }
+    {
+        let mut devices = [0u8; N];
+        words::copy(&image[..N], &mut devices, 0);
+        let on = S::read(image, N);
+        State { devices, on }
+    }
 
-pub fn store_wide(state: WideState, image: &mut [u8])
-    requires { length image.old ≡ 264 }
-    ensures { image.new ≡ stored 8 (held_wide state) }
-{
-    let devices = state.devices;
-    words::copy(&devices, image, 0);
-    record::word::write(image, 256, 8, state.on);
+    // The state's image, written over all of the lent bytes.
+    pub fn store(self, image: &mut [u8])
+        requires { (N ≡ entries_size S.bytes) × (length image.old ≡ image_size S.bytes) }
+        ensures { image.new ≡ stored S.bytes (held S.number self) }
+    {
+        words::copy(&self.devices, image, 0);
+        self.on.write(image, N);
+    }
+
+    // The state with another entry for device d and another on-set.
+    pub fn with_entry(self, d: usize, e: Entry, on: S) -> State<S, N>
+        requires { 4 * d + 4 ≤ N }
+        ensures { held S.number result ≡ changed (held S.number self) d e (S.number on) }
+    {
+        let mut devices = self.devices;
+        write_entry(&mut devices, d, e);
+        State { devices, on }
+    }
 }
 
 // Device d's entry in the device part.
@@ -79,23 +128,4 @@ fn write_entry(devices: &mut [u8], d: usize, e: Entry)
     devices[at + 1] = e.armed;
     devices[at + 2] = e.sleep;
     devices[at + 3] = e.wake;
-}
-
-// The state with another entry for device d and another on-set.
-pub fn with_entry(state: State, d: usize, e: Entry, on: u32) -> State
-    requires { d < 32 }
-    ensures { held result ≡ changed (held state) d e on }
-{
-    let mut devices = state.devices;
-    write_entry(&mut devices, d, e);
-    State { devices, on }
-}
-
-pub fn with_entry_wide(state: WideState, d: usize, e: Entry, on: u64) -> WideState
-    requires { d < 64 }
-    ensures { held_wide result ≡ changed (held_wide state) d e on }
-{
-    let mut devices = state.devices;
-    write_entry(&mut devices, d, e);
-    WideState { devices, on }
 }

@@ -18,10 +18,7 @@ fn place_good(devices: &[u8], k: usize) -> bool
     requires { 4 * k + 4 ≤ length devices.now }
     ensures { result ≡ entry_good (entry_at devices.now (4 * k)) }
 {
-    if words::read32(devices, 4 * k) <= 4 {
-        return true;
-    }
-    armed_good(crate::image::entry(devices, k))
+    words::read32(devices, 4 * k) <= 4 || armed_good(crate::image::entry(devices, k))
 }
 
 // Each of the first n entries is good.
@@ -29,10 +26,7 @@ fn first_good(devices: &[u8], n: usize) -> bool
     requires { 4 * n ≤ length devices.now }
     ensures { result ≡ every (λ k. entry_good (entry_at devices.now (4 * k))) n }
 {
-    let mut i = 0;
-    while i < n {
-        let k = i;
-        i += 1;
+    for k in 0..n {
         if !place_good(devices, k) {
             return false;
         }
@@ -46,14 +40,13 @@ fn zero_from(devices: &[u8], n: usize, end: usize) -> bool
     ensures { result ≡ every (λ k. ltb k n || entry_zero (entry_at devices.now (4 * k))) end }
 {
     let mut all: u64 = 0;
-    let mut i = n;
+    let mut from = n;
     if (end - n) % 2 == 1 {
-        all = words::read32(devices, 4 * i) as u64;
-        i += 1;
+        all = u64::from(words::read32(devices, 4 * n));
+        from += 1;
     }
-    while i < end {
+    for i in (from..end).step_by(2) {
         all = sets::union(all, record::word::read64(devices, 4 * i));
-        i += 2;
     }
     all == 0
 }
@@ -65,10 +58,7 @@ pub fn entries_good(table: &[u8], devices: &[u8]) -> bool
         (entries table.now devices.now) }
 {
     let n = table::fields::devices(table);
-    if !first_good(devices, n) {
-        return false;
-    }
-    zero_from(devices, n, table::fields::limit(table))
+    first_good(devices, n) && zero_from(devices, n, table::fields::limit(table))
 }
 
 // No resource from R on.

@@ -3,8 +3,8 @@ use borrow.Author.Rules.{rules}
 use Rattle.power.proofs.StateLaws.{listed_laws}
 use Rattle.power.proofs.listed_set.Goals as goal
 
-pub returns-then-has_bit : goal.returns-then-has_bit
-returns-then-has_bit c = search (rules, listed_laws, field_here (λ v. v.pr), field_here_at (λ v. v.sets))
+pub returns-then-bit : goal.returns-then-bit
+returns-then-bit c = search (rules, listed_laws, field_here (λ v. v.pr), field_here_at (λ v. v.sets))
 
 pub loop-k-preserved : goal.loop-k-preserved
 loop-k-preserved c = search (rules, listed_laws, field_here (λ v. v.pr), field_here_at (λ v. v.sets))

@@ -6,6 +6,3 @@ use Rattle.power.proofs.listed_set.Given as goal
 
 abbrev pub invariant-loop-k : goal.invariant-loop-k
 invariant-loop-k l = (l.k < 5) × (listed_set ((station l.table).device l.d) l.k ≡ listed_set ((station l.table).device l.d) l.x)
-
-abbrev pub decreases-loop-k : goal.decreases-loop-k
-decreases-loop-k l = l.k

@@ -3,8 +3,8 @@ use borrow.Author.Rules.{rules}
 use Rattle.power.proofs.StateLaws.{set_laws}
 use Rattle.power.proofs.own_set.Goals as goal
 
-pub returns-then-has_bit : goal.returns-then-has_bit
-returns-then-has_bit c = search (rules, set_laws, field_here_at (λ v. v.sets))
+pub returns-then-bit : goal.returns-then-bit
+returns-then-bit c = search (rules, set_laws, field_here_at (λ v. v.sets))
 
 pub returns : goal.returns
 returns c = search (rules, set_laws)

@@ -1,4 +1,3 @@
-use mathlib.Core.Path.{◌∙◌}
 use Rattle.rules.proofs.Answers.{ok_passed, err_stopped, handed_on}
 use Rattle.status.proofs.Chains.{both_laws}
 use borrow.Author.Rules.{rules}

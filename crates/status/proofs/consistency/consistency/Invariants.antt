@@ -1,15 +1,13 @@
-use Prim.Native.Nat.{◌≤◌, ◌-◌}
+use Prim.Native.Nat.{◌≤◌}
 use mathlib.Core.Path.{◌≡◌}
 use Rattle.rules.specs.Station.{count_d, station}
-use Rattle.status.specs.Ready.{status_with, consistent_with}
+use Rattle.rules.specs.Status.{entries}
+use Rattle.status.specs.Ready.{consistent_with}
 use Rattle.status.proofs.Loops.{Looking}
 use Rattle.status.proofs.Walk.{Walking}
 use Rattle.status.proofs.consistency.consistency.Given as goal
 
-abbrev pub invariant-loop-i : goal.invariant-loop-i
-invariant-loop-i l =
-    (l.i ≤ l.n) × (l.n ≤ count_d l.table) × (l.n ≡ (station l.table).devices)
-    × Walking l.table l.w l.size l.next l.i × Looking (consistent_with l.power (station l.table) (status_with l.table l.devices l.on)) l.n l.i
-
-abbrev pub decreases-loop-i : goal.decreases-loop-i
-decreases-loop-i l = l.n - l.i
+abbrev pub invariant-loop-d : goal.invariant-loop-d
+invariant-loop-d l =
+    (l.n ≤ count_d l.table) × (l.n ≡ (station l.table).devices)
+    × Walking l.table l.w l.size l.at l.d × Looking (consistent_with l.on (station l.table) (entries l.table l.devices)) l.n l.d

@@ -5,8 +5,8 @@ use Rattle.status.proofs.consistency.consistent.Goals as goal
 pub returns-then-not-consistent_but_power : goal.returns-then-not-consistent_but_power
 returns-then-not-consistent_but_power c = search (rules, keep_laws)
 
-pub returns-then-not-power : goal.returns-then-not-power
-returns-then-not-power c = search (rules, keep_laws)
+pub returns-in-Some : goal.returns-in-Some
+returns-in-Some c = search (rules, keep_laws)
 
-pub returns : goal.returns
-returns c = search (rules, keep_laws)
+pub returns-in-None : goal.returns-in-None
+returns-in-None c = search (rules, keep_laws)

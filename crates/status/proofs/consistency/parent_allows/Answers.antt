@@ -6,8 +6,8 @@ use Rattle.status.proofs.consistency.parent_allows.Goals as goal
 pub returns-then-p : goal.returns-then-p
 returns-then-p c = search (rules, keep_laws, field_here (λ v. v.parent))
 
-pub entry-up-requires : goal.entry-up-requires
-entry-up-requires c = search (rules, keep_laws, field_here (λ v. v.parent))
+pub entry-requires : goal.entry-requires
+entry-requires c = rw c.from.ensures (search (rules, keep_laws, field_here (λ v. v.parent)))
 
-pub returns : goal.returns
-returns c = search (rules, keep_laws, field_here (λ v. v.parent))
+pub returns-else-p : goal.returns-else-p
+returns-else-p c = search (rules, keep_laws, field_here (λ v. v.parent))

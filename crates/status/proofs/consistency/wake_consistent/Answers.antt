@@ -2,19 +2,18 @@ use Rattle.status.proofs.Keeps.{wake_unarmed, wake_illegal, wake_legal, keep_law
 use borrow.Author.Rules.{rules}
 use Rattle.status.proofs.consistency.wake_consistent.Goals as goal
 
--- Not armed, an illegal pair, or the comparison of the state with wake D; the wake S is in range by what the stages before have shown.
 pub returns-then-devices-armed-ne1 : goal.returns-then-devices-armed-ne1
 returns-then-devices-armed-ne1 c = wake_unarmed _ _ _ (search rules) (search rules) (search rules)
 
 pub wake_pair-requires : goal.wake_pair-requires
 wake_pair-requires c = search (rules, keep_laws)
 
-pub returns-then-not-wake_pair : goal.returns-then-not-wake_pair
-returns-then-not-wake_pair c =
-    wake_illegal _ _ _ (search rules) (search rules) c.entry-e.result c.wake_pair.result
-    (search rules) (search rules) (search rules) (search rules)
+pub returns-else-wake_pair : goal.returns-else-wake_pair
+returns-else-wake_pair c =
+    wake_illegal _ _ _ (search rules) (search rules) c.entry-e.result
+    c.wake_pair.result (search rules) (search rules) (search rules) (search rules)
 
-pub returns : goal.returns
-returns c =
+pub returns-then-wake_pair : goal.returns-then-wake_pair
+returns-then-wake_pair c =
     wake_legal _ _ _ (search rules) (search rules) c.entry-e.result
     c.wake_pair.result (search rules) (search rules) (search rules) (search rules)

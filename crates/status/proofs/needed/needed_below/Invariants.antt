@@ -1,4 +1,4 @@
-use Prim.Native.Nat.{◌-◌, ◌≤◌}
+use Prim.Native.Nat.{◌≤◌}
 use mathlib.Core.Path.{◌≡◌}
 use lib.ListN.{length}
 use Rattle.words.specs.Words.{put}
@@ -9,11 +9,8 @@ use Rattle.rules.specs.Status.{entries}
 use Rattle.status.proofs.Walk.{Walking}
 use Rattle.status.proofs.needed.needed_below.Given as goal
 
-abbrev pub invariant-loop-i : goal.invariant-loop-i
-invariant-loop-i l =
-    (l.i ≤ l.n) × Walking l.table l.w l.size l.at l.i × (l.n ≡ count_d l.table) × (l.n ≤ count_d l.table) × (l.n ≤ length l.initial.out) × (length l.out ≡ length l.initial.out)
-    × (l.out ≡ put l.initial.out 0 (each (needed_below (station l.table) (entries l.table l.devices)) l.i))
-    × (l.all ≡ needed_below (station l.table) (entries l.table l.devices) l.i)
-
-abbrev pub decreases-loop-i : goal.decreases-loop-i
-decreases-loop-i l = l.n - l.i
+abbrev pub invariant-loop-d : goal.invariant-loop-d
+invariant-loop-d l =
+    Walking l.table l.w l.size l.at l.d × (l.n ≡ count_d l.table) × (l.n ≤ length l.initial.out) × (length l.out ≡ length l.initial.out)
+    × (l.out ≡ put l.initial.out 0 (each (needed_below (station l.table) (entries l.table l.devices)) l.d))
+    × (l.all ≡ needed_below (station l.table) (entries l.table l.devices) l.d)

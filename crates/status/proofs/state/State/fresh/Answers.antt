@@ -1,6 +1,6 @@
 use Rattle.status.proofs.Held.{fresh_is}
 use borrow.Author.Rules.{rules}
-use Rattle.status.proofs.state.fresh_wide.Goals as goal
+use Rattle.status.proofs.state.State.fresh.Goals as goal
 
 pub returns : goal.returns
-returns c = search (rules, fresh_is 8)
+returns g c = search (rules, fresh_is)
