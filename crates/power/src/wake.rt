@@ -2,14 +2,16 @@
 ghost use Rattle.std.specs.Prelude.{◌≡◌, ◌||◌, not, ◌<◌, leb, ltb};
 ghost use Rattle.rules.specs.Station.{count_r, station};
 ghost use Rattle.rules.specs.Power.{powered_in, wake_from, wake_powered, wake_range, wake_state, wake_pair};
-ghost use Rattle.table.specs.Layout.{WellSized, RecordAt};
+ghost use Rattle.table.specs.Layout.{WellSized};
+ghost use Rattle.table.specs.Device.{station_in, device_in};
+
+use table::fields::DeviceRecord;
 
 // `_PRW` exists, and x is not above its deepest state.
-pub fn wake_from(table: &[u8], d: usize, at: usize, w: usize, x: u8) -> bool
-    requires { RecordAt table.now d at w }
-    ensures { result ≡ wake_from (station table.now) d x }
+pub fn wake_from(device: &DeviceRecord<'_>, x: u8) -> bool
+    ensures { result ≡ wake_from (station_in device.now) device.now.number x }
 {
-    crate::has_prw(table, d, at, w) && x <= record::read::deepest(table, at, w)
+    crate::has_prw(device) && x <= device.record.deepest()
 }
 
 // Resource r, if the table has it, has systemlevel x or more.
@@ -37,11 +39,10 @@ pub fn powered_in(table: &[u8], set: u64, x: u8) -> bool
 }
 
 // Every `_PRW` resource has systemlevel x or more.
-pub fn wake_powered(table: &[u8], d: usize, at: usize, w: usize, x: u8) -> bool
-    requires { RecordAt table.now d at w }
-    ensures { result ≡ wake_powered (station table.now) d x }
+pub fn wake_powered(device: &DeviceRecord<'_>, x: u8) -> bool
+    ensures { result ≡ wake_powered (station_in device.now) device.now.number x }
 {
-    powered_in(table, record::read::set(table, at, w, 4), x)
+    powered_in(device.record.bytes, device.record.set(4), x)
 }
 
 // The wake range of each `_SxD` and `_SxW`: a row for each pair, and in it a digit for each state, from D3cold down to D0; 150 verdicts in
@@ -94,24 +95,24 @@ pub fn wake_range(sxd: u8, sxw: u8, x: u8) -> bool
 }
 
 // State y is supported and in the wake range for x.
-pub fn wake_state(table: &[u8], d: usize, at: usize, w: usize, x: u8, y: u8) -> bool
-    requires { RecordAt table.now d at w × (x < 5) }
-    ensures { result ≡ wake_state (station table.now) d x y }
+pub fn wake_state(device: &DeviceRecord<'_>, x: u8, y: u8) -> bool
+    requires { x < 5 }
+    ensures { result ≡ wake_state (station_in device.now) device.now.number x y }
 {
-    if !crate::supported(table, d, at, w, y) {
+    if !crate::supported(device, y) {
         return false;
     }
-    let sxd = record::read::sxd(table, at, w, usize::from(x));
-    let sxw = record::read::sxw(table, at, w, usize::from(x));
+    let sxd = device.record.sxd(usize::from(x));
+    let sxw = device.record.sxw(usize::from(x));
     wake_range(sxd, sxw, y)
 }
 
 // The wake pair (x, y) is legal.
-pub fn wake_pair(table: &[u8], d: usize, at: usize, w: usize, x: u8, y: u8) -> bool
-    requires { RecordAt table.now d at w × (x < 5) }
-    ensures { result ≡ wake_pair (station table.now) d x y }
+pub fn wake_pair(device: &DeviceRecord<'_>, x: u8, y: u8) -> bool
+    requires { x < 5 }
+    ensures { result ≡ wake_pair (station_in device.now) device.now.number x y }
 {
-    wake_from(table, d, at, w, x)
-        && wake_powered(table, d, at, w, x)
-        && wake_state(table, d, at, w, x, y)
+    wake_from(device, x)
+        && wake_powered(device, x)
+        && wake_state(device, x, y)
 }

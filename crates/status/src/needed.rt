@@ -7,7 +7,9 @@ ghost use Rattle.rules.specs.Request.{replace_entry};
 ghost use Rattle.table.specs.Layout.{WellSized};
 ghost use Rattle.status.specs.Needs.{needed_from, below_each};
 
+use record::Record;
 use rules::Entry;
+use table::fields::DeviceRecord;
 
 // A set with what the devices from one number up to another need.
 fn needed_from(table: &[u8], devices: &[u8], set: u64, from: usize, end: usize) -> u64
@@ -16,13 +18,18 @@ fn needed_from(table: &[u8], devices: &[u8], set: u64, from: usize, end: usize) 
     ensures { result ≡ needed_from (station table.now)
         (entries table.now devices.now) set from (end - from) }
 {
-    let w = table::fields::width(table);
-    let size = record::read::size(w);
+    let width = table::fields::width(table);
+    let size = record::read::size(width);
     let mut at = table::fields::start_at(table, from);
     let mut all = set;
     for d in from..end {
+        let record = Record {
+            bytes: table,
+            at,
+            width,
+        };
         let e = crate::image::entry(devices, d);
-        all = sets::union(all, power::needs(table, d, at, w, e));
+        all = sets::union(all, power::needs(&DeviceRecord { record, number: d }, e));
         at += size;
     }
     all
@@ -43,14 +50,19 @@ pub fn needed_below(table: &[u8], devices: &[u8], out: &mut [u64])
     ensures { out.new ≡ below_each table.now devices.now out.old }
 {
     let n = table::fields::devices(table);
-    let w = table::fields::width(table);
-    let size = record::read::size(w);
+    let width = table::fields::width(table);
+    let size = record::read::size(width);
     let mut at = table::fields::start_at(table, 0);
     let mut all: u64 = 0;
     for d in 0..n {
         out[d] = all;
+        let record = Record {
+            bytes: table,
+            at,
+            width,
+        };
         let e = crate::image::entry(devices, d);
-        all = sets::union(all, power::needs(table, d, at, w, e));
+        all = sets::union(all, power::needs(&DeviceRecord { record, number: d }, e));
         at += size;
     }
 }
@@ -62,8 +74,7 @@ pub fn needed_with(table: &[u8], devices: &[u8], d: usize, e: Entry) -> u64
     ensures { result ≡ needed (station table.now) (replace_entry (entries table.now devices.now) d e) }
 {
     let before = needed_from(table, devices, 0, 0, d);
-    let at = table::fields::start(table, d);
-    let own = power::needs(table, d, at, table::fields::width(table), e);
+    let own = power::needs(&table::fields::device(table, d), e);
     let with = sets::union(before, own);
     needed_from(table, devices, with, d + 1, table::fields::devices(table))
 }

@@ -1,6 +1,6 @@
 -- What the readers of a table cite: its width, where a record starts and that it ends inside the table, and each field of the station, from
 -- what the readers of a record give.
-use mathlib.Core.Path.{◌≡◌, refl, sym, ◌∙◌}
+use mathlib.Core.Path.{◌≡◌, refl, sym, ap, ◌∙◌}
 use mathlib.Core.Bool.{true}
 use mathlib.Core.List.{List}
 use Prim.Native.Nat.{ℕ, ◌+◌, ◌*◌, ◌<◌, ◌≤◌}
@@ -16,6 +16,7 @@ use Rattle.sets.proofs.Laws.{decide}
 use Rattle.rules.proofs.Width.{version_8, version_4, width_wide}
 use Rattle.laws.proofs.Accepted.{record_inside, resource_at_lem, device_at_lem}
 use Rattle.record.specs.Record.{device_of}
+use Rattle.table.specs.Device.{device_in}
 use Rattle.table.specs.declared.fields.DeviceRecord.{DeviceRecord}
 use Rattle.table.specs.Layout.{WellSized, RecordAt}
 
@@ -74,11 +75,17 @@ pub field_here_at : (f : Device → ℕ → ℕ) (t : List ℕ) (d at w x v : �
 field_here_at f t d at w x v r k = rw (device_at_lem (width t) t d r.device, ← r.start, ← r.width) k
 
 -- what a device's record says is the station's device
-pub device_is : (z : DeviceRecord) → device_of z.record ≡ (station z.record.bytes.now).device z.number
+pub device_is : (z : DeviceRecord) → device_of z.record ≡ device_in z
 device_is z =
     let a = z.there in
     let t = z.record.bytes.now in
     sym (device_at_lem (width t) t z.number a.device ∙ rw (a.start, a.width) refl)
+
+pub field_in : (f : Device → ℕ) (z : DeviceRecord) (v : ℕ) → v ≡ f (device_of z.record) → v ≡ f (device_in z)
+field_in f z v e = e ∙ ap f (device_is z)
+
+pub field_in_at : (f : Device → ℕ → ℕ) (z : DeviceRecord) (x v : ℕ) → v ≡ f (device_of z.record) x → v ≡ f (device_in z) x
+field_in_at f z x v e = e ∙ ap (λ (u : Device). f u x) (device_is z)
 
 -- a device's record, the first one, and the next
 pub record_at : (t : List ℕ) (d at w : ℕ) → WellSized t → d < count_d t → at ≡ device_start (width t) t d → w ≡ width t → RecordAt t d at w

@@ -1,7 +1,7 @@
-use Rattle.table.proofs.Readers.{field_here_at}
+use Rattle.table.proofs.Readers.{field_in_at}
 use borrow.Author.Rules.{rules}
 use Rattle.power.proofs.WakeLaws.{wake_set}
 use Rattle.power.proofs.wake.wake_powered.Goals as goal
 
 pub returns : goal.returns
-returns c = search (rules, wake_set, field_here_at (λ v. v.sets))
+returns c = search (rules, wake_set, field_in_at (λ v. v.sets))

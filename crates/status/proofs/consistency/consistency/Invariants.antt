@@ -10,4 +10,4 @@ use Rattle.status.proofs.consistency.consistency.Given as goal
 abbrev pub invariant-loop-d : goal.invariant-loop-d
 invariant-loop-d l =
     (l.n ≤ count_d l.table) × (l.n ≡ (station l.table).devices)
-    × Walking l.table l.w l.size l.at l.d × Looking (consistent_with l.on (station l.table) (entries l.table l.devices)) l.n l.d
+    × Walking l.table l.width l.size l.at l.d × Looking (consistent_with l.on (station l.table) (entries l.table l.devices)) l.n l.d

@@ -1,13 +1,13 @@
-use Rattle.table.proofs.Readers.{field_here}
+use Rattle.table.proofs.Readers.{field_in}
 use Rattle.status.proofs.Keeps.{keep_laws}
 use borrow.Author.Rules.{rules}
 use Rattle.status.proofs.consistency.parent_allows.Goals as goal
 
 pub returns-then-p : goal.returns-then-p
-returns-then-p c = search (rules, keep_laws, field_here (λ v. v.parent))
+returns-then-p c = search (rules, keep_laws, field_in (λ v. v.parent))
 
 pub entry-requires : goal.entry-requires
-entry-requires c = rw c.from.ensures (search (rules, keep_laws, field_here (λ v. v.parent)))
+entry-requires c = rw c.from.ensures (search (rules, keep_laws, field_in (λ v. v.parent)))
 
 pub returns-else-p : goal.returns-else-p
-returns-else-p c = search (rules, keep_laws, field_here (λ v. v.parent))
+returns-else-p c = search (rules, keep_laws, field_in (λ v. v.parent))

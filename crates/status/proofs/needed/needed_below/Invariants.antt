@@ -11,6 +11,6 @@ use Rattle.status.proofs.needed.needed_below.Given as goal
 
 abbrev pub invariant-loop-d : goal.invariant-loop-d
 invariant-loop-d l =
-    Walking l.table l.w l.size l.at l.d × (l.n ≡ count_d l.table) × (l.n ≤ length l.initial.out) × (length l.out ≡ length l.initial.out)
+    Walking l.table l.width l.size l.at l.d × (l.n ≡ count_d l.table) × (l.n ≤ length l.initial.out) × (length l.out ≡ length l.initial.out)
     × (l.out ≡ put l.initial.out 0 (each (needed_below (station l.table) (entries l.table l.devices)) l.d))
     × (l.all ≡ needed_below (station l.table) (entries l.table l.devices) l.d)
