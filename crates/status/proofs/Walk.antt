@@ -4,7 +4,7 @@ use mathlib.Core.List.{List}
 use Prim.Native.Nat.{ℕ, ◌+◌, ◌^◌, ◌≤◌, ◌<◌}
 use native.Mathlib.Omega.{arith}
 use lib.ListN.{length}
-use Rattle.rules.specs.Station.{width, record_size, count_d, device_start}
+use Rattle.rules.specs.Station.{width, Wide, record_size, fields_size, count_d, device_start}
 use Rattle.table.specs.Layout.{WellSized, RecordAt}
 use Rattle.table.proofs.Readers.{record_at, record_next}
 
@@ -24,6 +24,12 @@ module _ (t : List ℕ) (w size at i : ℕ) where
     pub walk_record : (n : ℕ) → i < n → n ≤ count_d t → RecordAt t i at w
     walk_record n h k = record_at t i at w g.sized (omega arith) g.start g.bytes
 
+    pub walk_wide : Wide w
+    walk_wide = rw g.bytes g.sized.wide
+
+    pub walk_inside : (n : ℕ) → i < n → n ≤ count_d t → at + fields_size w ≤ length t
+    walk_inside n h k = omega (arith, (walk_record n h k).inside)
+
     pub walk_next : Walking t w size (at + size) (i + 1)
     walk_next =
         record { sized = g.sized; bytes = g.bytes; long = g.long; start = record_next t i at w size g.start g.bytes g.long }
@@ -31,4 +37,4 @@ module _ (t : List ℕ) (w size at i : ℕ) where
     pub walk_small : (n : ℕ) → i < n → n ≤ count_d t → length t < 2 ^ 64 → at + size < 2 ^ 64
     walk_small n h k u = omega (arith, (walk_record n h k).inside, g.long)
 
-pub ruleset walks = (walk_starts, walk_record, walk_next, walk_small)
+pub ruleset walks = (walk_starts, walk_record, walk_wide, walk_inside, walk_next, walk_small)

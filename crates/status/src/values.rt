@@ -46,7 +46,7 @@ fn zero_from(devices: &[u8], n: usize, end: usize) -> bool
         from += 1;
     }
     for i in (from..end).step_by(2) {
-        all = sets::union(all, record::word::read64(devices, 4 * i));
+        all = sets::union(all, words::read64(devices, 4 * i));
     }
     all == 0
 }

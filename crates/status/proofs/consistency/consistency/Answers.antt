@@ -21,3 +21,9 @@ loop-d-preserved c = search (rules, looks, walks)
 
 pub returns : goal.returns
 returns c = search (rules, turn_laws)
+
+pub invariant_of-record : goal.invariant_of-record
+invariant_of-record c = search (rules, walks)
+
+pub invariant_of-consistent : goal.invariant_of-consistent
+invariant_of-consistent c = record { there = search (rules, walks) }

@@ -17,3 +17,9 @@ loop-d-preserved c = search (rules, turns, walks)
 
 pub returns : goal.returns
 returns c = search (rules, turns)
+
+pub invariant_of-record : goal.invariant_of-record
+invariant_of-record c = search (rules, walks)
+
+pub invariant_of-needs : goal.invariant_of-needs
+invariant_of-needs c = record { there = search (rules, walks) }
