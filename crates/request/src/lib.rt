@@ -60,18 +60,17 @@ fn move_verdict(table: &[u8], devices: &[u8], d: usize, x: u8) -> Verdict
     ensures { result ≡ move_verdict (station table.now) (entries table.now devices.now) d x }
 {
     let e = status::image::entry(devices, d);
-    let at = table::fields::start(table, d);
-    let w = table::fields::width(table);
-    if !power::supported(table, d, at, w, x) {
+    let device = table::fields::device(table, d);
+    if !power::supported(&device, x) {
         return Err(Refusal(Reason::Unsupported, 0));
     }
     if !not_shallower_or_d0(e, x) {
         return Err(Refusal(Reason::Shallower, 0));
     }
-    if !status::consistency::parent_allows(table, devices, d, at, w, x) {
+    if !status::consistency::parent_allows(&device, devices, x) {
         return Err(Refusal(
             Reason::ParentDeeper,
-            table::fields::parent(table, d) as usize,
+            usize::from(device.record.parent()),
         ));
     }
     if let Some(c) = lowest_child(table, devices, d, x) {
@@ -104,15 +103,14 @@ fn arm_verdict(table: &[u8], devices: &[u8], d: usize, x: u8, y: u8) -> Verdict
     requires { Ready table.now devices.now × (d < count_d table.now) × (x < 5) }
     ensures { result ≡ arm_verdict (station table.now) (entries table.now devices.now) d x y }
 {
-    let at = table::fields::start(table, d);
-    let w = table::fields::width(table);
-    if !power::wake::wake_from(table, d, at, w, x) {
+    let device = table::fields::device(table, d);
+    if !power::wake::wake_from(&device, x) {
         return Err(Refusal(Reason::NoWake, 0));
     }
-    if !power::wake::wake_powered(table, d, at, w, x) {
+    if !power::wake::wake_powered(&device, x) {
         return Err(Refusal(Reason::WakeUnpowered, 0));
     }
-    if !power::wake::wake_state(table, d, at, w, x, y)
+    if !power::wake::wake_state(&device, x, y)
         || status::image::entry(devices, d).state > y
     {
         return Err(Refusal(Reason::BadWakeState, 0));

@@ -5,39 +5,41 @@ ghost use Rattle.rules.specs.Station.{count_d, station};
 ghost use Rattle.rules.specs.Table.{parent_good};
 ghost use Rattle.rules.specs.Status.{entries, under_parent};
 ghost use Rattle.rules.specs.Sleep.{sxd_allows, wake_d_if_armed, least_state, stays};
-ghost use Rattle.table.specs.Layout.{WellSized, RecordAt};
+ghost use Rattle.table.specs.Layout.{WellSized};
+ghost use Rattle.table.specs.Device.{table_in, station_in, device_in};
 ghost use Rattle.status.specs.Ready.{Ready};
 ghost use Rattle.sleep.specs.Chosen.{states_in, deep_enough, other_rules, least_each};
 
 use rules::Entry;
+use table::fields::DeviceRecord;
 
 // The shallowest state that `_SxD` allows: D0 without it.
-fn shallowest_of_sxd(table: &[u8], x: u8, d: usize, at: usize, w: usize) -> u8
-    requires { RecordAt table.now d at w × (x < 5) }
-    ensures { (y : ℕ) → leb result y ≡ sxd_allows (station table.now) x d y }
+fn shallowest_of_sxd(device: &DeviceRecord<'_>, x: u8) -> u8
+    requires { x < 5 }
+    ensures { (y : ℕ) → leb result y ≡ sxd_allows (station_in device.now) x device.now.number y }
 {
-    let least = record::read::sxd(table, at, w, x as usize);
+    let least = device.record.sxd(usize::from(x));
     if least == 255 { 0 } else { least }
 }
 
 // The shallowest state that device d's parent in `chosen` allows: D0 without a parent.
-fn shallowest_of_parent(table: &[u8], chosen: &[u8], d: usize, at: usize, w: usize) -> u8
-    requires { RecordAt table.now d at w × (count_d table.now ≤ length chosen.now)
-        × (parent_good d ((station table.now).device d) ≡ true) }
-    ensures { (y : ℕ) → leb result y ≡ under_parent (station table.now) (states_in chosen.now) d y }
+fn shallowest_of_parent(device: &DeviceRecord<'_>, chosen: &[u8]) -> u8
+    requires { (count_d (table_in device.now) ≤ length chosen.now)
+        × (parent_good device.now.number (device_in device.now) ≡ true) }
+    ensures { (y : ℕ) → leb result y ≡ under_parent (station_in device.now) (states_in chosen.now) device.now.number y }
 {
-    let p = record::read::parent(table, at, w);
-    if p == 255 { 0 } else { chosen[p as usize] }
+    let p = device.record.parent();
+    if p == 255 { 0 } else { chosen[usize::from(p)] }
 }
 
 // The shallowest state that is left to device d by its present one, `_SxD` and its parent's in `chosen`.
-fn shallowest(table: &[u8], chosen: &[u8], x: u8, d: usize, at: usize, w: usize, state: u8) -> u8
-    requires { RecordAt table.now d at w × (count_d table.now ≤ length chosen.now)
-        × (parent_good d ((station table.now).device d) ≡ true) × (x < 5) }
-    ensures { (y : ℕ) → leb result y ≡ deep_enough (station table.now) (states_in chosen.now) x d state y }
+fn shallowest(device: &DeviceRecord<'_>, chosen: &[u8], x: u8, state: u8) -> u8
+    requires { (count_d (table_in device.now) ≤ length chosen.now)
+        × (parent_good device.now.number (device_in device.now) ≡ true) × (x < 5) }
+    ensures { (y : ℕ) → leb result y ≡ deep_enough (station_in device.now) (states_in chosen.now) x device.now.number state y }
 {
-    let sxd = shallowest_of_sxd(table, x, d, at, w);
-    let parent = shallowest_of_parent(table, chosen, d, at, w);
+    let sxd = shallowest_of_sxd(device, x);
+    let parent = shallowest_of_parent(device, chosen);
     state.max(sxd).max(parent)
 }
 
@@ -51,15 +53,14 @@ fn wake_d_if_armed(e: Entry, y: u8) -> bool
 
 // Whether device d, whose entry is e, may take state y by the rules that `shallowest` leaves: support, power and wake D. What takes least
 // time is tested first.
-fn other_rules_allow(table: &[u8], x: u8, d: usize, at: usize, w: usize, e: Entry, y: u8) -> bool
-    requires { RecordAt table.now d at w }
-    ensures { result ≡ other_rules (station table.now) x d e y }
+fn other_rules_allow(device: &DeviceRecord<'_>, x: u8, e: Entry, y: u8) -> bool
+    ensures { result ≡ other_rules (station_in device.now) x device.now.number e y }
 {
     wake_d_if_armed(e, y)
-        && power::supported(table, d, at, w, y)
+        && power::supported(device, y)
         && power::wake::powered_in(
-            table,
-            power::needs(table, d, at, w, Entry { state: y, ..e }),
+            device.record.bytes,
+            power::needs(device, Entry { state: y, ..e }),
             x,
         )
 }
@@ -72,12 +73,11 @@ fn least_state(table: &[u8], devices: &[u8], chosen: &[u8], x: u8, d: usize) -> 
     ensures { result ≡ least_state (station table.now) (entries table.now devices.now) x
         (states_in chosen.now) d }
 {
-    let at = table::fields::start(table, d);
-    let w = table::fields::width(table);
+    let device = table::fields::device(table, d);
     let e = status::image::entry(devices, d);
-    let least = shallowest(table, chosen, x, d, at, w, e.state);
+    let least = shallowest(&device, chosen, x, e.state);
     (least..5)
-        .find(|&y| other_rules_allow(table, x, d, at, w, e, y))
+        .find(|&y| other_rules_allow(&device, x, e, y))
         .unwrap_or(5)
 }
 

@@ -8,24 +8,11 @@ pub mod walk;
 pub mod write;
 
 ghost use Rattle.std.specs.Prelude.{◌≡◌, ◌^◌, ◌<◌};
-ghost use Rattle.sets.specs.Sets.{minus};
 ghost use Rattle.rules.specs.Station.{count_r};
 ghost use Rattle.rules.specs.Calls.{switching_of};
 ghost use Rattle.table.specs.Layout.{WellSized};
 
 use rules::{Call, Switching};
-
-// What is in a and not in b, of sets of a table's resources: as words of 32 bits in version 1, of 64 bits in version 2.
-pub fn difference(table: &[u8], a: u64, b: u64) -> u64
-    requires { WellSized table.now × (a < 2 ^ count_r table.now) × (b < 2 ^ count_r table.now) }
-    ensures { result ≡ minus a b }
-{
-    if table::fields::width(table) == 8 {
-        sets::minus(a, b)
-    } else {
-        u64::from(sets::narrow::minus(a as u32, b as u32))
-    }
-}
 
 // The calls from an on-set to a target set by value; the own call and its place are taken as they are.
 #[tactic(auto, unfolding(rules::specs::Calls::to_turn_on, rules::specs::Calls::to_turn_off))]
@@ -34,8 +21,8 @@ pub fn switching(table: &[u8], own: Option<Call>, last: bool, on: u64, target: u
     ensures { result ≡ switching_of own last on target }
 {
     Switching {
-        added: difference(table, target, on),
-        removed: difference(table, on, target),
+        added: sets::minus(target, on),
+        removed: sets::minus(on, target),
         own,
         last,
     }
