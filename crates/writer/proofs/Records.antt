@@ -19,7 +19,7 @@ use Rattle.rules.specs.Index.{least, least_below}
 use Rattle.rules.proofs.Index.{some_least, no_least, least_of_some, least_of_none, at_most}
 use Rattle.sets.proofs.Laws.{decide}
 use Rattle.rules.specs.Answers.{passes, first_of, unless, lowest}
-use Rattle.rules.specs.Station.{version_good, version_width, Wide, record_size, table_size, device_at}
+use Rattle.rules.specs.Station.{limit, version_good, version_width, Wide, record_size, table_size, device_at}
 use Rattle.rules.specs.Table.{all_good, resource_good, value_fields, fields_or_objects}
 use Rattle.rules.specs.Describe.{described_width, described_size, described_r, described_d, described_device}
 use Rattle.rules.specs.Write.{described_resource_good, described_fields_good, described_device_good, records_verdict, described_counts_good}
@@ -116,7 +116,13 @@ module _ (resources : ℕ) (ds : List ℕ) where
       h ∙ rw (e, g, f) (lowest_or_next (λ i. not (described_device_good resources ds i)) (λ i. not (good_with false 8 resources ds i (0 + 54 * i)))
       (length ds / 54) (described_d ds) (λ i l. ap not (whole_device i l)) (omega arith) cut_device)
 
-pub ruleset device_checks = (described_wide, fields_cut, fields_whole, refused_6, refused_5)
+pub ruleset device_checks = (fields_cut, refused_6, refused_5)
+
+-- ---- a bad device is one of those that are there
+pub device_in : (rs ds : List ℕ) (resources d : ℕ) (q : Option ℕ) → WithinLimits rs ds → resources ≡ described_r rs
+    → q ≡ least_below (λ i. not (described_device_good resources ds i)) (described_d ds) → q ≡ Some d
+    → (d < 256) × (resources ≤ limit described_width)
+device_in rs ds resources d q h c g u = (omega (arith, (least_of_some _ (described_d ds) d (sym u ∙ g)).1, h.devices), rw c h.resources)
 
 -- ---- the records: each way out, R as the code counts it
 module _ (rs ds : List ℕ) (resources : ℕ) (r : Option ℕ) (c : resources ≡ described_r rs)
@@ -139,9 +145,6 @@ module _ (rs ds : List ℕ) (resources : ℕ) (r : Option ℕ) (c : resources �
     same : q ≡ least_below (λ i. not (described_device_good (described_r rs) ds i)) (described_d ds)
     same = rw c at g
 
-    pub some_device : (d : ℕ) → q ≡ Some d → d < described_d ds
-    some_device d u = (least_of_some _ (described_d ds) d (sym u ∙ g)).1
-
     pub bad_device : (v : Verdict) (d : ℕ) → v ≡ fields_or_objects (described_fields_good resources ds d) d → q ≡ Some d
         → v ≡ records_verdict rs ds
     bad_device v d o u =
@@ -149,10 +152,10 @@ module _ (rs ds : List ℕ) (resources : ℕ) (r : Option ℕ) (c : resources �
         lowest_refused _ _ _ (described_d ds) refusal_of q same v d w (ap passes w ∙ refuses (described_fields_good (described_r rs) ds d) d) u
         ∙ past_resources
 
-    pub all_good_lem : q ≡ None → Ok 0 ≡ records_verdict rs ds
-    all_good_lem u = sym (lowest_passed _ _ _ (described_d ds) refusal_of q same u ∙ first_none (Ok 0)) ∙ past_resources
+    pub all_records_good : q ≡ None → Ok 0 ≡ records_verdict rs ds
+    all_records_good u = sym (lowest_passed _ _ _ (described_d ds) refusal_of q same u ∙ first_none (Ok 0)) ∙ past_resources
 
-pub ruleset records_answers = (bad_resource, some_device, bad_device, all_good_lem)
+pub ruleset records_answers = (bad_resource, bad_device)
 
 -- ---- two counts within the limit
 within : (r d w : ℕ) → not (leb r (8 * w) && leb d (8 * w)) ≡ false → (r ≤ 8 * w) × (d ≤ 8 * w)

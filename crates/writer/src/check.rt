@@ -12,9 +12,7 @@ use record::Record;
 use record::lowest::Records;
 use rules::{Reason, Refusal, Verdict};
 
-// The bytes of a described device, and of each of its sets.
-pub const DESCRIBED_SIZE: usize = 54;
-pub const DESCRIBED_WIDTH: usize = 8;
+use crate::{DESCRIBED_SIZE, DESCRIBED_WIDTH};
 
 // The number of described resources; one that is cut short counts.
 pub fn resources(rs: &[u8]) -> usize
@@ -31,7 +29,6 @@ pub fn devices(ds: &[u8]) -> usize
 }
 
 // 4: the lowest bad resource, if one is bad. One that is cut short is past all whole ones, and bad.
-#[tactic(auto, using(crate::proofs::Records::lowest_resource_is))]
 fn lowest_resource(rs: &[u8]) -> Option<usize>
     ensures { result ≡ least_below (λ i. not (described_resource_good rs.now i)) (described_r rs.now) }
 {
@@ -40,7 +37,6 @@ fn lowest_resource(rs: &[u8]) -> Option<usize>
 }
 
 // 5 and 6: the lowest bad device, if one is bad. One that is cut short likewise.
-#[tactic(auto, using(crate::proofs::Records::lowest_device_is))]
 fn lowest_device(ds: &[u8], resources: usize) -> Option<usize>
     requires { (described_d ds.now < 256) × (resources ≤ limit described_width) }
     ensures { result ≡ least_below (λ i. not (described_device_good resources ds.now i)) (described_d ds.now) }

@@ -9,7 +9,7 @@ ghost use Rattle.table.specs.Layout.{WellSized};
 use record::device::Device;
 use rules::{Reason, Refusal, Verdict};
 
-use crate::check::{DESCRIBED_SIZE, DESCRIBED_WIDTH};
+use crate::{DESCRIBED_SIZE, DESCRIBED_WIDTH};
 
 // The devices of a table, 54 bytes each.
 #[tactic(auto, using(crate::proofs::Lists::describing))]

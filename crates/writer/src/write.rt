@@ -10,7 +10,7 @@ use record::Record;
 use record::device::Device;
 use rules::Verdict;
 
-use crate::check::{DESCRIBED_SIZE, DESCRIBED_WIDTH};
+use crate::{DESCRIBED_SIZE, DESCRIBED_WIDTH};
 
 // The records of whole devices, from `at` on.
 #[tactic(auto, using(crate::proofs::Lists::writing))]
