@@ -116,7 +116,7 @@ module _ (resources : ℕ) (ds : List ℕ) where
       h ∙ rw (e, g, f) (lowest_or_next (λ i. not (described_device_good resources ds i)) (λ i. not (good_with false 8 resources ds i (0 + 54 * i)))
       (length ds / 54) (described_d ds) (λ i l. ap not (whole_device i l)) (omega arith) cut_device)
 
-pub ruleset device_checks = (fields_cut, refused_6, refused_5)
+pub ruleset refused = (refused_6, refused_5)
 
 -- ---- a bad device is one of those that are there
 pub device_in : (rs ds : List ℕ) (resources d : ℕ) (q : Option ℕ) → WithinLimits rs ds → resources ≡ described_r rs

@@ -18,14 +18,14 @@ use crate::{DESCRIBED_SIZE, DESCRIBED_WIDTH};
 pub fn resources(rs: &[u8]) -> usize
     ensures { result ≡ described_r rs.now }
 {
-    (rs.len() + 3) / 4
+    rs.len().div_ceil(4)
 }
 
 // The number of described devices.
 pub fn devices(ds: &[u8]) -> usize
     ensures { result ≡ described_d ds.now }
 {
-    (ds.len() + (DESCRIBED_SIZE - 1)) / DESCRIBED_SIZE
+    ds.len().div_ceil(DESCRIBED_SIZE)
 }
 
 // 4: the lowest bad resource, if one is bad. One that is cut short is past all whole ones, and bad.
@@ -54,25 +54,24 @@ fn lowest_device(ds: &[u8], resources: usize) -> Option<usize>
 
 // Whether device d is whole and all its fields are good, asked of a device that is refused. By the first bad field: the quick tests have
 // one caller, so that they are compiled into its loop.
-#[tactic(auto, using(crate::proofs::Records::device_checks))]
+#[tactic(auto, using(crate::proofs::Records::fields_cut))]
 fn fields_good(ds: &[u8], d: usize, resources: usize) -> bool
     requires { (d < 256) × (resources ≤ limit described_width) }
     ensures { result ≡ described_fields_good resources ds.now d }
 {
     let at = DESCRIBED_SIZE * d;
-    if ds.len() < at + DESCRIBED_SIZE {
-        return false;
-    }
-    let record = Record {
-        bytes: ds,
-        at,
-        width: DESCRIBED_WIDTH,
-    };
-    record.bad_value(d, resources).is_none()
+    ds.len() >= at + DESCRIBED_SIZE
+        && Record {
+            bytes: ds,
+            at,
+            width: DESCRIBED_WIDTH,
+        }
+        .bad_value(d, resources)
+        .is_none()
 }
 
 // The answer for a bad device: 5 before 6.
-#[tactic(auto, using(crate::proofs::Records::device_checks))]
+#[tactic(auto, using(crate::proofs::Records::refused))]
 fn refusal(ds: &[u8], d: usize, resources: usize) -> Verdict
     requires { (d < 256) × (resources ≤ limit described_width) }
     ensures { result ≡ fields_or_objects (described_fields_good resources ds.now d) d }
