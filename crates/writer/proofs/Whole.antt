@@ -133,16 +133,6 @@ module _ (t rs ds : List ℕ) (v : Verdict) (e : v ≡ table_verdict t) where
         rooms : (4 * r ≤ length rs) × (54 * d ≤ length ds)
         rooms = let h = both_true _ _ (not-false _ q) in (leb-true _ _ h.0, leb-true _ _ h.1)
 
-        pub copy_asks : (n : ℕ) → n ≡ length rs → 0 + length (take (8 + 4 * r - 8) (drop 8 t)) ≤ n
-        copy_asks n u = rw (
-          u,
-          add-sub_cancel_left,
-          zero-add,
-          length-take-le (4 * r) (drop 8 t)
-              (omega (arith, length-drop 8 t, part_inside)),
-        )
-            rooms.0
-
         pub devices_have_room : (n : ℕ) → n ≡ length ds → WellSized t × (described_size * count_d t ≤ n)
         devices_have_room n u = (sized, rw (← z, u) rooms.1)
 

@@ -5,7 +5,7 @@ pub refusal-requires : goal.refusal-requires
 refusal-requires c =
     device_in _ _ _ _ _ c.requires c.resources-resources.ensures c.lowest_device.ensures c.in-Some-lowest_device.is
 
--- Each check that fails has the answer; this is where all have passed.
+-- Neither list has a bad record.
 pub returns : goal.returns
 returns c =
     all_records_good _ _ _ _ c.resources-resources.ensures c.lowest_resource.ensures c.in_default.is _ c.lowest_device.ensures
