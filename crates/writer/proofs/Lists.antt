@@ -37,7 +37,7 @@ record_written w ds l l' i p v e q =
     let same : value_bytes w v ≡ field_bytes w (described_device ds i) = ap (value_bytes w) e ∙ held_bytes w (described_device ds i) in
     rw same at q
 
-pub ruleset writing = (described_wide, written_lengths, device_whole, record_written, joined_loop)
+pub ruleset writing = (written_lengths, device_whole, record_written, joined_loop)
 
 -- ---- devices described
 abbrev pub described : List ℕ → ℕ → List ℕ
@@ -64,4 +64,4 @@ pub all_described : (t d l : List ℕ) → l ≡ put d 0 (join (described t) (co
 unfolding devices_of
 all_described t d l e = e
 
-pub ruleset describing = (described_wide, described_lengths, from_start, device_described, joined_loop)
+pub ruleset describing = (described_lengths, from_start, device_described, joined_loop)
