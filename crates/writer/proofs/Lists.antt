@@ -1,21 +1,20 @@
 -- The loops over the devices: what a turn of writing their records, and of describing them, adds.
 use mathlib.Core.Path.{◌≡◌, refl, ap, ◌∙◌}
 use mathlib.Core.List.{List, ◌++◌}
-use Prim.Native.Nat.{ℕ, ◌+◌, ◌*◌, ◌≤◌, ◌<◌}
+use Prim.Native.Nat.{ℕ, ◌+◌, ◌*◌, ◌≤◌}
 use native.Mathlib.Omega.{arith}
 use lib.ListN.{length, replicate}
 use Rattle.words.specs.Words.{put}
 use Rattle.rules.specs.Index.{join}
 use Rattle.rules.specs.Station.{width, record_size, fields_size, zeros_size, count_d, device_start, device_at, field_bytes}
-use Rattle.rules.specs.Describe.{described_width, described_size, described_d, described_device, devices_of, record_bytes}
+use Rattle.rules.specs.Describe.{described_width, described_size, described_device, devices_of, record_bytes}
 use Rattle.laws.proofs.Fields.{fields_long, record_long}
 use Rattle.laws.proofs.Joined.{SameLength, joined_loop}
 use Rattle.record.specs.declared.device.Device.{Device}
 use Rattle.record.specs.Record.{device_of}
-use Rattle.table.specs.declared.fields.DeviceRecord.{DeviceRecord}
 use Rattle.record.specs.Value.{device_value, value_bytes}
 use Rattle.record.proofs.Values.{held_bytes}
-use Rattle.writer.proofs.Records.{described_wide}
+use Rattle.table.specs.declared.fields.DeviceRecord.{DeviceRecord}
 
 -- ---- records written
 abbrev pub written : ℕ → List ℕ → ℕ → List ℕ
@@ -23,11 +22,6 @@ written w ds d = record_bytes w (described_device ds d)
 
 pub written_lengths : (w : ℕ) (ds : List ℕ) → SameLength (written w ds) (record_size w)
 written_lengths w ds = record { long = λ d. record_long w (described_device ds d) }
-
--- a device that is there is whole
-pub device_whole : (ds : List ℕ) (n i : ℕ) → length ds ≡ described_size * described_d ds → n ≡ described_d ds → i < n
-    → described_size * i + described_size ≤ length ds
-device_whole ds n i h e l = omega arith
 
 -- the record of the value of a described device is the described device's
 pub record_written : (w : ℕ) (ds l l' : List ℕ) (i p : ℕ) (v : Device) → v ≡ device_value (described_device ds i)
@@ -37,7 +31,7 @@ record_written w ds l l' i p v e q =
     let same : value_bytes w v ≡ field_bytes w (described_device ds i) = ap (value_bytes w) e ∙ held_bytes w (described_device ds i) in
     rw same at q
 
-pub ruleset writing = (written_lengths, device_whole, record_written, joined_loop)
+pub ruleset writing = (written_lengths, record_written, joined_loop)
 
 -- ---- devices described
 abbrev pub described : List ℕ → ℕ → List ℕ
@@ -50,6 +44,7 @@ described_lengths t = record { long = λ d. fields_long described_width (device_
 pub from_start : (t d : List ℕ) → described_size * count_d t ≤ length d → 0 + described_size * count_d t ≤ length d
 from_start t d h = omega arith
 
+-- the fields written of a device of the table
 pub device_described : (t l l' : List ℕ) (i p : ℕ) (z : DeviceRecord) (v : Device) → z.record.bytes.now ≡ t → z.number ≡ i
     → v ≡ device_value (device_of z.record)
     → (l' ≡ put l p (value_bytes 8 v)) × (length (value_bytes 8 v) ≡ fields_size 8) → l' ≡ put l p (described t i)

@@ -19,7 +19,7 @@ use Rattle.rules.specs.Index.{least, least_below}
 use Rattle.rules.proofs.Index.{some_least, no_least, least_of_some, least_of_none, at_most}
 use Rattle.sets.proofs.Laws.{decide}
 use Rattle.rules.specs.Answers.{passes, first_of, unless, lowest}
-use Rattle.rules.specs.Station.{limit, version_good, version_width, Wide, record_size, table_size, device_at}
+use Rattle.rules.specs.Station.{limit, version_good, version_width, Wide, table_size, device_at}
 use Rattle.rules.specs.Table.{all_good, resource_good, value_fields, fields_or_objects}
 use Rattle.rules.specs.Describe.{described_width, described_size, described_r, described_d, described_device}
 use Rattle.rules.specs.Write.{described_resource_good, described_fields_good, described_device_good, records_verdict, described_counts_good}
@@ -34,10 +34,6 @@ use Rattle.record.specs.Bad.{bad_place}
 use Rattle.record.proofs.FirstBad.{place_none}
 use Rattle.table.proofs.Verdicts.{unless_passed, unless_refused, lowest_passed, lowest_refused}
 use Rattle.writer.specs.WithinLimits.{WithinLimits}
-
--- a described device's sets have a width that a record can have
-pub described_wide : Wide 8
-described_wide = record { low = omega arith; high = omega arith; fours = refl }
 
 -- ---- the lowest of m numbers where g tells of the first n, and n itself is a hit if there are more
 pub lowest_or_next : (f g : ℕ → Bool) (n m : ℕ) → ((i : ℕ) → i < n → f i ≡ g i) → n ≤ m → (n < m → f n ≡ true)

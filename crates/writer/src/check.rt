@@ -8,11 +8,10 @@ ghost use Rattle.rules.specs.Describe.{described_width, described_r, described_d
 ghost use Rattle.rules.specs.Write.{described_resource_good, described_fields_good, described_device_good, records_verdict, write_verdict};
 ghost use Rattle.writer.specs.WithinLimits.{WithinLimits};
 
+use crate::{DESCRIBED_SIZE, DESCRIBED_WIDTH};
 use record::Record;
 use record::lowest::Records;
 use rules::{Reason, Refusal, Verdict};
-
-use crate::{DESCRIBED_SIZE, DESCRIBED_WIDTH};
 
 // The number of described resources; one that is cut short counts.
 pub fn resources(rs: &[u8]) -> usize
@@ -49,7 +48,9 @@ fn lowest_device(ds: &[u8], resources: usize) -> Option<usize>
         zeros: false,
         count: whole,
     };
-    records.lowest_bad(resources).or((whole < devices(ds)).then_some(whole))
+    records
+        .lowest_bad(resources)
+        .or((whole < devices(ds)).then_some(whole))
 }
 
 // Whether device d is whole and all its fields are good, asked of a device that is refused. By the first bad field: the quick tests have

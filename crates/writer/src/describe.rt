@@ -6,10 +6,9 @@ ghost use Rattle.rules.specs.Describe.{described_size, devices_of};
 ghost use Rattle.rules.specs.Write.{describe};
 ghost use Rattle.table.specs.Layout.{WellSized};
 
+use crate::{DESCRIBED_SIZE, DESCRIBED_WIDTH};
 use record::device::Device;
 use rules::{Reason, Refusal, Verdict};
-
-use crate::{DESCRIBED_SIZE, DESCRIBED_WIDTH};
 
 // The devices of a table, 54 bytes each.
 #[tactic(auto, using(crate::proofs::Lists::describing))]

@@ -5,6 +5,8 @@ pub mod check;
 pub mod describe;
 pub mod write;
 
-// The bytes of a described device, and of each of its sets (RULES.md 11.1).
+// The bytes of a described device (RULES.md 11.1).
 const DESCRIBED_SIZE: usize = 54;
+
+// The bytes of each of its sets.
 const DESCRIBED_WIDTH: usize = 8;

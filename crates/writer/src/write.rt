@@ -6,11 +6,10 @@ ghost use Rattle.rules.specs.Station.{Wide, record_size};
 ghost use Rattle.rules.specs.Describe.{described_size, described_d, described_device, record_bytes};
 ghost use Rattle.rules.specs.Write.{write};
 
+use crate::{DESCRIBED_SIZE, DESCRIBED_WIDTH};
 use record::Record;
 use record::device::Device;
 use rules::Verdict;
-
-use crate::{DESCRIBED_SIZE, DESCRIBED_WIDTH};
 
 // The records of whole devices, from `at` on.
 #[tactic(auto, using(crate::proofs::Lists::writing))]
