@@ -1,22 +1,26 @@
 -- The checks of two lists of records: of one record, and each way out of the chain of checks.
 -- Where the code asks another function, that function's answer comes with what it says.
 use mathlib.Core.Path.{◌≡◌, refl, sym, ap, ◌∙◌}
-use mathlib.Core.Bool.{Bool, true, false, not, ◌&&◌, and-true}
+use mathlib.Core.Bool.{Bool, true, false, not, not-not, ◌&&◌, and-true}
 use mathlib.Core.List.{List, [], ◌∷◌}
 use Prim.Native.Nat.{ℕ, ◌+◌, ◌*◌, ◌/◌, ◌≤◌, ◌<◌}
 use native.Mathlib.Nat.{zero-add}
 use native.Mathlib.Omega.{arith}
-use borrow.Author.Tests.{leb-true, le-leb, lt-leb, not-true, not-false}
-use lib.Dec.{eqb, leb}
+use borrow.Author.Tests.{leb-true, ltb-true, ltb-false, le-leb, lt-leb, not-true, not-false}
+use lib.Dec.{leb, ltb}
 use lib.ListN.{length}
 use Rattle.rules.specs.Verdict.{Verdict}
-use Rattle.std.specs.Prelude.{Ok}
+use Rattle.std.specs.Prelude.{Ok, Option, Some, None, is_some}
+use Rattle.std.specs.Option.{option_or}
+use Rattle.std.specs.Bool.{then_some}
 use Rattle.rules.specs.Verdict.{refuse}
 use Rattle.rules.specs.declared.Reason.TheVariants.{NotATable, TooMany, BadResource, BadDevice, BadObjects, NoRoom}
-use Rattle.rules.specs.Index.{least}
+use Rattle.rules.specs.Index.{least, least_below}
+use Rattle.rules.proofs.Index.{some_least, no_least, least_of_some, least_of_none, at_most}
+use Rattle.sets.proofs.Laws.{decide}
 use Rattle.rules.specs.Answers.{passes, first_of, unless, lowest}
-use Rattle.rules.specs.Station.{version_good, version_width, Wide, record_size, table_size, device_at}
-use Rattle.rules.specs.Table.{first_bad, all_good, resource_good, value_fields, fields_or_objects}
+use Rattle.rules.specs.Station.{limit, version_good, version_width, Wide, table_size, device_at}
+use Rattle.rules.specs.Table.{all_good, resource_good, value_fields, fields_or_objects}
 use Rattle.rules.specs.Describe.{described_width, described_size, described_r, described_d, described_device}
 use Rattle.rules.specs.Write.{described_resource_good, described_fields_good, described_device_good, records_verdict, described_counts_good}
 use Rattle.rules.specs.Write.{written_size, write_verdict}
@@ -26,13 +30,24 @@ use Rattle.laws.proofs.Accepted.{refuses}
 use Rattle.laws.proofs.Every.{least_part}
 use Rattle.laws.proofs.Tests.{both_true}
 use Rattle.record.specs.Good.{good_with}
-use Rattle.record.proofs.AllGood.{value_good}
+use Rattle.record.specs.Bad.{bad_place}
+use Rattle.record.proofs.FirstBad.{place_none}
 use Rattle.table.proofs.Verdicts.{unless_passed, unless_refused, lowest_passed, lowest_refused}
 use Rattle.writer.specs.WithinLimits.{WithinLimits}
 
--- a described device's sets have a width that a record can have
-pub described_wide : Wide 8
-described_wide = record { low = omega arith; high = omega arith; fours = refl }
+-- ---- the lowest of m numbers where g tells of the first n, and n itself is a hit if there are more
+pub lowest_or_next : (f g : ℕ → Bool) (n m : ℕ) → ((i : ℕ) → i < n → f i ≡ g i) → n ≤ m → (n < m → f n ≡ true)
+    → option_or (least_below g n) (then_some (ltb n m) n) ≡ least_below f m
+lowest_or_next f g n m h l c = go (least_below g n) refl
+  where
+    same : least g n ≡ least f m
+    same = least_part f g n m h l c
+
+    go : (o : Option ℕ) → o ≡ least_below g n → option_or o (then_some (ltb n m) n) ≡ least_below f m
+    go (Some i) e = let k = least_of_some g n i e in some_least f m i (k.0 ∙ same) (omega (arith, k.1))
+    go None e =
+        let at_n : n ≡ least f m = omega (arith, least_of_none g n e, at_most g 0 n) ∙ same in
+        decide (ltb n m) (λ q. rw q (some_least f m n at_n (ltb-true n m q))) (λ q. rw q (no_least f m n at_n (ltb-false n m q)))
 
 -- ---- the lowest bad resource: where the last is cut short it is bad, and no whole one is past it
 module _ (rs : List ℕ) where
@@ -44,12 +59,12 @@ module _ (rs : List ℕ) where
   unfolding described_resource_good
   whole_resource i h = rw (le-leb (4 * i + 4) (length rs) (omega arith), zero-add (4 * i)) refl
 
-  pub resources_run : (r : ℕ) → r ≡ least (λ i. not (resource_good rs (0 + 4 * i))) (length rs / 4)
-      → r ≡ least (λ i. not (described_resource_good rs i)) (described_r rs)
-  resources_run r e =
-      e ∙ least_part (λ i. not (described_resource_good rs i)) _ (length rs / 4) (described_r rs) (λ i h. ap not (whole_resource i h))
-      (omega arith)
-      cut_resource
+  pub lowest_resource_is : (n : ℕ) (r t o : Option ℕ) → r ≡ least_below (λ i. not (resource_good rs (0 + 4 * i))) (length rs / 4)
+      → n ≡ described_r rs → t ≡ then_some (ltb (length rs / 4) n) (length rs / 4) → o ≡ option_or r t
+      → o ≡ least_below (λ i. not (described_resource_good rs i)) (described_r rs)
+  lowest_resource_is n r t o e f g h =
+      h ∙ rw (e, g, f) (lowest_or_next (λ i. not (described_resource_good rs i)) (λ i. not (resource_good rs (0 + 4 * i))) (length rs / 4)
+      (described_r rs) (λ i l. ap not (whole_resource i l)) (omega arith) cut_resource)
 
 -- ---- one device among R resources
 module _ (resources : ℕ) (ds : List ℕ) (d : ℕ) where
@@ -57,12 +72,13 @@ module _ (resources : ℕ) (ds : List ℕ) (d : ℕ) where
   unfolding described_fields_good
   fields_cut h = rw (lt-leb (described_size * d + described_size) (length ds) h) refl
 
-  pub fields_whole : (n s : ℕ) → described_size * d + described_size ≤ length ds
-      → n ≡ first_bad (record_size 8) (value_fields 8 resources d (device_at 8 ds (described_size * d))) → s ≡ record_size 8
-      → eqb n s ≡ described_fields_good resources ds d
+  pub fields_whole : (o : Option ℕ) (b : Bool) → described_size * d + described_size ≤ length ds
+      → o ≡ bad_place (value_fields 8 resources d (device_at 8 ds (described_size * d))) → is_some o ≡ not b
+      → b ≡ described_fields_good resources ds d
   unfolding described_fields_good
-  fields_whole n s h e f =
-      rw (le-leb (described_size * d + described_size) (length ds) h, e, f) (value_good described_width resources d (described_device ds d))
+  fields_whole o b h e f =
+      rw (le-leb (described_size * d + described_size) (length ds) h, place_none (value_fields 8 resources d (described_device ds d)), ← e, f)
+      (sym (not-not b))
 
   module _ (f : Bool) (e : f ≡ described_fields_good resources ds d) where
     pub refused_6 : f ≡ true → refuse BadObjects d ≡ fields_or_objects (described_fields_good resources ds d) d
@@ -88,44 +104,54 @@ module _ (resources : ℕ) (ds : List ℕ) where
         and-true (all_good (value_fields 8 resources i (described_device ds i))),
       ) refl
 
-  pub devices_run : (d : ℕ) → d ≡ least (λ i. not (good_with false 8 resources ds i (0 + 54 * i))) (length ds / 54)
-      → d ≡ least (λ i. not (described_device_good resources ds i)) (described_d ds)
-  devices_run d e =
-      e ∙ least_part (λ i. not (described_device_good resources ds i)) _ (length ds / 54) (described_d ds) (λ i h. ap not (whole_device i h))
-      (omega arith) cut_device
+  pub lowest_device_is : (n : ℕ) (r t o : Option ℕ)
+      → r ≡ least_below (λ i. not (good_with false 8 resources ds i (0 + 54 * i))) (length ds / 54)
+      → n ≡ described_d ds → t ≡ then_some (ltb (length ds / 54) n) (length ds / 54) → o ≡ option_or r t
+      → o ≡ least_below (λ i. not (described_device_good resources ds i)) (described_d ds)
+  lowest_device_is n r t o e f g h =
+      h ∙ rw (e, g, f) (lowest_or_next (λ i. not (described_device_good resources ds i)) (λ i. not (good_with false 8 resources ds i (0 + 54 * i)))
+      (length ds / 54) (described_d ds) (λ i l. ap not (whole_device i l)) (omega arith) cut_device)
 
-pub ruleset record_checks = (described_wide, resources_run, fields_cut, fields_whole, refused_6, refused_5, devices_run)
+pub ruleset refused = (refused_6, refused_5)
 
--- ---- the records: each way out, R and D as the code counts them
-module _ (rs ds : List ℕ) (resources r : ℕ) (c : resources ≡ described_r rs)
-    (e : r ≡ least (λ i. not (described_resource_good rs i)) (described_r rs)) where
+-- ---- a bad device is one of those that are there
+pub device_in : (rs ds : List ℕ) (resources d : ℕ) (q : Option ℕ) → WithinLimits rs ds → resources ≡ described_r rs
+    → q ≡ least_below (λ i. not (described_device_good resources ds i)) (described_d ds) → q ≡ Some d
+    → (d < 256) × (resources ≤ limit described_width)
+device_in rs ds resources d q h c g u = (omega (arith, (least_of_some _ (described_d ds) d (sym u ∙ g)).1, h.devices), rw c h.resources)
+
+-- ---- the records: each way out, R as the code counts it
+module _ (rs ds : List ℕ) (resources : ℕ) (r : Option ℕ) (c : resources ≡ described_r rs)
+    (e : r ≡ least_below (λ i. not (described_resource_good rs i)) (described_r rs)) where
+  abbrev refusal_of : ℕ → Verdict
+  refusal_of d = fields_or_objects (described_fields_good (described_r rs) ds d) d
+
   abbrev devices_check : Verdict
-  devices_check = lowest (λ d. not (described_device_good (described_r rs) ds d)) (described_d ds)
-      (λ d. fields_or_objects (described_fields_good (described_r rs) ds d) d)
+  devices_check = lowest (λ d. not (described_device_good (described_r rs) ds d)) (described_d ds) refusal_of
 
-  pub bad_resource : r < resources → refuse BadResource r ≡ records_verdict rs ds
+  pub bad_resource : (i : ℕ) → r ≡ Some i → refuse BadResource i ≡ records_verdict rs ds
   unfolding records_verdict
-  bad_resource p = lowest_refused _ _ _ (described_r rs) resources r (refuse BadResource) e c _ refl (refused_stops BadResource r) p
+  bad_resource i p = lowest_refused _ _ _ (described_r rs) (refuse BadResource) r e _ i refl (refused_stops BadResource i) p
 
-  module _ (p : resources ≤ r) (d n : ℕ) (g : d ≡ least (λ i. not (described_device_good resources ds i)) (described_d ds))
-      (k : n ≡ described_d ds) where
+  module _ (p : r ≡ None) (q : Option ℕ) (g : q ≡ least_below (λ i. not (described_device_good resources ds i)) (described_d ds)) where
     past_resources : first_of (devices_check ∷ []) (Ok 0) ≡ records_verdict rs ds
     unfolding records_verdict
-    past_resources = sym (lowest_passed _ _ _ (described_r rs) resources r (refuse BadResource) e c p)
+    past_resources = sym (lowest_passed _ _ _ (described_r rs) (refuse BadResource) r e p)
 
-    same : d ≡ least (λ i. not (described_device_good (described_r rs) ds i)) (described_d ds)
+    same : q ≡ least_below (λ i. not (described_device_good (described_r rs) ds i)) (described_d ds)
     same = rw c at g
 
-    pub bad_device : (v : Verdict) → d < n → v ≡ fields_or_objects (described_fields_good resources ds d) d → v ≡ records_verdict rs ds
-    bad_device v u o =
+    pub bad_device : (v : Verdict) (d : ℕ) → v ≡ fields_or_objects (described_fields_good resources ds d) d → q ≡ Some d
+        → v ≡ records_verdict rs ds
+    bad_device v d o u =
         let w = rw c at o in
-        lowest_refused _ _ _ (described_d ds) n d _ same k v w (ap passes w ∙ refuses (described_fields_good (described_r rs) ds d) d) u
+        lowest_refused _ _ _ (described_d ds) refusal_of q same v d w (ap passes w ∙ refuses (described_fields_good (described_r rs) ds d) d) u
         ∙ past_resources
 
-    pub all_good_lem : n ≤ d → Ok 0 ≡ records_verdict rs ds
-    all_good_lem u = sym (lowest_passed _ _ _ (described_d ds) n d _ same k u ∙ first_none (Ok 0)) ∙ past_resources
+    pub all_records_good : q ≡ None → Ok 0 ≡ records_verdict rs ds
+    all_records_good u = sym (lowest_passed _ _ _ (described_d ds) refusal_of q same u ∙ first_none (Ok 0)) ∙ past_resources
 
-pub ruleset records_answers = (bad_resource, bad_device, all_good_lem)
+pub ruleset records_answers = (bad_resource, bad_device)
 
 -- ---- two counts within the limit
 within : (r d w : ℕ) → not (leb r (8 * w) && leb d (8 * w)) ≡ false → (r ≤ 8 * w) × (d ≤ 8 * w)

@@ -1,15 +1,14 @@
 -- Write and describe as wholes: each way out, and what the code asks of its parts once the checks have passed.
 -- v is the answer of the checks, b whether it passes.
 use mathlib.Core.Path.{◌≡◌, refl, sym, ap, ◌∙◌}
-use mathlib.Core.Bool.{Bool, true, false, not, ◌&&◌}
+use mathlib.Core.Bool.{true, false, not, ◌&&◌}
 use mathlib.Core.List.{List, [], ◌∷◌, ◌++◌}
 use Prim.Native.Nat.{ℕ, ◌+◌, ◌*◌, ◌-◌, ◌≤◌, ◌<◌}
-use native.Mathlib.Nat.{add-sub_cancel_left, zero-add}
+use native.Mathlib.Nat.{add-sub_cancel_left}
 use native.Mathlib.Omega.{arith}
 use borrow.Author.Tests.{leb-true, not-true, not-false}
 use lib.Dec.{leb}
-use lib.ListN.{length, take, drop, length-append, length-drop}
-use lib.Seq.{length-take-le}
+use lib.ListN.{length, take, drop, length-append}
 use Rattle.words.specs.Words.{bytes_le, put}
 use Rattle.words.proofs.Put.{length_put, put_then}
 use Rattle.rules.specs.Verdict.{Verdict}
@@ -132,16 +131,6 @@ module _ (t rs ds : List ℕ) (v : Verdict) (e : v ≡ table_verdict t) where
       module _ (q : not (leb (4 * r) (length rs) && leb (54 * d) (length ds)) ≡ false) where
         rooms : (4 * r ≤ length rs) × (54 * d ≤ length ds)
         rooms = let h = both_true _ _ (not-false _ q) in (leb-true _ _ h.0, leb-true _ _ h.1)
-
-        pub copy_asks : (n : ℕ) → n ≡ length rs → 0 + length (take (8 + 4 * r - 8) (drop 8 t)) ≤ n
-        copy_asks n u = rw (
-          u,
-          add-sub_cancel_left,
-          zero-add,
-          length-take-le (4 * r) (drop 8 t)
-              (omega (arith, length-drop 8 t, part_inside)),
-        )
-            rooms.0
 
         pub devices_have_room : (n : ℕ) → n ≡ length ds → WellSized t × (described_size * count_d t ≤ n)
         devices_have_room n u = (sized, rw (← z, u) rooms.1)

@@ -6,23 +6,28 @@ ghost use Rattle.rules.specs.Station.{Wide, record_size};
 ghost use Rattle.rules.specs.Describe.{described_size, described_d, described_device, record_bytes};
 ghost use Rattle.rules.specs.Write.{write};
 
+use crate::{DESCRIBED_SIZE, DESCRIBED_WIDTH};
+use record::Record;
+use record::device::Device;
 use rules::Verdict;
 
 // The records of whole devices, from `at` on.
+#[tactic(auto, using(crate::proofs::Lists::writing))]
 fn write_devices(ds: &[u8], table: &mut [u8], at: usize, w: usize)
     requires { Wide w × (length ds.now ≡ described_size * described_d ds.now)
         × (at + record_size w * described_d ds.now ≤ length table.old) }
     ensures { table.new ≡ put table.old at
         (join (λ d. record_bytes w (described_device ds.now d)) (described_d ds.now)) }
 {
-    let n = crate::check::devices(ds);
     let mut p = at;
-    let mut i = 0;
-    while i < n {
-        let v = record::device::read(ds, 54 * i, 8);
-        record::device::write_record(v, table, p, w);
+    for d in 0..crate::check::devices(ds) {
+        let record = Record {
+            bytes: ds,
+            at: DESCRIBED_SIZE * d,
+            width: DESCRIBED_WIDTH,
+        };
+        Device::from(&record).write_record(table, p, w);
         p += record::read::size(w);
-        i += 1;
     }
 }
 

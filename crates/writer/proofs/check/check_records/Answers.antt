@@ -1,12 +1,12 @@
-use Rattle.writer.proofs.Records.{records_answers}
-use borrow.Author.Rules.{rules}
+use Rattle.writer.proofs.Records.{device_in, all_records_good}
 use Rattle.writer.proofs.check.check_records.Goals as goal
 
-pub returns-then-r-resources : goal.returns-then-r-resources
-returns-then-r-resources c = search (rules, records_answers)
+pub refusal-requires : goal.refusal-requires
+refusal-requires c =
+    device_in _ _ _ _ _ c.requires c.resources-resources.ensures c.lowest_device.ensures c.in-Some-lowest_device.is
 
-pub returns-then-d-devices : goal.returns-then-d-devices
-returns-then-d-devices c = search (rules, records_answers)
-
+-- Neither list has a bad record.
 pub returns : goal.returns
-returns c = search (rules, records_answers)
+returns c =
+    all_records_good _ _ _ _ c.resources-resources.ensures c.lowest_resource.ensures c.in_default.is _ c.lowest_device.ensures
+    c.in_default-lowest_device.is

@@ -1,9 +1,5 @@
-use Rattle.writer.proofs.Records.{record_checks, devices_run}
-use borrow.Author.Rules.{rules}
+use Rattle.writer.proofs.Records.{lowest_device_is}
 use Rattle.writer.proofs.check.lowest_device.Goals as goal
 
-pub lowest_device-requires : goal.lowest_device-requires
-lowest_device-requires c = search (rules, record_checks)
-
 pub returns : goal.returns
-returns c = devices_run _ _ _ c.lowest_device.ensures
+returns c = lowest_device_is _ _ _ _ _ _ c.lowest_bad.ensures c.devices.ensures c.then_some.ensures c.or.ensures

@@ -1,26 +1,10 @@
-use mathlib.Core.Bool.{not}
-use mathlib.Core.Path.{ap, ◌∙◌}
+use mathlib.Core.Path.{◌∙◌}
 use Rattle.rules.proofs.Answers.{ok_passed, err_stopped, handed_on}
-use Rattle.writer.proofs.Records.{write_answers, few}
+use Rattle.writer.proofs.Records.{write_answers}
 use borrow.Author.Rules.{rules}
 use Rattle.writer.proofs.check.verdict.Goals as goal
 
-pub returns-then-not-version_good : goal.returns-then-not-version_good
-returns-then-not-version_good c = search (rules, write_answers)
-
-pub returns-then-not-few : goal.returns-then-not-few
-returns-then-not-few c = search (rules, write_answers)
-
-pub size-size-requires : goal.size-size-requires
-size-size-requires c = search (rules, write_answers)
-
-pub returns-then-room-size : goal.returns-then-room-size
-returns-then-room-size c = search (rules, write_answers)
-
 -- Each check that fails has the answer.
-pub check_records-requires : goal.check_records-requires
-check_records-requires c = few _ _ _ _ _ c.resources-resources.ensures c.devices-devices.ensures c.version_width-w.ensures.1 (ap not c.if-not-few.false)
-
 pub returns-in_err-check_records : goal.returns-in_err-check_records
 returns-in_err-check_records c =
     handed_on _ _ _ c.in_err-check_records.was c.from_residual.ensures.1

@@ -2,7 +2,7 @@ use Rattle.rules.proofs.Answers.{ok_passed, err_stopped, handed_on}
 use mathlib.Core.Bool.{not}
 use mathlib.Core.Path.{ap}
 use mathlib.Core.List.{[]}
-use Rattle.writer.proofs.Whole.{describe_refused, sized, describe_short, part_inside, copy_asks, devices_have_room, describe_done}
+use Rattle.writer.proofs.Whole.{describe_refused, sized, describe_short, part_inside, devices_have_room, describe_done}
 use borrow.Author.Rules.{rules}
 use Rattle.writer.proofs.describe.describe.Goals as goal
 
@@ -27,11 +27,6 @@ pub slice_bounds-copy-end : goal.slice_bounds-copy-end
 slice_bounds-copy-end c =
     part_inside _ [] [] _ c.check_table.ensures (ok_passed _ _ c.in_ok-check_table.was) _ _
     c.resources-r.ensures.0 c.devices-d.ensures.0
-
-pub copy-requires : goal.copy-requires
-copy-requires c =
-    copy_asks _ c.args.resources.now c.args.devices.now _ c.check_table.ensures (ok_passed _ _ c.in_ok-check_table.was) _ _
-    c.resources-r.ensures.0 c.devices-d.ensures.0 (ap not c.if-not-room.false) _ (search rules)
 
 pub describe_devices-requires : goal.describe_devices-requires
 describe_devices-requires c =
