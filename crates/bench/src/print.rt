@@ -39,7 +39,7 @@ pub fn verdict(v: Verdict) -> u64
     ensures { result ≡ number_of v }
 {
     text(b": check");
-    let answer = number(rules::number(v) as u64);
+    let answer = number(u64::from(rules::number(v)));
     number(rules::place(v) as u64);
     number(rules::count(v) as u64);
     answer

@@ -1,4 +1,3 @@
-use mathlib.Core.Path.{refl}
 use borrow.Author.Tests.{ne_eqb}
 use Rattle.bench.specs.Cases.{seen_by}
 use borrow.Author.Rules.{rules}
@@ -43,4 +42,4 @@ returns-in-69 c = rw (← c.letter.ensures, c.in-69.is) (search rules)
 
 pub returns-in_default : goal.returns-in_default
 unfolding seen_by
-returns-in_default c = rw (← c.letter.ensures, ne_eqb c.letter.result 68 (search rules), ne_eqb c.letter.result 83 (search rules), ne_eqb c.letter.result 86 (search rules), ne_eqb c.letter.result 76 (search rules), ne_eqb c.letter.result 67 (search rules), ne_eqb c.letter.result 87 (search rules), ne_eqb c.letter.result 82 (search rules), ne_eqb c.letter.result 77 (search rules), ne_eqb c.letter.result 69 (search rules)) refl
+returns-in_default c = rw (← c.letter.ensures) (search (rules, ne_eqb))

@@ -1,4 +1,3 @@
-use mathlib.Core.Path.{refl}
 use borrow.Author.Tests.{ne_eqb}
 use Rattle.bench.specs.Cases.{state_by}
 use borrow.Author.Rules.{rules}
@@ -27,4 +26,4 @@ returns-in-66 c = rw (← c.letter.ensures, c.in-66.is) (search rules)
 
 pub returns-in_default : goal.returns-in_default
 unfolding state_by
-returns-in_default c = rw (← c.letter.ensures, ne_eqb c.letter.result 0x46 (search rules), ne_eqb c.letter.result 0x4b (search rules), ne_eqb c.letter.result 0x51 (search rules), ne_eqb c.letter.result 0x50 (search rules), ne_eqb c.letter.result 0x42 (search rules)) refl
+returns-in_default c = rw (← c.letter.ensures) (search (rules, ne_eqb))

@@ -1,4 +1,3 @@
-use mathlib.Core.Path.{refl}
 use borrow.Author.Tests.{ne_eqb}
 use Rattle.bench.specs.Cases.{size_by, table_by}
 use borrow.Author.Rules.{rules}
@@ -22,6 +21,6 @@ returns-in-43 c = record {
 pub returns-in_default : goal.returns-in_default
 unfolding size_by table_by
 returns-in_default c = record {
-  len = rw (← c.letter.ensures, ne_eqb c.letter.result 0x54 (search rules), ne_eqb c.letter.result 0x2b (search rules)) refl;
-  bytes = rw (← c.letter.ensures, ne_eqb c.letter.result 0x2b (search rules)) refl;
+  len = rw (← c.letter.ensures) (search (rules, ne_eqb));
+  bytes = rw (← c.letter.ensures) (search (rules, ne_eqb));
 }
