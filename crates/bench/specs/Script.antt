@@ -1,11 +1,7 @@
 -- What a line of the script says.
-use Rattle.std.specs.Prelude.{ℕ, zero, suc, ◌+◌, ◌*◌, ◌/◌, ◌%◌, min, Bool, List, eqb, get_or, set}
+use Rattle.std.specs.Prelude.{ℕ, zero, suc, ◌+◌, ◌*◌, ◌/◌, ◌%◌, min, List, get_or, set}
 use Rattle.rules.specs.declared.Request.{Request}
 use Rattle.sailgarnet.specs.Packed.{asked}
-
--- the text has the end of a line at i
-unfoldable pub ends_at : List ℕ → ℕ → Bool
-ends_at t i = eqb (get_or t i 0) 10
 
 -- the number of a digit: 0 to 9 stand below 64, a to f above
 unfoldable pub digit_of : ℕ → ℕ

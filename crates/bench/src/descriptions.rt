@@ -4,8 +4,8 @@ ghost use Rattle.rules.specs.Write.{write, describe};
 ghost use Rattle.sailgarnet.specs.Packed.{packed};
 ghost use Rattle.bench.specs.Cases.{write_answer, describe_answer};
 
-use crate::tables::Whole;
-use crate::{print, script, tables};
+use crate::tables::Table;
+use crate::{print, script};
 
 // A table written in lent bytes from resources, which end at `end`, and devices, the rest: prints the answer and these bytes, and gives
 // the answer.
@@ -21,17 +21,17 @@ fn write_lists(version: u32, lists: &[u8], end: usize, table: &mut [u8]) -> u64
 }
 
 // `M`: a table in as many bytes as the line says, from resources and devices, with one of their bytes changed.
-pub fn write(lists: Whole, size: usize, line: &[u8]) -> u64
-    requires { (length lists ≡ 4428) × (size ≤ 4428) }
-    ensures { result ≡ write_answer lists size line.now }
+pub fn write(lists: &Table, line: &[u8]) -> u64
+    ensures { result ≡ write_answer lists.now.bytes lists.now.len line.now }
 {
-    let bytes = tables::changed(lists, line, 7);
+    let mut bytes = lists.bytes;
+    script::change(&mut bytes, line, 1, 7, 4427);
     let mut table = [0xa5u8; 4428];
-    let end = script::count(line, 0, 6, size);
+    let end = script::count(line, 0, 6, lists.len);
     let n = script::count(line, 3, 8, 4428);
     write_lists(
         script::number(line, 4, 5),
-        &bytes[..size],
+        &bytes[..lists.len],
         end,
         &mut table[..n],
     )

@@ -1,44 +1,32 @@
 // The lines that look at the table and the state, and change neither.
-ghost use Rattle.std.specs.Prelude.{◌≡◌, ◌≤◌, length};
+ghost use Rattle.std.specs.Prelude.{◌≡◌, ◌≤◌, length, take};
 ghost use Rattle.bench.specs.Cases.{table_answer, state_answer, list_answer, record_length, seen};
-ghost use Rattle.bench.specs.Cases.{damaged_state, status_given, list_length, list_bytes, words_given};
+ghost use Rattle.bench.specs.Cases.{status_given, list_length, list_bytes, words_given};
 
 use crate::states::Image;
-use crate::tables::Whole;
+use crate::tables::Table;
 use crate::tasks::Task;
-use crate::{descriptions, print, script, states, tables, tasks};
+use crate::{descriptions, print, script, states, tasks};
 use rules::Verdict;
 
 // `D`: the table's first bytes, with one of them changed, and a fresh state in as many bytes as the line says last.
-fn damaged_table(table: Whole, line: &[u8]) -> u64
-    requires { length table ≡ 4428 }
-    ensures { result ≡ table_answer table line.now }
+fn damaged_table(table: &Table, line: &[u8]) -> u64
+    ensures { result ≡ table_answer table.now.bytes line.now }
 {
-    let bytes = tables::changed(table, line, 5);
+    let mut bytes = table.bytes;
+    script::change(&mut bytes, line, 1, 5, 4427);
     let mut state = [0xa5u8; 265];
     let n = script::count(line, 0, 4, 4428);
     let room = script::count(line, 3, 6, 265);
     states::fresh(&bytes[..n], &mut state[..room])
 }
 
-// A state with one byte changed, by the bytes of a line past byte `from`: a place, and what is then there; two bytes on, the place's higher
-// byte.
-fn changed(state: Image, line: &[u8], from: usize) -> Image
-    requires { (length state ≡ 265) × (from ≤ 64) }
-    ensures { (length result ≡ 265) × (result ≡ damaged_state state line.now from) }
-{
-    let mut bytes = state;
-    let at = script::count(line, from + 1, from + 4, 264);
-    bytes[at] = script::byte(line, from + 2);
-    bytes
-}
-
 // `S`: a request with no calls, for the state's first bytes with one of them changed.
-fn damaged_state(table: &[u8], state: Image, line: &[u8]) -> u64
-    requires { length state ≡ 265 }
-    ensures { result ≡ state_answer table.now state line.now }
+fn damaged_state(table: &[u8], state: &Image, line: &[u8]) -> u64
+    ensures { result ≡ state_answer table.now state.now line.now }
 {
-    let bytes = changed(state, line, 4);
+    let mut bytes = *state;
+    script::change(&mut bytes, line, 5, 8, 264);
     let n = script::count(line, 4, 7, 265);
     tasks::check(
         table,
@@ -49,11 +37,11 @@ fn damaged_state(table: &[u8], state: Image, line: &[u8]) -> u64
 }
 
 // `V`: whether the table and the state's first bytes, with one of them changed, are a table and a consistent state of it.
-fn status_verdict(table: &[u8], state: Image, line: &[u8]) -> Verdict
-    requires { length state ≡ 265 }
-    ensures { result ≡ status_given table.now state line.now }
+fn status_verdict(table: &[u8], state: &Image, line: &[u8]) -> Verdict
+    ensures { result ≡ status_given table.now state.now line.now }
 {
-    let bytes = changed(state, line, 0);
+    let mut bytes = *state;
+    script::change(&mut bytes, line, 1, 4, 264);
     let n = script::count(line, 0, 3, 265);
     status::verdict(table, &bytes[..n])
 }
@@ -64,7 +52,7 @@ fn store_list(list: &mut [u8], line: &[u8], from: usize) -> usize
     ensures value { (result ≡ list_length line.now from) × (result ≤ 4428) }
     ensures list { list.new ≡ list_bytes list.old line.now from }
 {
-    let n = script::within(script::past(line.len() / 3, from), 4428);
+    let n = (line.len() / 3).saturating_sub(from).min(4428);
     script::fill(list, 0, line, from, 0, n);
     n
 }
@@ -98,29 +86,23 @@ fn record(table: &[u8], line: &[u8]) -> usize
     print::hex(b":", table::record(table, script::size(line, 0)))
 }
 
-// What such a line answers. `whole` has the table, and the room past it.
-pub fn look(table: &[u8], whole: Whole, state: Image, line: &[u8]) -> u64
-    requires { (length whole ≡ 4428) × (length table.now ≤ 4428) × (length state ≡ 265) }
-    ensures { result ≡ seen table.now whole state line.now }
+// What such a line answers.
+pub fn look(table: &Table, state: &Image, line: &[u8]) -> u64
+    ensures { result ≡ seen (take table.now.len table.now.bytes) table.now.bytes state.now line.now }
 {
-    let n = states::size(table);
+    let part = table.as_slice();
+    let n = states::size(part);
     let lent = &state[..n];
     match script::letter(line, 0) {
-        b'D' => damaged_table(whole, line),
-        b'S' => damaged_state(table, state, line),
-        b'V' => print::verdict(status_verdict(table, state, line)),
-        b'L' => list(
-            table,
-            lent,
-            Task::Plan(script::request(line, 4096)),
-            line,
-            4,
-        ),
-        b'C' => list(table, lent, Task::BringUp, line, 0),
-        b'W' => print::verdict(words_verdict(table, lent, line)),
-        b'R' => record(table, line) as u64,
-        b'M' => descriptions::write(whole, table.len(), line),
-        b'E' => descriptions::describe(table, line),
+        b'D' => damaged_table(table, line),
+        b'S' => damaged_state(part, state, line),
+        b'V' => print::verdict(status_verdict(part, state, line)),
+        b'L' => list(part, lent, Task::Plan(script::request(line, 4096)), line, 4),
+        b'C' => list(part, lent, Task::BringUp, line, 0),
+        b'W' => print::verdict(words_verdict(part, lent, line)),
+        b'R' => record(part, line) as u64,
+        b'M' => descriptions::write(table, line),
+        b'E' => descriptions::describe(part, line),
         _ => 0,
     }
 }

@@ -10,27 +10,22 @@ mod states;
 mod tables;
 mod tasks;
 
+use tables::Table;
+
 // The standard input.
 const STDIN_FILENO: i32 = 0;
 
 fn main() {
     let mut text = io::large_buffer();
     let n = io::read_full(STDIN_FILENO, &mut text);
-    let mut table = [0u8; 4428];
-    let mut size = 0;
+    let mut table = Table::new();
     let mut state = [0u8; 265];
-    let mut at = 0;
-    while at < n {
-        let end = at + script::line_length(&text[at..n]);
-        let line = &text[at..end];
+    for line in text[..n].split_inclusive(|&b| b == b'\n') {
+        let line = line.strip_suffix(b"\n").unwrap_or(line);
         print::text(line);
-        size = tables::after(&mut table, size, line);
-        let whole = table;
-        let part = &table[..size];
-        let next = states::after(part, state, line);
-        state = next;
-        looks::look(part, whole, state, line);
+        table.after(line);
+        states::after(table.as_slice(), &mut state, line);
+        looks::look(&table, &state, line);
         print::text(b"\n");
-        at = end + 1;
     }
 }

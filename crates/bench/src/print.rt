@@ -1,4 +1,4 @@
-// Parts of a printed line.
+// Parts of a printed line. The program is given no handle, so that it prints by the crate io at a descriptor, and not by a `Display`.
 ghost use Rattle.std.specs.Prelude.{◌≡◌, ◌/◌, ◌%◌, ◌<◌, length};
 ghost use Rattle.rules.specs.Answers.{number_of};
 
@@ -39,7 +39,7 @@ pub fn verdict(v: Verdict) -> u64
     ensures { result ≡ number_of v }
 {
     text(b": check");
-    let answer = number(rules::number(v) as u64);
+    let answer = number(u64::from(rules::number(v)));
     number(rules::place(v) as u64);
     number(rules::count(v) as u64);
     answer
@@ -50,11 +50,9 @@ pub fn hex(before: &[u8], bytes: &[u8]) -> usize
     ensures { result ≡ length bytes.now }
 {
     text(before);
-    let mut i = 0;
-    while i < bytes.len() {
+    for &b in bytes {
         io::write_all(STDOUT_FILENO, b" ");
-        io::print_hex(STDOUT_FILENO, words::wide(bytes[i]) as u64, 2);
-        i += 1;
+        io::print_hex(STDOUT_FILENO, u64::from(b), 2);
     }
-    i
+    bytes.len()
 }

@@ -14,10 +14,7 @@ pub type Image = [u8; 265];
 fn set_size(table: &[u8]) -> usize
     ensures { (result ≡ set_size table.now) × (result ≤ 8) }
 {
-    if script::letter(table, 4) == 2 {
-        return 8;
-    }
-    4
+    if script::letter(table, 4) == 2 { 8 } else { 4 }
 }
 
 // The bytes of a table's state.
@@ -38,34 +35,31 @@ pub fn fresh(table: &[u8], state: &mut [u8]) -> u64
 }
 
 // `F`: the table's fresh state, or A5 in every byte where the table is refused.
-fn start(table: &[u8]) -> Image
-    ensures { (length result ≡ 265) × (result ≡ started table.now) }
+fn start(table: &[u8], state: &mut Image)
+    ensures { state.new ≡ started table.now }
 {
-    let mut state = [0xa5u8; 265];
+    *state = [0xa5; 265];
     let n = size(table);
     fresh(table, &mut state[..n]);
-    state
 }
 
 // `K`: the on-set, w bytes, and the entries that the line has, and zeros past them.
-fn kept(w: usize, line: &[u8]) -> Image
+fn keep(w: usize, line: &[u8], state: &mut Image)
     requires { w ≤ 8 }
-    ensures { (length result ≡ 265) × (result ≡ kept w line.now) }
+    ensures { state.new ≡ kept w line.now }
 {
-    let mut state = [0u8; 265];
-    script::fill(&mut state, 0, line, w, 0, 32 * w);
-    script::fill(&mut state, 32 * w, line, 0, 0, w);
-    state
+    *state = [0; 265];
+    script::fill(state, 0, line, w, 0, 32 * w);
+    script::fill(state, 32 * w, line, 0, 0, w);
 }
 
 // The state after a line.
-pub fn after(table: &[u8], state: Image, line: &[u8]) -> Image
-    requires { length state ≡ 265 }
-    ensures { (length result ≡ 265) × (result ≡ state_then table.now state line.now) }
+pub fn after(table: &[u8], state: &mut Image, line: &[u8])
+    ensures { state.new ≡ state_then table.now state.old line.now }
 {
     match script::letter(line, 0) {
-        b'F' => start(table),
-        b'K' => kept(set_size(table), line),
+        b'F' => start(table, state),
+        b'K' => keep(set_size(table), line, state),
         b'Q' => tasks::plan(
             table,
             state,
@@ -84,6 +78,6 @@ pub fn after(table: &[u8], state: Image, line: &[u8]) -> Image
             Task::BringUp,
             script::count(line, 0, 1, 16_644),
         ),
-        _ => state,
+        _ => (),
     }
 }

@@ -1,45 +1,55 @@
 // The lines that make a table.
-ghost use Rattle.std.specs.Prelude.{◌≡◌, ◌+◌, ◌≤◌, length};
-ghost use Rattle.bench.specs.Cases.{more, added, table_after, size_after, damaged_table};
+ghost use Rattle.std.specs.Prelude.{◌≡◌, ◌+◌, ◌≤◌, length, take, replicate};
+ghost use Rattle.bench.specs.Cases.{more, added, table_after, size_after};
 
 use crate::script;
 
 // A table, or the two lists of records that one is written from, and the room past it: in all that of 65 resources and 65 devices.
-pub type Whole = [u8; 4428];
-
-// `+`: the table goes on with the bytes of a line past the first, which says how often; with 64 of them at most, a device.
-// Answers its size.
-fn add(table: &mut [u8], size: usize, line: &[u8]) -> usize
-    requires { (length table.old ≡ 4428) × (size ≤ 4428) }
-    ensures value { (result ≡ size + more size line.now) × (result ≤ 4428) }
-    ensures table { table.new ≡ added size line.now table.old }
-{
-    let period = script::within(script::past(line.len() / 3, 1), 64);
-    let n = script::within(script::size(line, 0) * period, 4428 - size);
-    script::fill(table, size, line, 1, period, n);
-    size + n
+#[derive(Drop)]
+pub struct Table {
+    pub bytes: [u8; 4428],
+    pub len: usize,
+    ghost in_range: { len ≤ 4428 },
 }
 
-// The table after a line, and its size: `T` begins a new one.
-pub fn after(table: &mut [u8], size: usize, line: &[u8]) -> usize
-    requires { (length table.old ≡ 4428) × (size ≤ 4428) }
-    ensures value { (result ≡ size_after size line.now) × (result ≤ 4428) }
-    ensures table { table.new ≡ table_after size line.now table.old }
-{
-    match script::letter(line, 0) {
-        b'T' => 0,
-        b'+' => add(table, size, line),
-        _ => size,
+impl Table {
+    // An empty table, and zeros past it.
+    pub fn new() -> Table
+        ensures { (result.bytes ≡ replicate 4428 0) × (result.len ≡ 0) }
+    {
+        Table {
+            bytes: [0; 4428],
+            len: 0,
+        }
     }
-}
 
-// A table with one byte changed, by bytes 1 and 2 of a line: a place, whose higher byte is at `high`, and what is then there.
-pub fn changed(table: Whole, line: &[u8], high: usize) -> Whole
-    requires { (length table ≡ 4428) × (high ≤ 64) }
-    ensures { (length result ≡ 4428) × (result ≡ damaged_table table line.now high) }
-{
-    let mut bytes = table;
-    let at = script::count(line, 1, high, 4427);
-    bytes[at] = script::byte(line, 2);
-    bytes
+    // Its bytes, with none of the room.
+    pub fn as_slice(&self) -> &[u8]
+        ensures { result.now ≡ take self.now.len self.now.bytes }
+    {
+        &self.bytes[..self.len]
+    }
+
+    // `+`: the table goes on with the bytes of a line past the first, which says how often; with 64 of them at most, a device.
+    fn add(&mut self, line: &[u8])
+        ensures len { self.new.len ≡ self.old.len + more self.old.len line.now }
+        ensures bytes { self.new.bytes ≡ added self.old.len line.now self.old.bytes }
+    {
+        let period = (line.len() / 3).saturating_sub(1).min(64);
+        let n = (script::size(line, 0) * period).min(4428 - self.len);
+        script::fill(&mut self.bytes, self.len, line, 1, period, n);
+        self.len += n;
+    }
+
+    // The table after a line: `T` begins a new one.
+    pub fn after(&mut self, line: &[u8])
+        ensures len { self.new.len ≡ size_after self.old.len line.now }
+        ensures bytes { self.new.bytes ≡ table_after self.old.len line.now self.old.bytes }
+    {
+        match script::letter(line, 0) {
+            b'T' => self.len = 0,
+            b'+' => self.add(line),
+            _ => (),
+        }
+    }
 }

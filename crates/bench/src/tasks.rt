@@ -4,7 +4,7 @@ ghost use Rattle.sailgarnet.specs.Packed.{packed};
 ghost use Rattle.bench.specs.Cases.{task_outcome, task_checked, moved};
 
 use crate::states::Image;
-use crate::{print, script, states};
+use crate::{print, states};
 use rules::Request;
 
 // A request, or bring-up.
@@ -56,7 +56,7 @@ fn plan_in(table: &[u8], before: &[u8], task: Task, state: &mut [u8], plan: &mut
     ensures plan { plan.new ≡ (task_outcome table.now state.old task plan.old).plan }
 {
     let answer = outcome(table, state, task, plan);
-    let end = script::within(4 * (print::answer(b":", answer) as usize), plan.len());
+    let end = (4 * (print::answer(b":", answer) as usize)).min(plan.len());
     let calls = &plan[..end];
     print::hex(b" calls", calls);
     print::hex(b" state", state);
@@ -64,12 +64,12 @@ fn plan_in(table: &[u8], before: &[u8], task: Task, state: &mut [u8], plan: &mut
 }
 
 // `Q`, `P` and `B`: a task with a plan of n bytes, A5 each.
-pub fn plan(table: &[u8], before: Image, task: Task, n: usize) -> Image
-    requires { (length before ≡ 265) × (n ≤ 16_644) }
-    ensures { (length result ≡ 265) × (result ≡ moved table.now before task n) }
+pub fn plan(table: &[u8], state: &mut Image, task: Task, n: usize)
+    requires { n ≤ 16_644 }
+    ensures { state.new ≡ moved table.now state.old task n }
 {
+    let before = *state;
     let mut plan = [0xa5u8; 16_644];
-    let mut state = before;
     let size = states::size(table);
     plan_in(
         table,
@@ -78,5 +78,4 @@ pub fn plan(table: &[u8], before: Image, task: Task, n: usize) -> Image
         &mut state[..size],
         &mut plan[..n],
     );
-    state
 }

@@ -1,6 +1,7 @@
-use Rattle.bench.proofs.Reading.{reading}
+use Rattle.bench.specs.Script.{byte_at}
 use borrow.Author.Rules.{rules}
 use Rattle.bench.proofs.script.byte.Goals as goal
 
 pub returns : goal.returns
-returns c = search (rules, reading)
+unfolding byte_at
+returns c = search rules

@@ -1,7 +1,10 @@
-use Rattle.bench.proofs.Reading.{digit_is, digit_small}
+use native.Mathlib.Nat.{mod-lt}
+use native.Mathlib.Omega.{arith}
+use Rattle.bench.specs.Script.{digit_of}
 use borrow.Author.Rules.{rules}
 use Rattle.bench.proofs.script.digit.Goals as goal
 
 -- The number of a digit, below 16.
 pub returns : goal.returns
-returns c = (digit_is _ _ (search rules), digit_small _)
+unfolding digit_of
+returns c = (search rules, mod-lt _ (omega arith))

@@ -1,13 +1,12 @@
-use lib.ListN.{length-set}
-use Rattle.bench.proofs.Reading.{reading}
+use native.Mathlib.Numerals.{add-one}
+use Rattle.bench.specs.Script.{filled}
 use borrow.Author.Rules.{rules}
 use Rattle.bench.proofs.script.fill.Goals as goal
 
 pub loop-i-init : goal.loop-i-init
-loop-i-init c = search (rules, reading)
+unfolding filled
+loop-i-init c = search rules
 
 pub loop-i-preserved : goal.loop-i-preserved
-loop-i-preserved c = (search rules, simp length-set (search rules), search (rules, reading))
-
-pub returns : goal.returns
-returns c = search (rules, reading)
+unfolding filled
+loop-i-preserved c = rw add-one (search rules)

@@ -1,10 +1,12 @@
-use Rattle.bench.proofs.ByTask.{checked_plan, checked_bring_up}
+use Rattle.bench.specs.Cases.{task_checked}
 use borrow.Author.Rules.{rules}
 use Rattle.bench.proofs.tasks.checked.Goals as goal
 
 -- Each arm by what the match told.
 pub returns-in-Plan : goal.returns-in-Plan
-returns-in-Plan c = search (rules, checked_plan)
+unfolding task_checked
+returns-in-Plan c = rw c.in-Plan.is (search rules)
 
 pub returns-in-BringUp : goal.returns-in-BringUp
-returns-in-BringUp c = search (rules, checked_bring_up)
+unfolding task_checked
+returns-in-BringUp c = rw c.in-BringUp.is (search rules)

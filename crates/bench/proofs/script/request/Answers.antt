@@ -1,6 +1,0 @@
-use Rattle.bench.proofs.Reading.{reading}
-use borrow.Author.Rules.{rules}
-use Rattle.bench.proofs.script.request.Goals as goal
-
-pub returns : goal.returns
-returns c = search (rules, reading)
