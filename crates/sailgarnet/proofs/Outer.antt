@@ -112,17 +112,3 @@ words_read_lem d list ws n e =
     sym (ap length (ap (take n) e ∙ take_put d (byte_words n list) n l) ∙ l)
 
 pub ruleset lists = (no_list, list_is, list_inside, list_65, words_read_lem)
-
-pub bring_up_room : (t b : List ℕ) → BringUpState t b → length (bring_up_list t b) ≤ list_room (width t)
-bring_up_room t b g = up_short t b (bring_up_of true t b g.passed).0
-
--- ---- turn-off calls alone: what is copied from the buffer of one plan
-module _ (t b : List ℕ) (g : BringUpState t b) (n : ℕ) (b' calls calls' : List ℕ)
-    (w : WrittenPlan (bring_up_list t b) (state_brought_up t b) calls n b' calls') where
-  pub offs_inside : length calls ≡ 65 → n ≤ length calls'
-  offs_inside l = words_65 t _ _ (bring_up_room t b g) n b' calls calls' w l
-
-  pub offs_room : (m : ℕ) → 4 * list_room (width t) ≤ m → 4 * (0 + n) ≤ m
-  offs_room m h = bytes_room t _ _ (bring_up_room t b g) n b' calls calls' w m h
-
-pub ruleset offs = (offs_inside, offs_room)

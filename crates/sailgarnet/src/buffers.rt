@@ -42,7 +42,7 @@ fn sleep_bytes(table: &[u8], state: &mut [u8], q: Request, plan: &mut [u8]) -> V
     let room = plan.len() >= 4 * planner::moves::room(table);
     let mut chosen = [0u8; 64];
     sleep::stages::past_table(table, state, room, q, &mut chosen)?;
-    Ok(crate::moves::write_choice(table, state, &chosen, plan))
+    Ok(planner::moves::write_choice(table, state, &chosen, plan))
 }
 
 // Plans one request on a plan of bytes.

@@ -8,7 +8,7 @@ use Rattle.table.proofs.Verdicts.{header_passed, table_passed, sized_passed}
 use Rattle.switching.proofs.Answered.{parts}
 use Rattle.bringup.proofs.Whole.{stop_header, stop_table, passed_by, room_bytes, bytes_refused, bytes_brought}
 use Rattle.planner.proofs.Room.{room_words, words_65, bytes_room}
-use Rattle.sailgarnet.proofs.Outer.{bring_up_room}
+use Rattle.planner.proofs.Choices.{offs_room}
 use borrow.Author.Rules.{rules}
 use Rattle.sailgarnet.proofs.buffers.bring_up_bytes.Goals as goal
 
@@ -50,7 +50,7 @@ write_words-requires c =
     let e = c.past_table.ensures in
     let yes = ok_passed _ _ c.in_ok-past_table.was in
     let w = c.write_bring_up-n.ensures in
-    let short = bring_up_room _ _ (passed_by _ _ _ _ e yes) in
+    let short = offs_room _ _ (passed_by _ _ _ _ e yes) in
     let fits = room_bytes _ _ _ _ c.room.ensures.0 _ e yes in
     (words_65 _ _ _ short _ _ _ _ w (search rules), bytes_room _ _ _ short _ _ _ _ w _ fits)
 
