@@ -51,10 +51,7 @@ pub fn plan_bytes(table: &[u8], state: &mut [u8], q: Request, plan: &mut [u8]) -
         × (state.new ≡ (plan_bytes table.now state.old q plan.old).state)
         × (plan.new ≡ (plan_bytes table.now state.old q plan.old).plan) }
 {
-    if !table::header::header_good(table) {
-        return Err(Refusal(Reason::NotATable, 0));
-    }
-    table::check_past_header(table)?;
+    table::check_table(table)?;
     if q.kind == 4 {
         return sleep_bytes(table, state, q, plan);
     }
@@ -98,10 +95,7 @@ pub fn check_bytes(table: &[u8], state: &[u8], q: Request, list: &[u8]) -> Verdi
     ensures answer { result ≡ check_bytes table.now state.now q list.now }
     ensures demand { Demand3Bytes table.now state.now q list.now }
 {
-    if !table::header::header_good(table) {
-        return Err(Refusal(Reason::NotATable, 0));
-    }
-    table::check_past_header(table)?;
+    table::check_table(table)?;
     request::stages::past_table(table, state, true, q)?;
     if !conforming(table, state, q, list) {
         return Err(Refusal(Reason::NotConforming, 0));
@@ -115,10 +109,7 @@ pub fn bring_up_bytes(table: &[u8], state: &mut [u8], plan: &mut [u8]) -> Verdic
         × (state.new ≡ (bring_up_bytes table.now state.old plan.old).state)
         × (plan.new ≡ (bring_up_bytes table.now state.old plan.old).plan) }
 {
-    if !table::header::header_good(table) {
-        return Err(Refusal(Reason::NotATable, 0));
-    }
-    table::check_past_header(table)?;
+    table::check_table(table)?;
     let room = plan.len() >= 4 * switching::write::room(table);
     bringup::stages::past_table(table, state, room)?;
     let mut calls = [0u32; 65];
@@ -151,10 +142,7 @@ pub fn check_bring_up_bytes(table: &[u8], state: &[u8], list: &[u8]) -> Verdict
     ensures answer { result ≡ check_bring_up_bytes table.now state.now list.now }
     ensures checked { BringUpCheckedBytes table.now state.now list.now }
 {
-    if !table::header::header_good(table) {
-        return Err(Refusal(Reason::NotATable, 0));
-    }
-    table::check_past_header(table)?;
+    table::check_table(table)?;
     bringup::stages::past_table(table, state, true)?;
     if !conforming_to_bring_up(table, state, list) {
         return Err(Refusal(Reason::NotConforming, 0));

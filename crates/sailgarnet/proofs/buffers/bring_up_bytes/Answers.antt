@@ -12,27 +12,17 @@ use Rattle.planner.proofs.Choices.{offs_room}
 use borrow.Author.Rules.{rules}
 use Rattle.sailgarnet.proofs.buffers.bring_up_bytes.Goals as goal
 
--- A refusal leaves state and plan; otherwise the calls, as bytes, and the state of bring-up are written. Where the values are too many
--- for a search, each is named by the call that gave it, from the last one back.
-pub returns-then-not-header_good : goal.returns-then-not-header_good
-returns-then-not-header_good c =
-    let stop = stop_header _ _ _ _ c.header_good.ensures (ap not c.if-not-header_good.true) in
-    parts (bytes_refused _ _ _ _ refl (refuse NotATable 0) stop (refused_stops NotATable 0))
-
-pub check_past_header-requires : goal.check_past_header-requires
-check_past_header-requires c = search (rules, header_passed)
-
-pub returns-in_err-check_past_header : goal.returns-in_err-check_past_header
-returns-in_err-check_past_header c =
-    let no = err_stopped _ _ c.in_err-check_past_header.was in
-    rw (handed_on _ _ _ c.in_err-check_past_header.was c.from_residual.ensures.1)
-    (parts (bytes_refused _ _ _ _ refl _ (stop_table _ _ _ _ c.check_past_header.ensures no) no))
+pub returns-in_err-check_table : goal.returns-in_err-check_table
+returns-in_err-check_table c =
+    let no = err_stopped _ _ c.in_err-check_table.was in
+    rw (handed_on _ _ _ c.in_err-check_table.was c.from_residual.ensures.1)
+    (parts (bytes_refused _ _ _ _ refl _ (stop_table _ _ _ _ c.check_table.ensures no) no))
 
 pub room-requires : goal.room-requires
-room-requires c = sized_passed _ _ c.check_past_header.ensures (ok_passed _ _ c.in_ok-check_past_header.was)
+room-requires c = sized_passed _ _ c.check_table.ensures (ok_passed _ _ c.in_ok-check_table.was)
 
 pub past_table-requires : goal.past_table-requires
-past_table-requires c = table_passed _ _ c.check_past_header.ensures (ok_passed _ _ c.in_ok-check_past_header.was)
+past_table-requires c = table_passed _ _ c.check_table.ensures (ok_passed _ _ c.in_ok-check_table.was)
 
 pub returns-in_err-past_table : goal.returns-in_err-past_table
 returns-in_err-past_table c =
