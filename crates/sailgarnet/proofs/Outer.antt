@@ -23,7 +23,7 @@ use Rattle.switching.specs.Written.{WrittenPlan}
 use Rattle.request.specs.Permitted.{PermittedRequest}
 use Rattle.bringup.specs.Passed.{BringUpState}
 use Rattle.std.specs.Prelude.{Option, Some, None}
-use Rattle.sailgarnet.specs.Lists.{words_in_bytes}
+use Rattle.sailgarnet.specs.Lists.{words_in_bytes, OnWords}
 use Rattle.switching.proofs.Short.{list_short, up_list_short, up_short}
 use Rattle.planner.proofs.Room.{room_65, words_65, bytes_room}
 
@@ -76,39 +76,24 @@ request_short t b q g ws e = omega (arith, room_65 t, list_short t b q (stages_o
 pub bring_up_short : (t b : List ℕ) → BringUpState t b → Short (conforming_to_bring_up (station t) (status t b))
 bring_up_short t b g ws e = omega (arith, room_65 t, up_list_short t b (bring_up_of true t b g.passed).0 ws e)
 
--- c is the count of a list
-module _ (test : List ℕ → Bool) (list : List ℕ) (c : Option ℕ) (is : c ≡ words_in_bytes (length list)) where
-  pub no_list : Short test → c ≡ None → false ≡ of_bytes test list
-  unfolding of_bytes
-  no_list short e =
-      let n = length list / 4 in
-      let none = count_none (length list) (sym is ∙ e) in
-      let long = byte_words_length n list in
-      decide (eqb (length list % 4) 0)
-      (λ p. rw p (decide (test (byte_words n list))
-      (λ y. absurd (omega (arith, short (byte_words n list) y, leb-false n 65 (rw p at none))))
-      (λ y. sym y)))
-      (λ p. rw p refl)
+-- what such a test says of the words of a list is what it says of the list
+pub of_bytes_is : (test : List ℕ → Bool) (says : List ℕ → Bool → Type 0) (list : List ℕ) (r : Bool) → Short test
+    → ((ws : List ℕ) (b : Bool) → says ws b → b ≡ test ws) → OnWords says list r → r ≡ of_bytes test list
+unfolding of_bytes words_in_bytes
+of_bytes_is test says list r short is on =
+    let n = length list / 4 in
+    decide (eqb (length list % 4) 0)
+    (λ p. decide (leb n 65)
+    (λ q. rw p (is (byte_words n list) r (on.words n (rw (p, q) refl))))
+    (λ q. rw p (on.none (rw (p, q) refl) ∙ decide (test (byte_words n list))
+    (λ y. absurd (omega (arith, short (byte_words n list) y, byte_words_length n list, leb-false n 65 q)))
+    (λ y. sym y))))
+    (λ p. rw p (on.none (rw p refl)))
 
-  pub list_is : (n : ℕ) → c ≡ Some n → (r : Bool) (d ws : List ℕ) → ws ≡ put d 0 (byte_words n list) → r ≡ test (take n ws)
-      → r ≡ of_bytes test list
-  unfolding of_bytes
-  list_is n e r d ws w f =
-      let k = count_some (length list) n (sym is ∙ e) in
-      let words : take n ws ≡ byte_words n list = ap (take n) w ∙ take_put d (byte_words n list) n (byte_words_length n list) in
-      rw (eq-eqb (length list % 4) 0 k.0, ← k.1) (f ∙ ap test words)
+-- c is the count of a list: it has so many words, which are no more than 65
+pub list_fits : (list : List ℕ) (c : Option ℕ) (n : ℕ) → c ≡ words_in_bytes (length list) → c ≡ Some n → (4 * n ≤ length list) × (n ≤ 65)
+list_fits list c n is e = let k = count_some (length list) n (sym is ∙ e) in (omega (arith, k.1), k.2)
 
-pub list_inside : (list : List ℕ) (c : Option ℕ) (n : ℕ) → c ≡ words_in_bytes (length list) → c ≡ Some n → 4 * n ≤ length list
-list_inside list c n is e = let k = count_some (length list) n (sym is ∙ e) in omega (arith, k.1)
-
--- it fits a buffer of 65 words
-pub list_65 : (k : ℕ) (c : Option ℕ) (n m : ℕ) → c ≡ words_in_bytes k → c ≡ Some n → m ≡ 65 → n ≤ m
-list_65 k c n m is e f = omega (arith, (count_some k n (sym is ∙ e)).2)
-
--- the words that were read are as many as were asked for
-pub words_read_lem : (d list ws : List ℕ) (n : ℕ) → ws ≡ put d 0 (byte_words n list) → n ≡ length (take n ws)
-words_read_lem d list ws n e =
-    let l = byte_words_length n list in
-    sym (ap length (ap (take n) e ∙ take_put d (byte_words n list) n l) ∙ l)
-
-pub ruleset lists = (no_list, list_is, list_inside, list_65, words_read_lem)
+-- the words that were read
+pub words_read : (d list ws : List ℕ) (n : ℕ) → ws ≡ put d 0 (byte_words n list) → take n ws ≡ byte_words n list
+words_read d list ws n e = ap (take n) e ∙ take_put d (byte_words n list) n (byte_words_length n list)

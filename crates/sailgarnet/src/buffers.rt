@@ -1,6 +1,8 @@
 // Plans and lists as bytes, four a word, lowest first. The stages are asked one after the other, so that what is no table is refused before
 // anything else is called.
-ghost use Rattle.std.specs.Prelude.{◌≡◌, true, false};
+ghost use Rattle.std.specs.Prelude.{◌≡◌, ◌≤◌, ◌*◌, length, true, false};
+ghost use Rattle.std.specs.Fn.{FnOnceReturnsAt};
+ghost use Rattle.words.specs.Words.{byte_words};
 ghost use Rattle.rules.specs.Station.{station};
 ghost use Rattle.rules.specs.Status.{status};
 ghost use Rattle.rules.specs.Check.{conforming_to};
@@ -13,7 +15,7 @@ ghost use Rattle.rules.specs.BringUp.{bring_up_bytes, conforming_to_bring_up, ch
 ghost use Rattle.laws.specs.Demand3.{Demand3Bytes};
 ghost use Rattle.laws.specs.BringUp.{BringUpCheckedBytes};
 ghost use Rattle.bringup.specs.Passed.{BringUpState};
-ghost use Rattle.sailgarnet.specs.Lists.{words_in_bytes};
+ghost use Rattle.sailgarnet.specs.Lists.{words_in_bytes, OnWords};
 
 use rules::{Reason, Refusal, Request, Verdict};
 
@@ -71,23 +73,39 @@ fn words_in(bytes: usize) -> Option<usize>
     Some(bytes / 4)
 }
 
+// What the test says of the first n words of the bytes, read into a buffer of N.
+fn test_words<const N: usize, F: FnOnce(&[u32]) -> bool>(list: &[u8], n: usize, test: F) -> bool
+    requires fits { (4 * n ≤ length list.now) × (n ≤ N) × (N ≤ 65) }
+    requires callable { F.IsAlwaysCallable test }
+    ensures { FnOnceReturnsAt F.FnOnce test (byte_words n list.now) result }
+{
+    let mut words = [0u32; N];
+    words::read_words(list, n, &mut words);
+    test(&words[..n])
+}
+
+// What the test says of a list of bytes as words. A list of at most 33, which is the longest of version 1, is read into a buffer of 33,
+// since to make one sets all its words to zero.
+fn on_words<F: FnOnce(&[u32]) -> bool>(list: &[u8], test: F) -> bool
+    requires { F.IsAlwaysCallable test }
+    ensures { OnWords (FnOnceReturnsAt F.FnOnce test) list.now result }
+{
+    let Some(n) = words_in(list.len()) else {
+        return false;
+    };
+    if n > 33 {
+        return test_words::<65, F>(list, n, test);
+    }
+    test_words::<33, F>(list, n, test)
+}
+
 // Whether a list of bytes is that of a request which has passed every check.
 fn conforming(table: &[u8], state: &[u8], q: Request, list: &[u8]) -> bool
     requires { PermittedRequest table.now state.now q }
     ensures { result ≡ of_bytes (conforming_to (station table.now) (status table.now state.now) q)
         list.now }
 {
-    let Some(n) = words_in(list.len()) else {
-        return false;
-    };
-    if n > 33 {
-        let mut calls = [0u32; 65];
-        words::read_words(list, n, &mut calls);
-        return checker::check::conforming(table, state, q, &calls[..n]);
-    }
-    let mut calls = [0u32; 33];
-    words::read_words(list, n, &mut calls);
-    checker::check::conforming(table, state, q, &calls[..n])
+    on_words(list, |words| checker::check::conforming(table, state, q, words))
 }
 
 // The checker on a list of bytes. What it passes keeps demand 3.
@@ -124,17 +142,7 @@ fn conforming_to_bring_up(table: &[u8], state: &[u8], list: &[u8]) -> bool
     ensures { result ≡ of_bytes (conforming_to_bring_up (station table.now) (status table.now state.now))
         list.now }
 {
-    let Some(n) = words_in(list.len()) else {
-        return false;
-    };
-    if n > 33 {
-        let mut calls = [0u32; 65];
-        words::read_words(list, n, &mut calls);
-        return bringup::check::conforming(table, state, &calls[..n]);
-    }
-    let mut calls = [0u32; 33];
-    words::read_words(list, n, &mut calls);
-    bringup::check::conforming(table, state, &calls[..n])
+    on_words(list, |words| bringup::check::conforming(table, state, words))
 }
 
 // The checker of bring-up on a list of bytes.

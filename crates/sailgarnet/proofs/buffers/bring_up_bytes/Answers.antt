@@ -6,7 +6,7 @@ use Rattle.rules.specs.declared.Reason.TheVariants.{NotATable}
 use Rattle.rules.proofs.Answers.{refused_stops, ok_passed, err_stopped, handed_on}
 use Rattle.table.proofs.Verdicts.{header_passed, table_passed, sized_passed}
 use Rattle.switching.proofs.Answered.{parts}
-use Rattle.bringup.proofs.Whole.{stop_header, stop_table, passed_by, room_bytes, bytes_refused, bytes_brought}
+use Rattle.bringup.proofs.Whole.{stop_table, passed_by, room_bytes, bytes_refused, bytes_brought}
 use Rattle.planner.proofs.Room.{room_words, words_65, bytes_room}
 use Rattle.planner.proofs.Choices.{offs_room}
 use borrow.Author.Rules.{rules}
