@@ -109,31 +109,31 @@ module _ (t b : List ℕ) (g : BringUpState t b) where
   unfolding station_of
   target_small target n = rw n (needed_small t bring_up_passed.table (entries t b))
 
--- ---- the switching: target is the set that is needed
-module _ (t b : List ℕ) (target : ℕ) (n : target ≡ needed (station t) (entries t b)) (c : Switching)
-    (e : c ≡ switching_of None false (status t b).on target) where
+-- ---- the switching, from the values as the code has them
+module _ (t b : List ℕ) (on target : ℕ) (h : on ≡ (status t b).on) (n : target ≡ needed (station t) (entries t b)) (c : Switching)
+    (e : c ≡ switching_of None false on target) where
   module _ (g : BringUpState t b) where
     pub added_small : c.added < 2 ^ count_r t
     unfolding to_turn_on
-    added_small = rw e (minus_lt _ target (status t b).on (target_small t b g target n))
+    added_small = rw e (minus_lt _ target on (target_small t b g target n))
 
     pub removed_small : c.removed < 2 ^ count_r t
     unfolding to_turn_off
-    removed_small = rw e (minus_lt _ (status t b).on target (on_small t b g (status t b).on refl))
+    removed_small = rw e (minus_lt _ on target (on_small t b g on h))
 
     pub switches_room : (m : ℕ) → list_room (width t) ≤ m → 0 + length (phase_words (station t) c.added c.removed) ≤ m
     unfolding to_turn_on to_turn_off
     switches_room m h =
-        let fits = phase_fits t c.added c.removed (rw e (minus_disjoint target (status t b).on)) in
+        let fits = phase_fits t c.added c.removed (rw e (minus_disjoint target on)) in
         omega (arith, fits, g.sized.resources)
 
   list_is : phase_words (station t) c.added c.removed ≡ bring_up_list t b
   unfolding bring_up_list bring_up_calls status_of to_turn_on to_turn_off
-  list_is = rw (e, n) (phases_words (station t) _ _)
+  list_is = rw (e, h, n) (phases_words (station t) _ _)
 
   pub test_is : (ws : List ℕ) (r : Bool) → r ≡ is_end (take_phases (station t) c.added c.removed ws) → r ≡ conforming_to_bring_up (station t) (status t b) ws
   unfolding status_of
-  test_is ws r f = f ∙ rw (e, n) (phases_are (station t) _ _ ws)
+  test_is ws r f = f ∙ rw (e, h, n) (phases_are (station t) _ _ ws)
 
   pub up_written : (m : ℕ) (b' plan plan' : List ℕ) → m ≡ 0 + length (phase_words (station t) c.added c.removed)
       → plan' ≡ put plan 0 (phase_words (station t) c.added c.removed) → b' ≡ image_of (width t) (status_with t b target)

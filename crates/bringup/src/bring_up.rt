@@ -1,36 +1,24 @@
 // The calls of bring-up into a lent plan, and the state after them. A refusal writes neither.
-ghost use Rattle.std.specs.Prelude.{◌≡◌, ◌≤◌, length, false, None};
+ghost use Rattle.std.specs.Prelude.{◌≡◌, ◌≤◌, length};
 ghost use Rattle.rules.specs.Answers.{number_of, count_of};
-ghost use Rattle.rules.specs.Station.{width, station};
-ghost use Rattle.rules.specs.Power.{needed};
-ghost use Rattle.rules.specs.Status.{entries, status};
-ghost use Rattle.rules.specs.Calls.{switching_of};
+ghost use Rattle.rules.specs.Station.{width};
 ghost use Rattle.rules.specs.Outcomes.{list_room};
 ghost use Rattle.rules.specs.BringUp.{bring_up_list, state_brought_up, bring_up_words};
 ghost use Rattle.laws.specs.BringUp.{BringsUpWords};
 ghost use Rattle.switching.specs.Written.{WrittenPlan};
 ghost use Rattle.bringup.specs.Passed.{BringUpState};
 
-use rules::{Switching, Verdict};
+use rules::Verdict;
 
-// What is switched, from the set that is on to the one that is needed. No device changes its state, so none has a call of its own.
-pub fn switches(table: &[u8], state: &[u8], target: u64) -> Switching
-    requires { BringUpState table.now state.now
-        × (target ≡ needed (station table.now) (entries table.now state.now)) }
-    ensures { result ≡ switching_of None false (status table.now state.now).on target }
-{
-    let on = status::image::on_set(table, state);
-    switching::switching(table, None, false, on, target)
-}
-
-// The calls for a state that has passed every check, and the state after them.
+// The calls for a state that has passed every check, and the state after them. No device changes its state, so none has a call of its own.
 pub fn write_bring_up(table: &[u8], state: &mut [u8], plan: &mut [u32]) -> usize
     requires { BringUpState table.now state.old × (list_room (width table.now) ≤ length plan.old) }
     ensures { WrittenPlan (bring_up_list table.now state.old)
         (state_brought_up table.now state.old) plan.old result state.new plan.new }
 {
+    let on = status::image::on_set(table, state);
     let target = status::needed::needed(table, state);
-    let c = switches(table, state, target);
+    let c = switching::switching(table, None, false, on, target);
     let count = switching::write::write_switches(table, c.added, c.removed, plan, 0);
     status::image::set_on(table, state, target);
     count

@@ -14,8 +14,9 @@ pub fn conforming(table: &[u8], state: &[u8], list: &[u32]) -> bool
     ensures { result ≡ conforming_to_bring_up (station table.now) (status table.now state.now)
         list.now }
 {
+    let on = status::image::on_set(table, state);
     let target = status::needed::needed(table, state);
-    let c = crate::bring_up::switches(table, state, target);
+    let c = switching::switching(table, None, false, on, target);
     switching::walk::walk_phases(table, c.added, c.removed, list)
 }
 

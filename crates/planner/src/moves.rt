@@ -1,5 +1,5 @@
 // Sleep entry once its checks have passed: the devices move to the states that were chosen, by falling number, each with the list of its
-// request, through the buffer of one plan; where none moves, what is not needed is turned off.
+// request, through the buffer of one plan, so that the stack holds no more than that; where none moves, what is not needed is turned off.
 ghost use Rattle.std.specs.Prelude.{◌≡◌, ◌+◌, ◌*◌, ◌≤◌, length};
 ghost use Rattle.rules.specs.Station.{width, limit, station};
 ghost use Rattle.rules.specs.Power.{needs};
@@ -33,9 +33,7 @@ pub fn chosen_needs(table: &[u8], devices: &[u8], chosen: &[u8], d: usize) -> u6
     let e = status::image::entry(devices, d);
     let taken = Entry {
         state: chosen[d],
-        armed: e.armed,
-        sleep: e.sleep,
-        wake: e.wake,
+        ..e
     };
     let at = table::fields::start(table, d);
     power::needs(table, d, at, table::fields::width(table), taken)

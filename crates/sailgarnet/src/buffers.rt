@@ -64,13 +64,7 @@ pub fn plan_bytes(table: &[u8], state: &mut [u8], q: Request, plan: &mut [u8]) -
 fn words_in(bytes: usize) -> Option<usize>
     ensures { result ≡ words_in_bytes bytes }
 {
-    if bytes % 4 != 0 {
-        return None;
-    }
-    if bytes / 4 > 65 {
-        return None;
-    }
-    Some(bytes / 4)
+    (bytes % 4 == 0 && bytes / 4 <= 65).then_some(bytes / 4)
 }
 
 // What the test says of the first n words of the bytes, read into a buffer of N.
