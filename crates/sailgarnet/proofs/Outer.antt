@@ -1,4 +1,4 @@
--- Lists as bytes: why one of more than 65 words never conforms; and that bring-up's calls fit the buffer of one plan.
+-- Lists as bytes, tested as words, and why one of more than 65 words never conforms.
 use mathlib.Core.Path.{◌≡◌, refl, sym, ap, ◌∙◌}
 use mathlib.Core.Bool.{Bool, true, false, ◌&&◌, true≢false, and-false}
 use mathlib.Core.List.{List}
@@ -23,20 +23,20 @@ use Rattle.switching.specs.Written.{WrittenPlan}
 use Rattle.request.specs.Permitted.{PermittedRequest}
 use Rattle.bringup.specs.Passed.{BringUpState}
 use Rattle.std.specs.Prelude.{Option, Some, None}
+use Rattle.std.specs.Bool.{then_some}
 use Rattle.sailgarnet.specs.Lists.{words_in_bytes, OnWords}
 use Rattle.switching.proofs.Short.{list_short, up_list_short, up_short}
 use Rattle.planner.proofs.Room.{room_65, words_65, bytes_room}
 
--- ---- lists
+-- ---- how many words a list has
+pub count_is : (n : ℕ) (b : Bool) (c : Option ℕ) → c ≡ then_some b (n / 4) → b ≡ (eqb (n % 4) 0 && leb (n / 4) 65) → c ≡ words_in_bytes n
+unfolding words_in_bytes
+count_is n b c e f = e ∙ rw f (decide (eqb (n % 4) 0 && leb (n / 4) 65) (λ p. rw p refl) (λ p. rw p refl))
 
--- what the count of a list says of its length
+-- what the count says of the length
 is_list : Option ℕ → Bool
 is_list (Some k) = true
 is_list None = false
-
-count_none : (n : ℕ) → words_in_bytes n ≡ None → eqb (n % 4) 0 && leb (n / 4) 65 ≡ false
-unfolding words_in_bytes is_list
-count_none n e = decide (eqb (n % 4) 0 && leb (n / 4) 65) (λ p. absurd (true≢false (ap is_list (rw p at e)))) (λ p. p)
 
 count_some : (n k : ℕ) → words_in_bytes n ≡ Some k → (n % 4 ≡ 0) × (k ≡ n / 4) × (k ≤ 65)
 unfolding words_in_bytes is_list
@@ -50,21 +50,6 @@ count_some n k e =
   where
     inside : (j : ℕ) → Some j ≡ Some k → j ≡ k
     inside j p = cc
-
--- from the code's two tests
-pub count_odd : (n : ℕ) → (n % 4 ≡ 0 → ⊥) → None ≡ words_in_bytes n
-unfolding words_in_bytes is_list
-count_odd n h = rw (ne_eqb (n % 4) 0 h) refl
-
-pub count_long : (n : ℕ) → 65 < n / 4 → None ≡ words_in_bytes n
-unfolding words_in_bytes is_list
-count_long n h = rw (lt-leb (n / 4) 65 h, and-false) refl
-
-pub count_is : (n : ℕ) → n % 4 ≡ 0 → n / 4 ≤ 65 → Some (n / 4) ≡ words_in_bytes n
-unfolding words_in_bytes is_list
-count_is n h k = rw (eq-eqb (n % 4) 0 h, le-leb (n / 4) 65 k) refl
-
-pub ruleset counts = (count_odd, count_long, count_is)
 
 -- a test that no list of more than 65 words passes
 abbrev pub Short : (List ℕ → Bool) → Type 0
