@@ -41,7 +41,7 @@ use Rattle.switching.specs.Phases.{take_phases}
 use Rattle.switching.proofs.Made.{minus_disjoint, phases_words}
 use Rattle.switching.proofs.Run.{phase_fits}
 use Rattle.switching.proofs.Walks.{phases_are}
-use Rattle.switching.proofs.Answered.{Answered, outcome_refused, outcome_written, front_bytes, list_refused, list_19, list_done}
+use Rattle.switching.proofs.Answered.{Answered, outcome_refused, outcome_written, list_refused, list_19, list_done}
 use Rattle.bringup.specs.Passed.{BringUpState}
 
 -- ---- the checks in turn; v is a stage's answer
@@ -176,13 +176,11 @@ module _ (t b plan : List ℕ) (n : ℕ) (i : n ≡ list_room (width t)) (v : Ve
     unfolding bring_up_bytes
     bytes_refused k = outcome_refused _ v (rw i at e) word_bytes b plan (state_brought_up t b) (bring_up_list t b) k
 
-    pub bytes_brought : passes v ≡ true → (k : ℕ) (b' plan' words words' : List ℕ)
-        → WrittenPlan (bring_up_list t b) (state_brought_up t b) words k b' words'
-        → plan' ≡ put plan 0 (word_bytes (take k words')) → Answered (Ok k) b' plan' (bring_up_bytes t b plan)
+    pub bytes_brought : passes v ≡ true → (k : ℕ) (b' plan' : List ℕ) → k ≡ length (bring_up_list t b) → b' ≡ state_brought_up t b
+        → plan' ≡ put plan 0 (word_bytes (bring_up_list t b)) → Answered (Ok k) b' plan' (bring_up_bytes t b plan)
     unfolding bring_up_bytes
-    bytes_brought h k b' plan' words words' w r =
-        outcome_written _ v (rw i at e) word_bytes b plan (state_brought_up t b) (bring_up_list t b) h k b' plan' w.count w.state
-        (r ∙ ap (put plan 0) (front_bytes (bring_up_list t b) (state_brought_up t b) words words' k b' w))
+    bytes_brought h k b' plan' count state elements =
+        outcome_written _ v (rw i at e) word_bytes b plan (state_brought_up t b) (bring_up_list t b) h k b' plan' count state elements
 
 -- what bring-up promises, of the parts of an outcome of words
 pub words_brings : {v : Verdict} {b' plan' : List ℕ} (t b plan : List ℕ) → Answered v b' plan' (bring_up_words t b plan)

@@ -17,6 +17,7 @@ ghost use Rattle.laws.specs.BringUp.{BringUpCheckedBytes};
 ghost use Rattle.bringup.specs.Passed.{BringUpState};
 ghost use Rattle.sailgarnet.specs.Lists.{words_in_bytes, OnWords};
 
+use planner::element::Element;
 use rules::{Reason, Refusal, Request, Verdict};
 
 // Plans a request of any kind but 4 on a plan of bytes, for an accepted table.
@@ -124,10 +125,7 @@ pub fn bring_up_bytes(table: &[u8], state: &mut [u8], plan: &mut [u8]) -> Verdic
     table::check_table(table)?;
     let room = plan.len() >= 4 * switching::write::room(table);
     bringup::stages::past_table(table, state, room)?;
-    let mut calls = [0u32; 65];
-    let n = bringup::bring_up::write_bring_up(table, state, &mut calls);
-    words::write_words(&calls, n, plan, 0);
-    Ok(n)
+    Ok(u8::write_offs(table, state, plan))
 }
 
 // Whether a list of bytes conforms to the bring-up of a state that has passed every check.

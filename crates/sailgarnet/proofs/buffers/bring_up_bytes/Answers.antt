@@ -29,22 +29,14 @@ returns-in_err-past_table c =
     rw (handed_on _ _ _ c.in_err-past_table.was c.from_residual-in_err-past_table.ensures.1)
     (parts (bytes_refused _ _ _ _ c.room.ensures.0 _ c.past_table.ensures (err_stopped _ _ c.in_err-past_table.was)))
 
-pub write_bring_up-n-requires : goal.write_bring_up-n-requires
-write_bring_up-n-requires c = (
-  passed_by _ _ _ _ c.past_table.ensures (ok_passed _ _ c.in_ok-past_table.was),
-  search (rules, room_words),
-)
-
-pub write_words-requires : goal.write_words-requires
-write_words-requires c =
+pub write_offs-requires : goal.write_offs-requires
+write_offs-requires c =
     let e = c.past_table.ensures in
     let yes = ok_passed _ _ c.in_ok-past_table.was in
-    let w = c.write_bring_up-n.ensures in
-    let short = offs_room _ _ (passed_by _ _ _ _ e yes) in
-    let fits = room_bytes _ _ _ _ c.room.ensures.0 _ e yes in
-    (words_65 _ _ _ short _ _ _ _ w (search rules), bytes_room _ _ _ short _ _ _ _ w _ fits)
+    (passed_by _ _ _ _ e yes, room_bytes _ _ _ _ c.room.ensures.0 _ e yes)
 
 pub returns : goal.returns
 returns c =
-    parts (bytes_brought _ _ _ _ c.room.ensures.0 _ c.past_table.ensures (ok_passed _ _ c.in_ok-past_table.was)
-    _ _ _ _ _ c.write_bring_up-n.ensures c.write_words.ensures)
+    let w = c.write_offs.ensures in
+    parts (bytes_brought _ _ _ _ c.room.ensures.0 _ c.past_table.ensures (ok_passed _ _ c.in_ok-past_table.was) _ _ _ w.count
+    w.state w.elements)
