@@ -6,17 +6,16 @@ use Prim.Native.Nat.{ℕ, ◌+◌, ◌*◌, ◌^◌, ◌≤◌, ◌<◌}
 use native.Mathlib.Omega.{arith}
 use borrow.Author.Tests.{leb-true, not-true, not-false}
 use lib.Dec.{leb}
-use lib.ListN.{length, take}
-use Rattle.sets.specs.Sets.{minus}
+use lib.ListN.{length}
 use Rattle.sets.proofs.Laws.{minus_lt}
 use Rattle.words.specs.Words.{put, word_bytes}
 use Rattle.rules.specs.Verdict.{Verdict}
 use Rattle.std.specs.Prelude.{Ok, None}
 use Rattle.rules.specs.Verdict.{refuse}
-use Rattle.rules.specs.declared.Reason.TheVariants.{NotATable, NoRoom, NotConforming}
+use Rattle.rules.specs.declared.Reason.TheVariants.{NoRoom, NotConforming}
 use Rattle.rules.specs.Answers.{number_of, count_of, passes}
 use Rattle.rules.specs.Station.{width, count_r, station_of, station}
-use Rattle.rules.specs.Table.{header_good, table_verdict}
+use Rattle.rules.specs.Table.{table_verdict}
 use Rattle.rules.specs.Power.{needed}
 use Rattle.rules.specs.Status.{entries_size, entries, status_of, status, image_of}
 use Rattle.rules.specs.declared.Switching.{Switching}

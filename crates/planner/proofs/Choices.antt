@@ -1,12 +1,12 @@
 -- Sleep entry whole: what its checks have shown, and the outcome from the calls that bring the devices to the states chosen for them.
 use mathlib.Core.Path.{◌≡◌, refl, sym, ap, ◌∙◌}
-use mathlib.Core.Bool.{Bool, true, false, not}
+use mathlib.Core.Bool.{Bool, true, false}
 use mathlib.Core.List.{List}
 use mathlib.Core.Logic.{inl, inr, ⊎_elim}
 use Prim.Native.Nat.{ℕ, zero, suc, ◌*◌, ◌≤◌, ◌<◌}
 use native.Mathlib.Nat.{mul-one, mul_comm, mul-le-mul_left}
 use native.Mathlib.Omega.{arith}
-use borrow.Author.Tests.{leb-true, eqb-true, ltb-true, not-false}
+use borrow.Author.Tests.{leb-true, eqb-true, ltb-true}
 use lib.Dec.{eqb, leb, ltb}
 use lib.ListN.{length}
 use Rattle.words.specs.Words.{put, word_bytes}
@@ -40,7 +40,6 @@ use Rattle.laws.proofs.Sleep.{offs_list, sleep_offs, sleep_lists}
 use Rattle.table.specs.Layout.{WellSized}
 use Rattle.status.specs.Ready.{Ready}
 use Rattle.request.proofs.Chain.{ready_of, stop_table}
-use Rattle.switching.specs.Written.{WrittenPlan}
 use Rattle.switching.proofs.Answered.{Answered}
 use Rattle.switching.proofs.Short.{up_short}
 use Rattle.status.proofs.Filled.{filled_long, filled_at}

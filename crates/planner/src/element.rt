@@ -12,7 +12,9 @@ ghost use Rattle.laws.proofs.Lists.{one_each};
 pub trait Element {
     // how many a word takes, what words are turned into, and the elements as numbers
     ghost size: { ℕ };
+
     ghost written: { List ℕ → List ℕ };
+
     ghost numbers: { List Self → List ℕ };
 
     // The first n words, from word `at` of the plan on.
@@ -28,14 +30,19 @@ pub trait Element {
             (numbers plan.new) };
 
     ghost long: { (ws : List ℕ) → length (written ws) ≡ size * length ws };
+
     ghost joins: { (xs ys : List ℕ) → written (xs ++ ys) ≡ written xs ++ written ys };
 }
 
 impl Element for u32 {
     ghost size = { 1 };
+
     ghost written = { λ ws. ws };
+
     ghost numbers = { λ xs. xs };
+
     ghost long = { one_each };
+
     ghost joins = { λ xs ys. refl };
 
     fn put_words(words: &[u32], n: usize, plan: &mut [u32], at: usize) {
@@ -50,9 +57,13 @@ impl Element for u32 {
 
 impl Element for u8 {
     ghost size = { 4 };
+
     ghost written = { word_bytes };
+
     ghost numbers = { λ xs. xs };
+
     ghost long = { word_bytes_length };
+
     ghost joins = { word_bytes_append };
 
     fn put_words(words: &[u32], n: usize, plan: &mut [u8], at: usize) {

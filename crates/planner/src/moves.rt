@@ -102,7 +102,12 @@ fn write_moves<E: Element>(table: &[u8], state: &mut [u8], chosen: &[u8], plan: 
 }
 
 // The calls that bring the devices to their states in `chosen`, and the state after them.
-pub fn write_choice<E: Element>(table: &[u8], state: &mut [u8], chosen: &[u8], plan: &mut [E]) -> usize
+pub fn write_choice<E: Element>(
+    table: &[u8],
+    state: &mut [u8],
+    chosen: &[u8],
+    plan: &mut [E],
+) -> usize
     requires { Given table.now state.old chosen.now
         × (E.size * (limit (width table.now) * list_room (width table.now)) ≤ length (E.numbers plan.old)) }
     ensures { WrittenFrom E.size E.written (choice_list table.now state.old (states_in chosen.now))

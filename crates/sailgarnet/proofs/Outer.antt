@@ -1,10 +1,10 @@
 -- Lists as bytes, tested as words, and why one of more than 65 words never conforms.
 use mathlib.Core.Path.{◌≡◌, refl, sym, ap, ◌∙◌}
-use mathlib.Core.Bool.{Bool, true, false, ◌&&◌, true≢false, and-false}
+use mathlib.Core.Bool.{Bool, true, false, ◌&&◌, true≢false}
 use mathlib.Core.List.{List}
-use Prim.Native.Nat.{ℕ, ◌+◌, ◌*◌, ◌/◌, ◌%◌, ◌≤◌, ◌<◌}
+use Prim.Native.Nat.{ℕ, ◌*◌, ◌/◌, ◌%◌, ◌≤◌}
 use native.Mathlib.Omega.{arith}
-use borrow.Author.Tests.{eq-eqb, ne_eqb, eqb-true, leb-true, leb-false, le-leb, lt-leb}
+use borrow.Author.Tests.{eqb-true, leb-true, leb-false}
 use lib.Dec.{eqb, leb}
 use lib.ListN.{length, take}
 use Rattle.sets.proofs.Laws.{decide}
@@ -12,21 +12,20 @@ use Rattle.words.specs.Words.{put, byte_words}
 use Rattle.words.proofs.Laws.{byte_words_length}
 use Rattle.words.proofs.Put.{take_put}
 use Rattle.rules.specs.declared.Request.{Request}
-use Rattle.rules.specs.Station.{width, station}
+use Rattle.rules.specs.Station.{station}
 use Rattle.rules.specs.Status.{status}
 use Rattle.rules.specs.Check.{conforming_to}
-use Rattle.rules.specs.Outcomes.{list_room, of_bytes}
-use Rattle.rules.specs.BringUp.{bring_up_list, state_brought_up, conforming_to_bring_up}
+use Rattle.rules.specs.Outcomes.{of_bytes}
+use Rattle.rules.specs.BringUp.{conforming_to_bring_up}
 use Rattle.laws.proofs.Tests.{both_true}
 use Rattle.laws.proofs.Stages.{stages_of, bring_up_of}
-use Rattle.switching.specs.Written.{WrittenPlan}
 use Rattle.request.specs.Permitted.{PermittedRequest}
 use Rattle.bringup.specs.Passed.{BringUpState}
 use Rattle.std.specs.Prelude.{Option, Some, None}
 use Rattle.std.specs.Bool.{then_some}
 use Rattle.sailgarnet.specs.Lists.{words_in_bytes, OnWords}
-use Rattle.switching.proofs.Short.{list_short, up_list_short, up_short}
-use Rattle.planner.proofs.Room.{room_65, words_65, bytes_room}
+use Rattle.switching.proofs.Short.{list_short, up_list_short}
+use Rattle.planner.proofs.Room.{room_65}
 
 -- ---- how many words a list has
 pub count_is : (n : ℕ) (b : Bool) (c : Option ℕ) → c ≡ then_some b (n / 4) → b ≡ (eqb (n % 4) 0 && leb (n / 4) 65) → c ≡ words_in_bytes n

@@ -100,7 +100,10 @@ fn conforming(table: &[u8], state: &[u8], q: Request, list: &[u8]) -> bool
     ensures { result ≡ of_bytes (conforming_to (station table.now) (status table.now state.now) q)
         list.now }
 {
-    on_words(list, |words| checker::check::conforming(table, state, q, words))
+    on_words(
+        list,
+        |words| checker::check::conforming(table, state, q, words),
+    )
 }
 
 // The checker on a list of bytes. What it passes keeps demand 3.
@@ -134,7 +137,10 @@ fn conforming_to_bring_up(table: &[u8], state: &[u8], list: &[u8]) -> bool
     ensures { result ≡ of_bytes (conforming_to_bring_up (station table.now) (status table.now state.now))
         list.now }
 {
-    on_words(list, |words| bringup::check::conforming(table, state, words))
+    on_words(
+        list,
+        |words| bringup::check::conforming(table, state, words),
+    )
 }
 
 // The checker of bring-up on a list of bytes.

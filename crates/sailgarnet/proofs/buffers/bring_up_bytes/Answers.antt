@@ -1,15 +1,8 @@
-use mathlib.Core.Bool.{not}
-use mathlib.Core.Path.{ap}
 use mathlib.Core.Path.{refl}
-use Rattle.rules.specs.Verdict.{refuse}
-use Rattle.rules.specs.declared.Reason.TheVariants.{NotATable}
-use Rattle.rules.proofs.Answers.{refused_stops, ok_passed, err_stopped, handed_on}
-use Rattle.table.proofs.Verdicts.{header_passed, table_passed, sized_passed}
+use Rattle.rules.proofs.Answers.{ok_passed, err_stopped, handed_on}
+use Rattle.table.proofs.Verdicts.{table_passed, sized_passed}
 use Rattle.switching.proofs.Answered.{parts}
 use Rattle.bringup.proofs.Whole.{stop_table, passed_by, room_bytes, bytes_refused, bytes_brought}
-use Rattle.planner.proofs.Room.{room_words, words_65, bytes_room}
-use Rattle.planner.proofs.Choices.{offs_room}
-use borrow.Author.Rules.{rules}
 use Rattle.sailgarnet.proofs.buffers.bring_up_bytes.Goals as goal
 
 pub returns-in_err-check_table : goal.returns-in_err-check_table

@@ -1,10 +1,6 @@
-use mathlib.Core.Bool.{not}
-use mathlib.Core.Path.{ap}
-use Rattle.rules.specs.Verdict.{refuse}
-use Rattle.rules.specs.declared.Reason.TheVariants.{NotATable}
-use Rattle.rules.proofs.Answers.{refused_stops, ok_passed, err_stopped, handed_on}
+use Rattle.rules.proofs.Answers.{ok_passed, err_stopped, handed_on}
 use Rattle.laws.proofs.BringUpLists.{bring_up_checked_bytes}
-use Rattle.table.proofs.Verdicts.{header_passed, table_passed}
+use Rattle.table.proofs.Verdicts.{table_passed}
 use Rattle.bringup.proofs.Whole.{stop_table, passed_by, of_bytes_lem, check_bytes_refused}
 use borrow.Author.Rules.{rules}
 use Rattle.sailgarnet.proofs.buffers.check_bring_up_bytes.Goals as goal

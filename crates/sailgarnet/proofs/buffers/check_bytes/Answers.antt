@@ -1,11 +1,7 @@
-use mathlib.Core.Bool.{not}
-use mathlib.Core.Path.{ap}
-use Rattle.rules.specs.Verdict.{refuse}
-use Rattle.rules.specs.declared.Reason.TheVariants.{NotATable}
-use Rattle.rules.proofs.Answers.{refused_stops, ok_passed, err_stopped, handed_on}
+use Rattle.rules.proofs.Answers.{ok_passed, err_stopped, handed_on}
 use Rattle.laws.proofs.Bytes.{demand3_bytes}
-use Rattle.table.proofs.Verdicts.{header_passed, table_passed}
-use Rattle.request.proofs.Chain.{stop_header, stop_table}
+use Rattle.table.proofs.Verdicts.{table_passed}
+use Rattle.request.proofs.Chain.{stop_table}
 use Rattle.request.proofs.Changes.{permitted_by}
 use Rattle.checker.proofs.Answer.{of_bytes_lem, bytes_refused}
 use borrow.Author.Rules.{rules}

@@ -1,9 +1,5 @@
-use mathlib.Core.Bool.{not}
-use mathlib.Core.Path.{ap}
-use Rattle.rules.specs.Verdict.{refuse}
-use Rattle.rules.specs.declared.Reason.TheVariants.{NotATable}
-use Rattle.rules.proofs.Answers.{refused_stops, ok_passed, err_stopped, handed_on}
-use Rattle.table.proofs.Verdicts.{no_table, header_passed, table_passed}
+use Rattle.rules.proofs.Answers.{ok_passed, err_stopped, handed_on}
+use Rattle.table.proofs.Verdicts.{table_passed}
 use Rattle.switching.proofs.Answered.{parts}
 use Rattle.planner.proofs.Choices.{bytes_no_table}
 use borrow.Author.Tests.{eq-eqb, ne_eqb}

@@ -1,6 +1,5 @@
 use Rattle.sailgarnet.proofs.Outer.{words_read}
 use native.Mathlib.Omega.{arith}
-use borrow.Author.Rules.{rules}
 use Rattle.sailgarnet.proofs.buffers.test_words.Goals as goal
 
 pub whole_as_slice-read_words : goal.whole_as_slice-read_words

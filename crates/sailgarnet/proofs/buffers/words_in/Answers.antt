@@ -8,6 +8,6 @@ pub returns : goal.returns
 returns c =
     count_is _ _ _ c.then_some.ensures
     (elim c.if-bytes-eq0.branch [
-      then-bytes-eq0 w ↦ rw (eq-eqb _ 0 w.if-bytes-eq0.true) w.then_some-is
+      | then-bytes-eq0 w ↦ rw (eq-eqb _ 0 w.if-bytes-eq0.true) w.then_some-is
       | else-bytes-eq0 w ↦ let no = ne_eqb _ 0 w.if-bytes-eq0.false in rw no (w.then_some-is ∙ no)
     ])
