@@ -6,20 +6,20 @@ use Prim.Native.Nat.{ℕ, ◌+◌, ◌*◌, ◌^◌, ◌≤◌, ◌<◌}
 use native.Mathlib.Omega.{arith}
 use borrow.Author.Tests.{leb-true, not-true, not-false}
 use lib.Dec.{leb}
-use lib.ListN.{length, take}
-use Rattle.sets.specs.Sets.{minus}
+use lib.ListN.{length}
 use Rattle.sets.proofs.Laws.{minus_lt}
 use Rattle.words.specs.Words.{put, word_bytes}
 use Rattle.rules.specs.Verdict.{Verdict}
-use Rattle.std.specs.Prelude.{Ok}
+use Rattle.std.specs.Prelude.{Ok, None}
 use Rattle.rules.specs.Verdict.{refuse}
-use Rattle.rules.specs.declared.Reason.TheVariants.{NotATable, NoRoom, NotConforming}
+use Rattle.rules.specs.declared.Reason.TheVariants.{NoRoom, NotConforming}
 use Rattle.rules.specs.Answers.{number_of, count_of, passes}
 use Rattle.rules.specs.Station.{width, count_r, station_of, station}
-use Rattle.rules.specs.Table.{header_good, table_verdict}
+use Rattle.rules.specs.Table.{table_verdict}
 use Rattle.rules.specs.Power.{needed}
 use Rattle.rules.specs.Status.{entries_size, entries, status_of, status, image_of}
-use Rattle.rules.specs.Calls.{to_turn_on, to_turn_off, status_needed}
+use Rattle.rules.specs.declared.Switching.{Switching}
+use Rattle.rules.specs.Calls.{to_turn_on, to_turn_off, switching_of, status_needed}
 use Rattle.rules.specs.Check.{is_end}
 use Rattle.rules.specs.Outcomes.{list_room, of_bytes}
 use Rattle.rules.specs.BringUp.{state_but_power_verdict, bring_up_stages, bring_up_calls, bring_up_list, state_brought_up}
@@ -40,7 +40,7 @@ use Rattle.switching.specs.Phases.{take_phases}
 use Rattle.switching.proofs.Made.{minus_disjoint, phases_words}
 use Rattle.switching.proofs.Run.{phase_fits}
 use Rattle.switching.proofs.Walks.{phases_are}
-use Rattle.switching.proofs.Answered.{Answered, outcome_refused, outcome_written, front_bytes, list_refused, list_19, list_done}
+use Rattle.switching.proofs.Answered.{Answered, outcome_refused, outcome_written, list_refused, list_19, list_done}
 use Rattle.bringup.specs.Passed.{BringUpState}
 
 -- ---- the checks in turn; v is a stage's answer
@@ -48,11 +48,6 @@ pub stop_table : (t b : List ℕ) (room : Bool) (v : Verdict) → v ≡ table_ve
     → v ≡ bring_up_stages room t b
 unfolding bring_up_stages
 stop_table t b room v e n = e ∙ sym (first_stop (table_verdict t) _ (Ok 0) (answer_stopped v _ e n))
-
--- h: whether the header is good
-pub stop_header : (t b : List ℕ) (room h : Bool) → h ≡ header_good t → not h ≡ true → refuse NotATable 0 ≡ bring_up_stages room t b
-stop_header t b room h e n =
-    stop_table t b room (refuse NotATable 0) (no_table t h e n) (refused_stops NotATable 0)
 
 module _ (t b : List ℕ) (done : table_verdict t ≡ Ok 0) (v : Verdict) (e : v ≡ state_but_power_verdict t b)
     (room : Bool) where
@@ -113,33 +108,34 @@ module _ (t b : List ℕ) (g : BringUpState t b) where
   unfolding station_of
   target_small target n = rw n (needed_small t bring_up_passed.table (entries t b))
 
--- ---- the switching, from the values as the code has them: u is turned on, v off
-module _ (t b : List ℕ) (g : BringUpState t b) (on target u v : ℕ) (h : on ≡ (status t b).on)
-    (n : target ≡ needed (station t) (entries t b)) where
-  pub added_small : u ≡ minus target on → u < 2 ^ count_r t
-  added_small p = rw p (minus_lt _ target on (target_small t b g target n))
+-- ---- the switching, from the values as the code has them
+module _ (t b : List ℕ) (on target : ℕ) (h : on ≡ (status t b).on) (n : target ≡ needed (station t) (entries t b)) (c : Switching)
+    (e : c ≡ switching_of None false on target) where
+  module _ (g : BringUpState t b) where
+    pub added_small : c.added < 2 ^ count_r t
+    unfolding to_turn_on
+    added_small = rw e (minus_lt _ target on (target_small t b g target n))
 
-  pub removed_small : v ≡ minus on target → v < 2 ^ count_r t
-  removed_small q = rw q (minus_lt _ on target (on_small t b g on h))
+    pub removed_small : c.removed < 2 ^ count_r t
+    unfolding to_turn_off
+    removed_small = rw e (minus_lt _ on target (on_small t b g on h))
 
-pub switches_room : (t b : List ℕ) (m on target u v : ℕ) → BringUpState t b → u ≡ minus target on → v ≡ minus on target
-    → list_room (width t) ≤ m → 0 + length (phase_words (station t) u v) ≤ m
-switches_room t b m on target u v g p q h =
-    let fits = phase_fits t u v (rw (p, q) (minus_disjoint target on)) in
-    omega (arith, fits, g.sized.resources)
+    pub switches_room : (m : ℕ) → list_room (width t) ≤ m → 0 + length (phase_words (station t) c.added c.removed) ≤ m
+    unfolding to_turn_on to_turn_off
+    switches_room m h =
+        let fits = phase_fits t c.added c.removed (rw e (minus_disjoint target on)) in
+        omega (arith, fits, g.sized.resources)
 
-module _ (t b : List ℕ) (on target u v : ℕ) (h : on ≡ (status t b).on) (n : target ≡ needed (station t) (entries t b))
-    (p : u ≡ minus target on) (q : v ≡ minus on target) where
-  list_is : phase_words (station t) u v ≡ bring_up_list t b
-  unfolding bring_up_list bring_up_calls status_of
-  list_is = rw (p, q, h, n) (phases_words (station t) _ _)
+  list_is : phase_words (station t) c.added c.removed ≡ bring_up_list t b
+  unfolding bring_up_list bring_up_calls status_of to_turn_on to_turn_off
+  list_is = rw (e, h, n) (phases_words (station t) _ _)
 
-  pub test_is : (ws : List ℕ) (r : Bool) → r ≡ is_end (take_phases (station t) u v ws) → r ≡ conforming_to_bring_up (station t) (status t b) ws
-  unfolding status_of to_turn_on to_turn_off
-  test_is ws r e = e ∙ rw (p, q, h, n) (phases_are (station t) _ _ ws)
+  pub test_is : (ws : List ℕ) (r : Bool) → r ≡ is_end (take_phases (station t) c.added c.removed ws) → r ≡ conforming_to_bring_up (station t) (status t b) ws
+  unfolding status_of
+  test_is ws r f = f ∙ rw (e, h, n) (phases_are (station t) _ _ ws)
 
-  pub up_written : (m : ℕ) (b' plan plan' : List ℕ) → m ≡ 0 + length (phase_words (station t) u v)
-      → plan' ≡ put plan 0 (phase_words (station t) u v) → b' ≡ image_of (width t) (status_with t b target)
+  pub up_written : (m : ℕ) (b' plan plan' : List ℕ) → m ≡ 0 + length (phase_words (station t) c.added c.removed)
+      → plan' ≡ put plan 0 (phase_words (station t) c.added c.removed) → b' ≡ image_of (width t) (status_with t b target)
       → WrittenPlan (bring_up_list t b) (state_brought_up t b) plan m b' plan'
   unfolding state_brought_up status_needed status_of
   up_written m b' plan plan' count put' image =
@@ -179,13 +175,11 @@ module _ (t b plan : List ℕ) (n : ℕ) (i : n ≡ list_room (width t)) (v : Ve
     unfolding bring_up_bytes
     bytes_refused k = outcome_refused _ v (rw i at e) word_bytes b plan (state_brought_up t b) (bring_up_list t b) k
 
-    pub bytes_brought : passes v ≡ true → (k : ℕ) (b' plan' words words' : List ℕ)
-        → WrittenPlan (bring_up_list t b) (state_brought_up t b) words k b' words'
-        → plan' ≡ put plan 0 (word_bytes (take k words')) → Answered (Ok k) b' plan' (bring_up_bytes t b plan)
+    pub bytes_brought : passes v ≡ true → (k : ℕ) (b' plan' : List ℕ) → k ≡ length (bring_up_list t b) → b' ≡ state_brought_up t b
+        → plan' ≡ put plan 0 (word_bytes (bring_up_list t b)) → Answered (Ok k) b' plan' (bring_up_bytes t b plan)
     unfolding bring_up_bytes
-    bytes_brought h k b' plan' words words' w r =
-        outcome_written _ v (rw i at e) word_bytes b plan (state_brought_up t b) (bring_up_list t b) h k b' plan' w.count w.state
-        (r ∙ ap (put plan 0) (front_bytes (bring_up_list t b) (state_brought_up t b) words words' k b' w))
+    bytes_brought h k b' plan' count state elements =
+        outcome_written _ v (rw i at e) word_bytes b plan (state_brought_up t b) (bring_up_list t b) h k b' plan' count state elements
 
 -- what bring-up promises, of the parts of an outcome of words
 pub words_brings : {v : Verdict} {b' plan' : List ℕ} (t b plan : List ℕ) → Answered v b' plan' (bring_up_words t b plan)

@@ -18,9 +18,8 @@ pub fn write_bring_up(table: &[u8], state: &mut [u8], plan: &mut [u32]) -> usize
 {
     let on = status::image::on_set(table, state);
     let target = status::needed::needed(table, state);
-    let added = switching::difference(table, target, on);
-    let removed = switching::difference(table, on, target);
-    let count = switching::write::write_switches(table, added, removed, plan, 0);
+    let c = switching::switching(table, None, false, on, target);
+    let count = switching::write::write_switches(table, c.added, c.removed, plan, 0);
     status::image::set_on(table, state, target);
     count
 }

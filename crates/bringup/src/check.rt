@@ -16,9 +16,8 @@ pub fn conforming(table: &[u8], state: &[u8], list: &[u32]) -> bool
 {
     let on = status::image::on_set(table, state);
     let target = status::needed::needed(table, state);
-    let added = switching::difference(table, target, on);
-    let removed = switching::difference(table, on, target);
-    switching::walk::walk_phases(table, added, removed, list)
+    let c = switching::switching(table, None, false, on, target);
+    switching::walk::walk_phases(table, c.added, c.removed, list)
 }
 
 // The checker of bring-up on a list of words.

@@ -1,12 +1,12 @@
 -- Sleep entry whole: what its checks have shown, and the outcome from the calls that bring the devices to the states chosen for them.
 use mathlib.Core.Path.{◌≡◌, refl, sym, ap, ◌∙◌}
-use mathlib.Core.Bool.{Bool, true, false, not}
+use mathlib.Core.Bool.{Bool, true, false}
 use mathlib.Core.List.{List}
 use mathlib.Core.Logic.{inl, inr, ⊎_elim}
 use Prim.Native.Nat.{ℕ, zero, suc, ◌*◌, ◌≤◌, ◌<◌}
 use native.Mathlib.Nat.{mul-one, mul_comm, mul-le-mul_left}
 use native.Mathlib.Omega.{arith}
-use borrow.Author.Tests.{leb-true, eqb-true, ltb-true, not-false}
+use borrow.Author.Tests.{leb-true, eqb-true, ltb-true}
 use lib.Dec.{eqb, leb, ltb}
 use lib.ListN.{length}
 use Rattle.words.specs.Words.{put, word_bytes}
@@ -30,7 +30,7 @@ use Rattle.laws.proofs.Every.{every_ext}
 use Rattle.laws.proofs.Accepted.{accepted}
 use Rattle.laws.proofs.Kept.{StationRules}
 use Rattle.laws.proofs.States.{station_rules, consistent_of}
-use Rattle.laws.proofs.Stages.{bring_up_pass}
+use Rattle.laws.proofs.Stages.{bring_up_pass, bring_up_of}
 use Rattle.laws.proofs.BringUp.{consistent_passes}
 use Rattle.laws.proofs.Plans.{words_sleep, bytes_sleep}
 use Rattle.laws.proofs.Choice.{least_is_choice}
@@ -40,7 +40,6 @@ use Rattle.laws.proofs.Sleep.{offs_list, sleep_offs, sleep_lists}
 use Rattle.table.specs.Layout.{WellSized}
 use Rattle.status.specs.Ready.{Ready}
 use Rattle.request.proofs.Chain.{ready_of, stop_table}
-use Rattle.switching.specs.Written.{WrittenPlan}
 use Rattle.switching.proofs.Answered.{Answered}
 use Rattle.switching.proofs.Short.{up_short}
 use Rattle.status.proofs.Filled.{filled_long, filled_at}
@@ -120,8 +119,8 @@ module _ (t b : List ℕ) (q : Request) (chosen chosen' : List ℕ) (n : ℕ) (i
       let least = passed_least t b q room chosen chosen' passes_all c in
       given t b chosen chosen' q.a least q passed.0 refl (omega (arith, filled_long _ chosen chosen' (count_d t) least h))
 
-  pub sleep_room : (m : ℕ) → room ≡ leb n m → limit (width t) * list_room (width t) ≤ m
-  sleep_room m r = rw i at (leb-true n m (sym r ∙ passed.1))
+  pub sleep_room : (m : ℕ) → room ≡ leb n m → 1 * (limit (width t) * list_room (width t)) ≤ m
+  sleep_room m r = let h : limit (width t) * list_room (width t) ≤ m = rw i at (leb-true n m (sym r ∙ passed.1)) in omega (arith, h)
 
   pub sleep_room_bytes : (m : ℕ) → room ≡ leb (4 * n) m → 4 * (limit (width t) * list_room (width t)) ≤ m
   sleep_room_bytes m r = rw i at (leb-true (4 * n) m (sym r ∙ passed.1))
@@ -182,6 +181,9 @@ sleep_short t b q g =
     (λ z. rw (sleep_lists t b q.a z)
     (moves_short t b _ g.table g.state (reachable (station t) (status t b).entries q.a _ least)))
 
+pub offs_room : (t b : List ℕ) → BringUpState t b → length (bring_up_list t b) ≤ list_room (width t)
+offs_room t b g = up_short t b (bring_up_of true t b g.passed).0
+
 module _ (t b chosen : List ℕ) (g : Given t b chosen) where
   pub given_ready : Ready t b
   given_ready = g.ready
@@ -203,11 +205,8 @@ module _ (t b chosen : List ℕ) (g : Given t b chosen) where
         passed = ap passes (bring_up_pass true t b (consistent_passes t b g.table g.state) refl) ∙ done_passes 0;
       }
 
-  pub one_list : (m : ℕ) → limit (width t) * list_room (width t) ≤ m → list_room (width t) ≤ m
-  one_list m h = omega (arith, one_of_all t)
-
-  pub one_list_bytes : (m : ℕ) → 4 * (limit (width t) * list_room (width t)) ≤ m → 4 * list_room (width t) ≤ m
-  one_list_bytes m h = omega (arith, one_of_all t)
+  pub one_list : (size m : ℕ) → size * (limit (width t) * list_room (width t)) ≤ m → size * list_room (width t) ≤ m
+  one_list size m h = omega (arith, mul-le-mul_left size (one_of_all t))
 
   module _ (s : Bool) (test : s ≡ every (stays (entries t b) (states_in chosen)) (count_d t)) where
     still_is : every (stays (status t b).entries (states_in chosen)) (station t).devices ≡ s
@@ -230,14 +229,9 @@ module _ (t b chosen : List ℕ) (g : Given t b chosen) where
 
 pub ruleset looking = (given_sized, given_long, given_64)
 
-pub ruleset entering = (given_ready, given_up, one_list, one_list_bytes)
+pub ruleset entering = (given_ready, given_up, one_list)
 
--- a list that is written into a plan of words in its place
-pub in_place : (list after plan : List ℕ) (n : ℕ) (b' plan' : List ℕ) → WrittenPlan list after plan n b' plan'
-    → WrittenFrom 1 (λ ws. ws) list after plan 0 n b' plan'
-in_place list after plan n b' plan' w = record { count = w.count; state = w.state; elements = w.words }
-
-pub ruleset by_choice = (choice_still, choice_moves, in_place)
+pub ruleset by_choice = (choice_still, choice_moves)
 
 -- ---- of any kind, what is no table: v is the table's answer
 pub bytes_no_table : (t b : List ℕ) (q : Request) (plan : List ℕ) (v : Verdict) → v ≡ table_verdict t → passes v ≡ false → Answered v b plan (plan_bytes t b q plan)

@@ -3,14 +3,13 @@ use mathlib.Core.Path.{◌≡◌, refl, sym, ap, ◌∙◌}
 use mathlib.Core.Bool.{Bool, true, false}
 use mathlib.Core.List.{List}
 use Prim.Native.Nat.{ℕ, ◌+◌, ◌*◌, ◌^◌, ◌≤◌, ◌<◌}
-use native.Mathlib.Nat.{one-mul}
 use native.Mathlib.Omega.{arith}
 use mir.Syntax.{w32}
 use mir.Val.{Fits}
 use borrow.Author.Tests.{eqb-false, ne_eqb}
 use lib.ListN.{length, take}
 use Rattle.sets.proofs.Laws.{decide}
-use Rattle.words.specs.Words.{put, word_bytes}
+use Rattle.words.specs.Words.{put}
 use Rattle.words.proofs.Put.{put_none, take_put}
 use Rattle.rules.specs.Station.{width, limit, count_r, station}
 use Rattle.rules.specs.Status.{entry_at, entries, status_of, status, image_size, image_of}
@@ -30,7 +29,6 @@ use Rattle.request.specs.Permitted.{PermittedRequest}
 use Rattle.request.proofs.Changes.{on_small, needed_lt, change_is, change_good}
 use Rattle.switching.specs.Switching.{GoodSwitching}
 use Rattle.switching.specs.Written.{WrittenPlan}
-use Rattle.switching.proofs.Answered.{front_bytes}
 use Rattle.sleep.specs.Chosen.{states_in}
 use Rattle.planner.specs.Moves.{move_list, state_moved, Turn, WrittenFrom}
 use Rattle.planner.proofs.Whole.{list_is}
@@ -129,34 +127,18 @@ chosen_needed t b chosen d e r g read k = k ∙ rw (entry_ready t b d e g.ready 
 pub ruleset one_move = (turn_ready, turn_sized, turn_long, turn_limit, device_fits, move_none)
 
 -- ---- from the buffer of one plan into the plan, from word `at` on
-module _ (list after : List ℕ) (n : ℕ) (b' calls calls' : List ℕ) (w : WrittenPlan list after calls n b' calls') (plan plan' : List ℕ)
-    (at : ℕ) where
-  pub into_words : plan' ≡ put plan at (take n calls') → WrittenFrom 1 (λ ws. ws) list after plan at n b' plan'
-  into_words e =
-      record {
-        count = w.count;
-        state = w.state;
-        elements = e ∙ rw (one-mul at) (ap (put plan at) (ap (take n) w.words ∙ take_put calls list n (sym w.count)));
-      }
+pub put_from : (size : ℕ) (written : List ℕ → List ℕ) (list after : List ℕ) (n : ℕ) (b' calls calls' : List ℕ)
+    → WrittenPlan list after calls n b' calls' → (plan plan' : List ℕ) (at : ℕ) → plan' ≡ put plan (size * at) (written (take n calls'))
+    → WrittenFrom size written list after plan at n b' plan'
+put_from size written list after n b' calls calls' w plan plan' at e =
+    let same : take n calls' ≡ list = ap (take n) w.words ∙ take_put calls list n (sym w.count) in
+    record { count = w.count; state = w.state; elements = e ∙ ap (λ ws. put plan (size * at) (written ws)) same }
 
-  pub into_bytes : plan' ≡ put plan (4 * at) (word_bytes (take n calls')) → WrittenFrom 4 word_bytes list after plan at n b' plan'
-  into_bytes e =
-      record {
-        count = w.count;
-        state = w.state;
-        elements = e ∙ ap (put plan (4 * at)) (front_bytes list after calls calls' n b' w);
-      }
-
--- what is copied is in the buffer, and as much as the plan has room for
+-- what is put is in the buffer, and as much as the plan has room for
 module _ (t b chosen : List ℕ) (d n : ℕ) (after b' calls calls' : List ℕ) (g : Turn t b chosen d)
     (w : WrittenPlan (move_list t b (states_in chosen) d) after calls n b' calls') where
-  pub copied_inside : list_room (width t) ≤ length calls → n ≤ length calls'
-  copied_inside l = words_inside t _ _ (move_short t b chosen d g) n b' calls calls' w l
+  pub put_inside : list_room (width t) ≤ length calls → n ≤ length calls'
+  put_inside l = words_inside t _ _ (move_short t b chosen d g) n b' calls calls' w l
 
-  pub copied_room : (at m : ℕ) → at + length (move_list t b (states_in chosen) d) ≤ m → at + n ≤ m
-  copied_room at m h = omega (arith, w.count)
-
-  pub copied_bytes : (at m : ℕ) → 4 * (at + length (move_list t b (states_in chosen) d)) ≤ m → 4 * (at + n) ≤ m
-  copied_bytes at m h = omega (arith, w.count)
-
-pub ruleset copied = (copied_inside, copied_room, copied_bytes, into_words, into_bytes)
+  pub put_room : (size at m : ℕ) → size * (at + length (move_list t b (states_in chosen) d)) ≤ m → size * (at + n) ≤ m
+  put_room size at m h = rw w.count h

@@ -1,10 +1,9 @@
--- The moves of sleep entry one after the other, as a loop writes them: what is left to be written and done gives what all of them give. For
--- a plan of words and for one of bytes.
+-- The moves of sleep entry one after the other, as a loop writes them: what is left to be written and done gives what all of them give.
 use mathlib.Core.Path.{◌≡◌, refl, sym, ap, ◌∙◌}
 use mathlib.Core.Bool.{true}
 use mathlib.Core.List.{List, [], ◌∷◌, ◌++◌}
 use Prim.Native.Nat.{ℕ, zero, suc, ◌+◌, ◌*◌, ◌-◌, ◌≤◌, ◌<◌}
-use native.Mathlib.Nat.{zero-add, one-mul, mul-suc, mul-zero, mul_comm, mul-le-mul_left, mul-add}
+use native.Mathlib.Nat.{zero-add, mul-suc, mul-zero, mul_comm, mul-le-mul_left, mul-add}
 use native.Mathlib.Omega.{arith}
 use mir.Syntax.{w64}
 use mir.Val.{Fits}
@@ -12,8 +11,6 @@ use borrow.Author.Tests.{eqb-true}
 use lib.ListN.{length, get_or, length-append}
 use Rattle.sets.specs.Sets.{union}
 use Rattle.sets.proofs.Laws.{decide}
-use Rattle.words.specs.Words.{word_bytes}
-use Rattle.words.proofs.Laws.{word_bytes_length, word_bytes_append}
 use Rattle.words.proofs.Put.{Going, going_start, going_run, going_done}
 use Rattle.rules.specs.declared.Entry.{Entry}
 use Rattle.rules.specs.declared.Request.{Request}
@@ -30,7 +27,7 @@ use Rattle.laws.specs.Sleep.{InTurn}
 use Rattle.laws.proofs.Accepted.{accepted}
 use Rattle.laws.proofs.States.{consistent_of}
 use Rattle.laws.proofs.Stages.{stages_of}
-use Rattle.laws.proofs.Lists.{number_passes, one_each, written_none}
+use Rattle.laws.proofs.Lists.{number_passes, written_none}
 use Rattle.laws.proofs.Moves.{Reachable, Moving, moving_start, moving_stays, moving_moves, move_permitted}
 use Rattle.laws.proofs.SleepMoves.{reachable, moved}
 use Rattle.switching.proofs.Short.{planned_short}
@@ -195,7 +192,7 @@ pub record Underway (size : ℕ) (written : List ℕ → List ℕ) (t b chosen p
 
 module _ (size : ℕ) (written : List ℕ → List ℕ) (long : (ws : List ℕ) → length (written ws) ≡ size * length ws)
     (joins : (xs ys : List ℕ) → written (xs ++ ys) ≡ written xs ++ written ys) (t b chosen plan : List ℕ) (g : Given t b chosen) where
-  starts : (n : ℕ) → n ≡ count_d t → Underway size written t b chosen plan n 0 b plan
+  pub starts : (n : ℕ) → n ≡ count_d t → Underway size written t b chosen plan n 0 b plan
   starts n e =
       let all : n ≡ (station t).devices = unfold station_of in e in
       rw all (record {
@@ -241,16 +238,18 @@ module _ (size : ℕ) (written : List ℕ → List ℕ) (long : (ws : List ℕ) 
           going = going_run (written list) _ u.going lists (end, w.elements) all;
         })
 
-  ended : (n : ℕ) (b' plan' : List ℕ) → Underway size written t b chosen plan 0 n b' plan'
+  pub ended : (i n : ℕ) (b' plan' : List ℕ) → Underway size written t b chosen plan i n b' plan' → i ≤ 0
       → WrittenFrom size written (planned_each t b (all_moves t b (states_in chosen)))
       (state_after_each t b (all_moves t b (states_in chosen))) plan 0 n
       b' plan'
   unfolding moves planned_each state_after_each
-  ended n b' plan' u =
+  ended i n b' plan' u z =
+      let e : i ≡ 0 = omega arith in
+      let v = rw e at u in
       record {
-        count = omega (arith, u.count);
-        state = u.ends;
-        elements = rw (mul-zero size) (going_done u.going (written_none size written long)).1;
+        count = omega (arith, v.count);
+        state = v.ends;
+        elements = rw (mul-zero size) (going_done v.going (written_none size written long)).1;
       }
 
   -- the same at device i - 1, as a loop from the last device down has it
@@ -258,17 +257,17 @@ module _ (size : ℕ) (written : List ℕ → List ℕ) (long : (ws : List ℕ) 
     before_last : Underway size written t b chosen plan (suc (i - 1)) n b' plan'
     before_last = let e : i ≡ suc (i - 1) = omega arith in rw e at u
 
-    room_below : size * (limit (width t) * list_room (width t)) ≤ length plan
+    pub room_below : size * (limit (width t) * list_room (width t)) ≤ length plan
         → size * (n + length (move_list t b' (states_in chosen) (i - 1))) ≤ length plan'
     room_below = has_room (i - 1) n b' plan' (omega arith) before_last
 
-    sum_below : (m : ℕ) → m ≡ length (move_list t b' (states_in chosen) (i - 1)) → Fits w64 (n + m)
+    pub sum_below : (m : ℕ) → m ≡ length (move_list t b' (states_in chosen) (i - 1)) → Fits w64 (n + m)
     sum_below m e =
         let wide = g.ready.sized.wide in
         let most = product_4160 (limit (width t)) (list_room (width t)) (omega (arith, wide.high)) (omega (arith, wide.high)) in
         record { fits = omega (arith, counted (i - 1) n b' plan' (omega arith) before_last, all_short t b chosen g, most, e) }
 
-    next_below : size * (limit (width t) * list_room (width t)) ≤ length plan → (m : ℕ) (b'' plan'' : List ℕ)
+    pub next_below : size * (limit (width t) * list_room (width t)) ≤ length plan → (m : ℕ) (b'' plan'' : List ℕ)
         → WrittenFrom size written (move_list t b' (states_in chosen) (i - 1)) (state_moved t b' (states_in chosen) (i - 1)) plan' n m b'' plan''
         → Underway size written t b chosen plan (i - 1) (n + m) b'' plan''
     next_below = next (i - 1) n b' plan' (omega arith) before_last
@@ -277,72 +276,3 @@ module _ (size : ℕ) (written : List ℕ → List ℕ) (long : (ws : List ℕ) 
 pub none_above : (s : Station) (f : ℕ → Entry) (n m : ℕ) → n ≡ m → 0 ≡ needed_from s f 0 n (m - n)
 unfolding needed_from
 none_above s f n m e = let z : m - n ≡ 0 = omega arith in rw z refl
-
--- ---- on words
-module _ (t b chosen plan : List ℕ) (g : Given t b chosen) where
-  pub words_start : (n : ℕ) → n ≡ count_d t → Underway 1 (λ ws. ws) t b chosen plan n 0 b plan
-  words_start = starts 1 (λ ws. ws) one_each (λ xs ys. refl) t b chosen plan g
-
-  module _ (i n : ℕ) (b' plan' : List ℕ) (u : Underway 1 (λ ws. ws) t b chosen plan i n b' plan') where
-    module _ (h : 0 < i) (k : i ≤ count_d t) where
-      pub words_sum : (m : ℕ) (b'' plan'' : List ℕ)
-          → WrittenFrom 1 (λ ws. ws) (move_list t b' (states_in chosen) (i - 1)) (state_moved t b' (states_in chosen) (i - 1)) plan' n m b''
-          plan'' → Fits w64 (n + m)
-      words_sum m b'' plan'' w = sum_below 1 (λ ws. ws) one_each (λ xs ys. refl) t b chosen plan g i n b' plan' h k u m w.count
-
-      module _ (r : limit (width t) * list_room (width t) ≤ length plan) where
-        room_1 : 1 * (limit (width t) * list_room (width t)) ≤ length plan
-        room_1 = rw (one-mul (limit (width t) * list_room (width t))) r
-
-        pub words_room : n + length (move_list t b' (states_in chosen) (i - 1)) ≤ length plan'
-        words_room =
-            rw (one-mul (n + length (move_list t b' (states_in chosen) (i - 1)))) at
-            (room_below 1 (λ ws. ws) one_each (λ xs ys. refl) t b chosen plan g i n b' plan' h k u room_1)
-
-        pub words_next : (m : ℕ) (b'' plan'' : List ℕ)
-            → WrittenFrom 1 (λ ws. ws) (move_list t b' (states_in chosen) (i - 1)) (state_moved t b' (states_in chosen) (i - 1)) plan' n m b''
-            plan''
-            → Underway 1 (λ ws. ws) t b chosen plan (i - 1) (n + m) b'' plan''
-        words_next = next_below 1 (λ ws. ws) one_each (λ xs ys. refl) t b chosen plan g i n b' plan' h k u room_1
-
-    pub words_end : i ≤ 0
-        → WrittenFrom 1 (λ ws. ws) (planned_each t b (all_moves t b (states_in chosen)))
-        (state_after_each t b (all_moves t b (states_in chosen))) plan 0 n
-        b' plan'
-    words_end z =
-        let e : i ≡ 0 = omega arith in
-        ended 1 (λ ws. ws) one_each (λ xs ys. refl) t b chosen plan g n b' plan' (rw e at u)
-
-pub ruleset by_words = (words_start, turn_now, words_sum, words_room, words_next, words_end, none_above)
-
--- ---- on bytes, four a word
-module _ (t b chosen plan : List ℕ) (g : Given t b chosen) where
-  pub bytes_start : (n : ℕ) → n ≡ count_d t → Underway 4 word_bytes t b chosen plan n 0 b plan
-  bytes_start = starts 4 word_bytes word_bytes_length word_bytes_append t b chosen plan g
-
-  module _ (i n : ℕ) (b' plan' : List ℕ) (u : Underway 4 word_bytes t b chosen plan i n b' plan') where
-    module _ (h : 0 < i) (k : i ≤ count_d t) where
-      pub bytes_sum : (m : ℕ) (b'' plan'' : List ℕ)
-          → WrittenFrom 4 word_bytes (move_list t b' (states_in chosen) (i - 1)) (state_moved t b' (states_in chosen) (i - 1)) plan' n m b'' plan''
-          → Fits w64 (n + m)
-      bytes_sum m b'' plan'' w = sum_below 4 word_bytes word_bytes_length word_bytes_append t b chosen plan g i n b' plan' h k u m w.count
-
-      module _ (r : 4 * (limit (width t) * list_room (width t)) ≤ length plan) where
-        pub bytes_room : 4 * (n + length (move_list t b' (states_in chosen) (i - 1))) ≤ length plan'
-        bytes_room = room_below 4 word_bytes word_bytes_length word_bytes_append t b chosen plan g i n b' plan' h k u r
-
-        pub bytes_next : (m : ℕ) (b'' plan'' : List ℕ)
-            → WrittenFrom 4 word_bytes (move_list t b' (states_in chosen) (i - 1)) (state_moved t b' (states_in chosen) (i - 1)) plan' n m b''
-            plan''
-            → Underway 4 word_bytes t b chosen plan (i - 1) (n + m) b'' plan''
-        bytes_next = next_below 4 word_bytes word_bytes_length word_bytes_append t b chosen plan g i n b' plan' h k u r
-
-    pub bytes_end : i ≤ 0
-        → WrittenFrom 4 word_bytes (planned_each t b (all_moves t b (states_in chosen)))
-        (state_after_each t b (all_moves t b (states_in chosen))) plan 0 n
-        b' plan'
-    bytes_end z =
-        let e : i ≡ 0 = omega arith in
-        ended 4 word_bytes word_bytes_length word_bytes_append t b chosen plan g n b' plan' (rw e at u)
-
-pub ruleset by_bytes = (bytes_start, turn_now, bytes_sum, bytes_room, bytes_next, bytes_end, none_above)

@@ -1,7 +1,6 @@
 // Sleep entry once its checks have passed: the devices move to the states that were chosen, by falling number, each with the list of its
-// request, through the buffer of one plan; where none moves, what is not needed is turned off.
+// request, through the buffer of one plan, so that the stack holds no more than that; where none moves, what is not needed is turned off.
 ghost use Rattle.std.specs.Prelude.{◌≡◌, ◌+◌, ◌*◌, ◌≤◌, length};
-ghost use Rattle.words.specs.Words.{put};
 ghost use Rattle.rules.specs.Station.{width, limit, station};
 ghost use Rattle.rules.specs.Power.{needs};
 ghost use Rattle.rules.specs.Status.{entries};
@@ -14,6 +13,7 @@ ghost use Rattle.switching.specs.Written.{WrittenPlan};
 ghost use Rattle.sleep.specs.Chosen.{states_in};
 ghost use Rattle.planner.specs.Moves.{move_list, state_moved, all_moves, choice_list, choice_state, Turn, Given, WrittenFrom};
 
+use crate::element::Element;
 use rules::{Entry, Request};
 
 // The words that a plan of sleep entry must have room for: a list for each device that there can be.
@@ -33,9 +33,7 @@ pub fn chosen_needs(table: &[u8], devices: &[u8], chosen: &[u8], d: usize) -> u6
     let e = status::image::entry(devices, d);
     let taken = Entry {
         state: chosen[d],
-        armed: e.armed,
-        sleep: e.sleep,
-        wake: e.wake,
+        ..e
     };
     let at = table::fields::start(table, d);
     power::needs(table, d, at, table::fields::width(table), taken)
@@ -76,68 +74,48 @@ pub fn write_move(
     n
 }
 
-// The same, with the calls from word `at` of the plan on; the buffer has the list of this move at its front.
-fn move_words(
-    table: &[u8],
-    state: &mut [u8],
-    chosen: &[u8],
-    d: usize,
-    needed: u64,
-    buffer: &mut [u32],
-    plan: &mut [u32],
-    at: usize,
-) -> usize
-    requires { Turn table.now state.old chosen.now d × (list_room (width table.now) ≤ length buffer.old)
-        × (needed ≡ end_set (station table.now) (entries table.now state.old) (move_to d (states_in chosen.now d)))
-        × (at + length (move_list table.now state.old (states_in chosen.now) d) ≤ length plan.old) }
-    ensures { WrittenFrom 1 (λ ws. ws) (move_list table.now state.old (states_in chosen.now) d)
-        (state_moved table.now state.old (states_in chosen.now) d)
-        plan.old at result state.new plan.new
-        × (buffer.new ≡ put buffer.old 0
-        (move_list table.now state.old (states_in chosen.now) d)) }
-{
-    let n = write_move(table, state, chosen, d, needed, buffer);
-    words::copy_words(buffer, n, plan, at);
-    n
-}
-
 // The calls of all moves, and the state after them. What the devices below the one that moves need is worked out once, and what those from
 // it on need is carried on from move to move. One buffer serves all moves: to make one sets all its words to zero.
-fn write_moves(table: &[u8], state: &mut [u8], chosen: &[u8], plan: &mut [u32]) -> usize
+fn write_moves<E: Element>(table: &[u8], state: &mut [u8], chosen: &[u8], plan: &mut [E]) -> usize
     requires { Given table.now state.old chosen.now
-        × (limit (width table.now) * list_room (width table.now) ≤ length plan.old) }
-    ensures { WrittenFrom 1 (λ ws. ws)
+        × (E.size * (limit (width table.now) * list_room (width table.now)) ≤ length (E.numbers plan.old)) }
+    ensures { WrittenFrom E.size E.written
         (planned_each table.now state.old
         (all_moves table.now state.old (states_in chosen.now)))
         (state_after_each table.now state.old
         (all_moves table.now state.old (states_in chosen.now)))
-        plan.old 0 result state.new plan.new }
+        (E.numbers plan.old) 0 result state.new (E.numbers plan.new) }
 {
     let mut buffer = [0u32; 65];
     let mut below = [0u64; 64];
     status::needed::needed_below(table, state, &mut below);
     let mut above: u64 = 0;
     let mut n = 0;
-    let mut i = table::fields::devices(table);
-    while 0 < i {
-        i -= 1;
+    for i in (0..table::fields::devices(table)).rev() {
         above = sets::union(chosen_needs(table, state, chosen, i), above);
         let needed = sets::union(below[i], above);
-        n += move_words(table, state, chosen, i, needed, &mut buffer, plan, n);
+        let count = write_move(table, state, chosen, i, needed, &mut buffer);
+        E::put_words(&buffer, count, plan, n);
+        n += count;
     }
     n
 }
 
 // The calls that bring the devices to their states in `chosen`, and the state after them.
-pub fn write_choice(table: &[u8], state: &mut [u8], chosen: &[u8], plan: &mut [u32]) -> usize
+pub fn write_choice<E: Element>(
+    table: &[u8],
+    state: &mut [u8],
+    chosen: &[u8],
+    plan: &mut [E],
+) -> usize
     requires { Given table.now state.old chosen.now
-        × (limit (width table.now) * list_room (width table.now) ≤ length plan.old) }
-    ensures { WrittenFrom 1 (λ ws. ws) (choice_list table.now state.old (states_in chosen.now))
+        × (E.size * (limit (width table.now) * list_room (width table.now)) ≤ length (E.numbers plan.old)) }
+    ensures { WrittenFrom E.size E.written (choice_list table.now state.old (states_in chosen.now))
         (choice_state table.now state.old (states_in chosen.now))
-        plan.old 0 result state.new plan.new }
+        (E.numbers plan.old) 0 result state.new (E.numbers plan.new) }
 {
     if sleep::choice::none_moves(table, state, chosen) {
-        return bringup::bring_up::write_bring_up(table, state, plan);
+        return E::write_offs(table, state, plan);
     }
     write_moves(table, state, chosen, plan)
 }

@@ -11,7 +11,6 @@ use Rattle.sets.proofs.Laws.{decide}
 use Rattle.rules.specs.declared.Request.{Request}
 use Rattle.rules.specs.Verdict.{Verdict}
 use Rattle.std.specs.Prelude.{Ok, Err}
-use Rattle.rules.specs.Verdict.{refuse}
 use Rattle.rules.specs.declared.Reason.{Reason}
 use Rattle.rules.specs.declared.Reason.TheVariants.{NotATable, TooMany, WrongLength, BadResource, BadDevice, BadObjects, BadState}
 use Rattle.rules.specs.declared.Reason.TheVariants.{Inconsistent, NoRoom, BadRequest, Unsupported, Shallower, ParentDeeper}

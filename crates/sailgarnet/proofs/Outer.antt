@@ -1,10 +1,10 @@
--- Lists as bytes: why one of more than 65 words never conforms; and that bring-up's calls fit the buffer of one plan.
+-- Lists as bytes, tested as words, and why one of more than 65 words never conforms.
 use mathlib.Core.Path.{◌≡◌, refl, sym, ap, ◌∙◌}
-use mathlib.Core.Bool.{Bool, true, false, ◌&&◌, true≢false, and-false}
+use mathlib.Core.Bool.{Bool, true, false, ◌&&◌, true≢false}
 use mathlib.Core.List.{List}
-use Prim.Native.Nat.{ℕ, ◌+◌, ◌*◌, ◌/◌, ◌%◌, ◌≤◌, ◌<◌}
+use Prim.Native.Nat.{ℕ, ◌*◌, ◌/◌, ◌%◌, ◌≤◌}
 use native.Mathlib.Omega.{arith}
-use borrow.Author.Tests.{eq-eqb, ne_eqb, eqb-true, leb-true, leb-false, le-leb, lt-leb}
+use borrow.Author.Tests.{eqb-true, leb-true, leb-false}
 use lib.Dec.{eqb, leb}
 use lib.ListN.{length, take}
 use Rattle.sets.proofs.Laws.{decide}
@@ -12,31 +12,30 @@ use Rattle.words.specs.Words.{put, byte_words}
 use Rattle.words.proofs.Laws.{byte_words_length}
 use Rattle.words.proofs.Put.{take_put}
 use Rattle.rules.specs.declared.Request.{Request}
-use Rattle.rules.specs.Station.{width, station}
+use Rattle.rules.specs.Station.{station}
 use Rattle.rules.specs.Status.{status}
 use Rattle.rules.specs.Check.{conforming_to}
-use Rattle.rules.specs.Outcomes.{list_room, of_bytes}
-use Rattle.rules.specs.BringUp.{bring_up_list, state_brought_up, conforming_to_bring_up}
+use Rattle.rules.specs.Outcomes.{of_bytes}
+use Rattle.rules.specs.BringUp.{conforming_to_bring_up}
 use Rattle.laws.proofs.Tests.{both_true}
 use Rattle.laws.proofs.Stages.{stages_of, bring_up_of}
-use Rattle.switching.specs.Written.{WrittenPlan}
 use Rattle.request.specs.Permitted.{PermittedRequest}
 use Rattle.bringup.specs.Passed.{BringUpState}
 use Rattle.std.specs.Prelude.{Option, Some, None}
-use Rattle.sailgarnet.specs.Lists.{words_in_bytes}
-use Rattle.switching.proofs.Short.{list_short, up_list_short, up_short}
-use Rattle.planner.proofs.Room.{room_65, words_65, bytes_room}
+use Rattle.std.specs.Bool.{then_some}
+use Rattle.sailgarnet.specs.Lists.{words_in_bytes, OnWords}
+use Rattle.switching.proofs.Short.{list_short, up_list_short}
+use Rattle.planner.proofs.Room.{room_65}
 
--- ---- lists
+-- ---- how many words a list has
+pub count_is : (n : ℕ) (b : Bool) (c : Option ℕ) → c ≡ then_some b (n / 4) → b ≡ (eqb (n % 4) 0 && leb (n / 4) 65) → c ≡ words_in_bytes n
+unfolding words_in_bytes
+count_is n b c e f = e ∙ rw f (decide (eqb (n % 4) 0 && leb (n / 4) 65) (λ p. rw p refl) (λ p. rw p refl))
 
--- what the count of a list says of its length
+-- what the count says of the length
 is_list : Option ℕ → Bool
 is_list (Some k) = true
 is_list None = false
-
-count_none : (n : ℕ) → words_in_bytes n ≡ None → eqb (n % 4) 0 && leb (n / 4) 65 ≡ false
-unfolding words_in_bytes is_list
-count_none n e = decide (eqb (n % 4) 0 && leb (n / 4) 65) (λ p. absurd (true≢false (ap is_list (rw p at e)))) (λ p. p)
 
 count_some : (n k : ℕ) → words_in_bytes n ≡ Some k → (n % 4 ≡ 0) × (k ≡ n / 4) × (k ≤ 65)
 unfolding words_in_bytes is_list
@@ -51,21 +50,6 @@ count_some n k e =
     inside : (j : ℕ) → Some j ≡ Some k → j ≡ k
     inside j p = cc
 
--- from the code's two tests
-pub count_odd : (n : ℕ) → (n % 4 ≡ 0 → ⊥) → None ≡ words_in_bytes n
-unfolding words_in_bytes is_list
-count_odd n h = rw (ne_eqb (n % 4) 0 h) refl
-
-pub count_long : (n : ℕ) → 65 < n / 4 → None ≡ words_in_bytes n
-unfolding words_in_bytes is_list
-count_long n h = rw (lt-leb (n / 4) 65 h, and-false) refl
-
-pub count_is : (n : ℕ) → n % 4 ≡ 0 → n / 4 ≤ 65 → Some (n / 4) ≡ words_in_bytes n
-unfolding words_in_bytes is_list
-count_is n h k = rw (eq-eqb (n % 4) 0 h, le-leb (n / 4) 65 k) refl
-
-pub ruleset counts = (count_odd, count_long, count_is)
-
 -- a test that no list of more than 65 words passes
 abbrev pub Short : (List ℕ → Bool) → Type 0
 Short test = (ws : List ℕ) → test ws ≡ true → length ws ≤ 65
@@ -76,53 +60,24 @@ request_short t b q g ws e = omega (arith, room_65 t, list_short t b q (stages_o
 pub bring_up_short : (t b : List ℕ) → BringUpState t b → Short (conforming_to_bring_up (station t) (status t b))
 bring_up_short t b g ws e = omega (arith, room_65 t, up_list_short t b (bring_up_of true t b g.passed).0 ws e)
 
--- c is the count of a list
-module _ (test : List ℕ → Bool) (list : List ℕ) (c : Option ℕ) (is : c ≡ words_in_bytes (length list)) where
-  pub no_list : Short test → c ≡ None → false ≡ of_bytes test list
-  unfolding of_bytes
-  no_list short e =
-      let n = length list / 4 in
-      let none = count_none (length list) (sym is ∙ e) in
-      let long = byte_words_length n list in
-      decide (eqb (length list % 4) 0)
-      (λ p. rw p (decide (test (byte_words n list))
-      (λ y. absurd (omega (arith, short (byte_words n list) y, leb-false n 65 (rw p at none))))
-      (λ y. sym y)))
-      (λ p. rw p refl)
+-- what such a test says of the words of a list is what it says of the list
+pub of_bytes_is : (test : List ℕ → Bool) (says : List ℕ → Bool → Type 0) (list : List ℕ) (r : Bool) → Short test
+    → ((ws : List ℕ) (b : Bool) → says ws b → b ≡ test ws) → OnWords says list r → r ≡ of_bytes test list
+unfolding of_bytes words_in_bytes
+of_bytes_is test says list r short is on =
+    let n = length list / 4 in
+    decide (eqb (length list % 4) 0)
+    (λ p. decide (leb n 65)
+    (λ q. rw p (is (byte_words n list) r (on.words n (rw (p, q) refl))))
+    (λ q. rw p (on.none (rw (p, q) refl) ∙ decide (test (byte_words n list))
+    (λ y. absurd (omega (arith, short (byte_words n list) y, byte_words_length n list, leb-false n 65 q)))
+    (λ y. sym y))))
+    (λ p. rw p (on.none (rw p refl)))
 
-  pub list_is : (n : ℕ) → c ≡ Some n → (r : Bool) (d ws : List ℕ) → ws ≡ put d 0 (byte_words n list) → r ≡ test (take n ws)
-      → r ≡ of_bytes test list
-  unfolding of_bytes
-  list_is n e r d ws w f =
-      let k = count_some (length list) n (sym is ∙ e) in
-      let words : take n ws ≡ byte_words n list = ap (take n) w ∙ take_put d (byte_words n list) n (byte_words_length n list) in
-      rw (eq-eqb (length list % 4) 0 k.0, ← k.1) (f ∙ ap test words)
+-- c is the count of a list: it has so many words, which are no more than 65
+pub list_fits : (list : List ℕ) (c : Option ℕ) (n : ℕ) → c ≡ words_in_bytes (length list) → c ≡ Some n → (4 * n ≤ length list) × (n ≤ 65)
+list_fits list c n is e = let k = count_some (length list) n (sym is ∙ e) in (omega (arith, k.1), k.2)
 
-pub list_inside : (list : List ℕ) (c : Option ℕ) (n : ℕ) → c ≡ words_in_bytes (length list) → c ≡ Some n → 4 * n ≤ length list
-list_inside list c n is e = let k = count_some (length list) n (sym is ∙ e) in omega (arith, k.1)
-
--- it fits a buffer of 65 words
-pub list_65 : (k : ℕ) (c : Option ℕ) (n m : ℕ) → c ≡ words_in_bytes k → c ≡ Some n → m ≡ 65 → n ≤ m
-list_65 k c n m is e f = omega (arith, (count_some k n (sym is ∙ e)).2)
-
--- the words that were read are as many as were asked for
-pub words_read_lem : (d list ws : List ℕ) (n : ℕ) → ws ≡ put d 0 (byte_words n list) → n ≡ length (take n ws)
-words_read_lem d list ws n e =
-    let l = byte_words_length n list in
-    sym (ap length (ap (take n) e ∙ take_put d (byte_words n list) n l) ∙ l)
-
-pub ruleset lists = (no_list, list_is, list_inside, list_65, words_read_lem)
-
-pub bring_up_room : (t b : List ℕ) → BringUpState t b → length (bring_up_list t b) ≤ list_room (width t)
-bring_up_room t b g = up_short t b (bring_up_of true t b g.passed).0
-
--- ---- turn-off calls alone: what is copied from the buffer of one plan
-module _ (t b : List ℕ) (g : BringUpState t b) (n : ℕ) (b' calls calls' : List ℕ)
-    (w : WrittenPlan (bring_up_list t b) (state_brought_up t b) calls n b' calls') where
-  pub offs_inside : length calls ≡ 65 → n ≤ length calls'
-  offs_inside l = words_65 t _ _ (bring_up_room t b g) n b' calls calls' w l
-
-  pub offs_room : (m : ℕ) → 4 * list_room (width t) ≤ m → 4 * (0 + n) ≤ m
-  offs_room m h = bytes_room t _ _ (bring_up_room t b g) n b' calls calls' w m h
-
-pub ruleset offs = (offs_inside, offs_room)
+-- the words that were read
+pub words_read : (d list ws : List ℕ) (n : ℕ) → ws ≡ put d 0 (byte_words n list) → take n ws ≡ byte_words n list
+words_read d list ws n e = ap (take n) e ∙ take_put d (byte_words n list) n (byte_words_length n list)

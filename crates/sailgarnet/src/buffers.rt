@@ -1,6 +1,8 @@
 // Plans and lists as bytes, four a word, lowest first. The stages are asked one after the other, so that what is no table is refused before
 // anything else is called.
-ghost use Rattle.std.specs.Prelude.{◌≡◌, true, false};
+ghost use Rattle.std.specs.Prelude.{◌≡◌, ◌≤◌, ◌*◌, length, true, false};
+ghost use Rattle.std.specs.Fn.{FnOnceReturnsAt};
+ghost use Rattle.words.specs.Words.{byte_words};
 ghost use Rattle.rules.specs.Station.{station};
 ghost use Rattle.rules.specs.Status.{status};
 ghost use Rattle.rules.specs.Check.{conforming_to};
@@ -13,8 +15,9 @@ ghost use Rattle.rules.specs.BringUp.{bring_up_bytes, conforming_to_bring_up, ch
 ghost use Rattle.laws.specs.Demand3.{Demand3Bytes};
 ghost use Rattle.laws.specs.BringUp.{BringUpCheckedBytes};
 ghost use Rattle.bringup.specs.Passed.{BringUpState};
-ghost use Rattle.sailgarnet.specs.Lists.{words_in_bytes};
+ghost use Rattle.sailgarnet.specs.Lists.{words_in_bytes, OnWords};
 
+use planner::element::Element;
 use rules::{Reason, Refusal, Request, Verdict};
 
 // Plans a request of any kind but 4 on a plan of bytes, for an accepted table.
@@ -42,7 +45,7 @@ fn sleep_bytes(table: &[u8], state: &mut [u8], q: Request, plan: &mut [u8]) -> V
     let room = plan.len() >= 4 * planner::moves::room(table);
     let mut chosen = [0u8; 64];
     sleep::stages::past_table(table, state, room, q, &mut chosen)?;
-    Ok(crate::moves::write_choice(table, state, &chosen, plan))
+    Ok(planner::moves::write_choice(table, state, &chosen, plan))
 }
 
 // Plans one request on a plan of bytes.
@@ -51,10 +54,7 @@ pub fn plan_bytes(table: &[u8], state: &mut [u8], q: Request, plan: &mut [u8]) -
         × (state.new ≡ (plan_bytes table.now state.old q plan.old).state)
         × (plan.new ≡ (plan_bytes table.now state.old q plan.old).plan) }
 {
-    if !table::header::header_good(table) {
-        return Err(Refusal(Reason::NotATable, 0));
-    }
-    table::check_past_header(table)?;
+    table::check_table(table)?;
     if q.kind == 4 {
         return sleep_bytes(table, state, q, plan);
     }
@@ -65,13 +65,33 @@ pub fn plan_bytes(table: &[u8], state: &mut [u8], q: Request, plan: &mut [u8]) -
 fn words_in(bytes: usize) -> Option<usize>
     ensures { result ≡ words_in_bytes bytes }
 {
-    if bytes % 4 != 0 {
-        return None;
+    (bytes % 4 == 0 && bytes / 4 <= 65).then_some(bytes / 4)
+}
+
+// What the test says of the first n words of the bytes, read into a buffer of N.
+fn test_words<const N: usize, F: FnOnce(&[u32]) -> bool>(list: &[u8], n: usize, test: F) -> bool
+    requires fits { (4 * n ≤ length list.now) × (n ≤ N) × (N ≤ 65) }
+    requires callable { F.IsAlwaysCallable test }
+    ensures { FnOnceReturnsAt F.FnOnce test (byte_words n list.now) result }
+{
+    let mut words = [0u32; N];
+    words::read_words(list, n, &mut words);
+    test(&words[..n])
+}
+
+// What the test says of a list of bytes as words. A list of at most 33, which is the longest of version 1, is read into a buffer of 33,
+// since to make one sets all its words to zero.
+fn on_words<F: FnOnce(&[u32]) -> bool>(list: &[u8], test: F) -> bool
+    requires { F.IsAlwaysCallable test }
+    ensures { OnWords (FnOnceReturnsAt F.FnOnce test) list.now result }
+{
+    let Some(n) = words_in(list.len()) else {
+        return false;
+    };
+    if n > 33 {
+        return test_words::<65, F>(list, n, test);
     }
-    if bytes / 4 > 65 {
-        return None;
-    }
-    Some(bytes / 4)
+    test_words::<33, F>(list, n, test)
 }
 
 // Whether a list of bytes is that of a request which has passed every check.
@@ -80,17 +100,10 @@ fn conforming(table: &[u8], state: &[u8], q: Request, list: &[u8]) -> bool
     ensures { result ≡ of_bytes (conforming_to (station table.now) (status table.now state.now) q)
         list.now }
 {
-    let Some(n) = words_in(list.len()) else {
-        return false;
-    };
-    if n > 33 {
-        let mut calls = [0u32; 65];
-        words::read_words(list, n, &mut calls);
-        return checker::check::conforming(table, state, q, &calls[..n]);
-    }
-    let mut calls = [0u32; 33];
-    words::read_words(list, n, &mut calls);
-    checker::check::conforming(table, state, q, &calls[..n])
+    on_words(
+        list,
+        |words| checker::check::conforming(table, state, q, words),
+    )
 }
 
 // The checker on a list of bytes. What it passes keeps demand 3.
@@ -98,10 +111,7 @@ pub fn check_bytes(table: &[u8], state: &[u8], q: Request, list: &[u8]) -> Verdi
     ensures answer { result ≡ check_bytes table.now state.now q list.now }
     ensures demand { Demand3Bytes table.now state.now q list.now }
 {
-    if !table::header::header_good(table) {
-        return Err(Refusal(Reason::NotATable, 0));
-    }
-    table::check_past_header(table)?;
+    table::check_table(table)?;
     request::stages::past_table(table, state, true, q)?;
     if !conforming(table, state, q, list) {
         return Err(Refusal(Reason::NotConforming, 0));
@@ -115,16 +125,10 @@ pub fn bring_up_bytes(table: &[u8], state: &mut [u8], plan: &mut [u8]) -> Verdic
         × (state.new ≡ (bring_up_bytes table.now state.old plan.old).state)
         × (plan.new ≡ (bring_up_bytes table.now state.old plan.old).plan) }
 {
-    if !table::header::header_good(table) {
-        return Err(Refusal(Reason::NotATable, 0));
-    }
-    table::check_past_header(table)?;
+    table::check_table(table)?;
     let room = plan.len() >= 4 * switching::write::room(table);
     bringup::stages::past_table(table, state, room)?;
-    let mut calls = [0u32; 65];
-    let n = bringup::bring_up::write_bring_up(table, state, &mut calls);
-    words::write_words(&calls, n, plan, 0);
-    Ok(n)
+    Ok(u8::write_offs(table, state, plan))
 }
 
 // Whether a list of bytes conforms to the bring-up of a state that has passed every check.
@@ -133,17 +137,10 @@ fn conforming_to_bring_up(table: &[u8], state: &[u8], list: &[u8]) -> bool
     ensures { result ≡ of_bytes (conforming_to_bring_up (station table.now) (status table.now state.now))
         list.now }
 {
-    let Some(n) = words_in(list.len()) else {
-        return false;
-    };
-    if n > 33 {
-        let mut calls = [0u32; 65];
-        words::read_words(list, n, &mut calls);
-        return bringup::check::conforming(table, state, &calls[..n]);
-    }
-    let mut calls = [0u32; 33];
-    words::read_words(list, n, &mut calls);
-    bringup::check::conforming(table, state, &calls[..n])
+    on_words(
+        list,
+        |words| bringup::check::conforming(table, state, words),
+    )
 }
 
 // The checker of bring-up on a list of bytes.
@@ -151,10 +148,7 @@ pub fn check_bring_up_bytes(table: &[u8], state: &[u8], list: &[u8]) -> Verdict
     ensures answer { result ≡ check_bring_up_bytes table.now state.now list.now }
     ensures checked { BringUpCheckedBytes table.now state.now list.now }
 {
-    if !table::header::header_good(table) {
-        return Err(Refusal(Reason::NotATable, 0));
-    }
-    table::check_past_header(table)?;
+    table::check_table(table)?;
     bringup::stages::past_table(table, state, true)?;
     if !conforming_to_bring_up(table, state, list) {
         return Err(Refusal(Reason::NotConforming, 0));

@@ -2,7 +2,6 @@
 #![tactic(auto)]
 
 pub mod buffers;
-mod moves;
 
 ghost use Rattle.std.specs.Prelude.{◌≡◌, true, false, ◌<◌, length};
 ghost use Rattle.rules.specs.Answers.{place_of, count_of};

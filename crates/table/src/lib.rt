@@ -92,7 +92,9 @@ fn check_records(table: &[u8]) -> Verdict
     Ok(0)
 }
 
-// Answers 2 to 6 of bytes whose header is good.
+// Answers 2 to 6 of bytes whose header is good. Apart from the test of the header, which is put in line where a table is checked, so that
+// what is no table is refused before anything is called.
+#[inline(never)]
 pub fn check_past_header(table: &[u8]) -> Verdict
     requires { header_good table.now ≡ true }
     ensures { result ≡ table_verdict table.now }

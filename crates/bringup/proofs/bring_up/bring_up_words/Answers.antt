@@ -3,7 +3,6 @@ use Rattle.rules.proofs.Answers.{ok_passed, err_stopped, handed_on}
 use Rattle.table.proofs.Verdicts.{sized_passed, table_passed}
 use Rattle.switching.proofs.Answered.{parts}
 use Rattle.bringup.proofs.Whole.{stop_table, passed_by, room_there, words_refused, words_brought, words_brings}
-use borrow.Author.Rules.{rules}
 use Rattle.bringup.proofs.bring_up.bring_up_words.Goals as goal
 
 -- A refusal leaves state and plan; otherwise the calls and the state of bring-up are written.

@@ -5,11 +5,8 @@ use Rattle.bringup.proofs.check.conforming.Goals as goal
 pub needed-target-requires : goal.needed-target-requires
 needed-target-requires c = search (rules, switch_laws)
 
-pub difference-added-requires : goal.difference-added-requires
-difference-added-requires c = search (rules, switch_laws)
-
-pub difference-removed-requires : goal.difference-removed-requires
-difference-removed-requires c = search (rules, switch_laws)
+pub switching-c-requires : goal.switching-c-requires
+switching-c-requires c = search (rules, switch_laws)
 
 pub walk_phases-requires : goal.walk_phases-requires
 walk_phases-requires c = search (rules, switch_laws)

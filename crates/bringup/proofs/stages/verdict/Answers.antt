@@ -1,4 +1,3 @@
-use mathlib.Core.Path.{◌∙◌}
 use Rattle.rules.proofs.Answers.{ok_passed, err_stopped, handed_on}
 use Rattle.bringup.proofs.Whole.{in_turn}
 use borrow.Author.Rules.{rules}

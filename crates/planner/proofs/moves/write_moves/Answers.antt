@@ -1,26 +1,35 @@
-use Rattle.planner.proofs.Turns.{turn_now, needed_now, above_now, words_sum, words_room, words_next, by_words}
+use Rattle.planner.proofs.OneMove.{put_from, put_inside, put_room}
+use Rattle.planner.proofs.Turns.{turn_now, needed_now, above_now, starts, room_below, sum_below, next_below, ended, none_above}
 use Rattle.planner.proofs.Choices.{looking}
 use Rattle.planner.proofs.Room.{room_words}
 use borrow.Author.Rules.{rules}
 use Rattle.planner.proofs.moves.write_moves.Goals as goal
 
 pub needed_below-requires : goal.needed_below-requires
-needed_below-requires c = (search (rules, looking), search (rules, looking), search (rules, looking))
+needed_below-requires g c = (search (rules, looking), search (rules, looking), search (rules, looking))
 
 pub devices-i-requires : goal.devices-i-requires
-devices-i-requires c = search (rules, looking)
+devices-i-requires g c = search (rules, looking)
 
 pub loop-i-init : goal.loop-i-init
-loop-i-init c = search (rules, by_words)
+loop-i-init g c =
+    let law = g.met.E.Element in (
+      search rules,
+      search rules,
+      search rules,
+      starts _ _ law.long law.joins _ _ _ _ c.requires.0 _ c.devices-i.ensures.0,
+      search (rules, none_above),
+      search rules,
+    )
 
 pub chosen_needs-requires : goal.chosen_needs-requires
-chosen_needs-requires c =
+chosen_needs-requires g c =
     let given = c.before.before.requires in
     let inv = c.loop-i.invariant in
     turn_now _ _ _ given.0 _ _ c.loop-i-test.true inv.0 inv.3.moving
 
-pub move_words-n-requires : goal.move_words-n-requires
-move_words-n-requires c =
+pub write_move-count-requires : goal.write_move-count-requires
+write_move-count-requires g c =
     let given = c.before.before.requires in
     let inv = c.loop-i.invariant in
     let h = c.loop-i-test.true in (
@@ -28,28 +37,44 @@ move_words-n-requires c =
       room_words _ c.loop-i.buffer inv.5,
       needed_now _ _ _ given.0 _ _ h inv.0 inv.3.moving _ _ _ c.chosen_needs.ensures inv.4 c.union-above.ensures _ _ _
           c.needed_below.ensures c.union-needed.ensures,
-      words_room _ _ _ _ given.0 _ _ _ _ inv.3 h inv.0 given.1,
+    )
+
+pub put_words-requires : goal.put_words-requires
+put_words-requires g c =
+    let given = c.before.before.requires in
+    let law = g.met.E.Element in
+    let inv = c.loop-i.invariant in
+    let h = c.loop-i-test.true in
+    let turn = turn_now _ _ _ given.0 _ _ h inv.0 inv.3.moving in
+    let w = c.write_move-count.ensures in (
+      put_inside _ _ _ _ _ _ _ _ _ turn w (room_words _ c.loop-i.buffer inv.5),
+      put_room _ _ _ _ _ _ _ _ _ turn w _ _ _ (room_below _ _ law.long law.joins _ _ _ _ given.0 _ _ _ _ h inv.0 inv.3 given.1),
     )
 
 pub overflow_add-n : goal.overflow_add-n
-overflow_add-n c =
+overflow_add-n g c =
     let given = c.before.before.requires in
+    let law = g.met.E.Element in
     let inv = c.loop-i.invariant in
-    words_sum _ _ _ _ given.0 _ _ _ _ inv.3 c.loop-i-test.true inv.0 _ _ _ c.move_words-n.ensures.0
+    sum_below _ _ law.long law.joins _ _ _ _ given.0 _ _ _ _ c.loop-i-test.true inv.0 inv.3 _ c.write_move-count.ensures.count
 
 pub loop-i-preserved : goal.loop-i-preserved
-loop-i-preserved c =
+loop-i-preserved g c =
     let given = c.before.before.requires in
+    let law = g.met.E.Element in
     let inv = c.loop-i.invariant in
-    let h = c.loop-i-test.true in (
+    let h = c.loop-i-test.true in
+    let w = c.write_move-count.ensures in
+    let put = put_from _ _ _ _ _ _ _ _ w _ _ _ c.put_words.ensures in (
       search rules,
       search rules,
       search rules,
-      words_next _ _ _ _ given.0 _ _ _ _ inv.3 h inv.0 given.1 _ _ _ c.move_words-n.ensures.0,
-      above_now _ _ _ given.0 _ _ h inv.0 inv.3.moving _ _ _ c.chosen_needs.ensures inv.4 c.union-above.ensures _
-          c.move_words-n.ensures.0.state,
+      next_below _ _ law.long law.joins _ _ _ _ given.0 _ _ _ _ h inv.0 inv.3 given.1 _ _ _ put,
+      above_now _ _ _ given.0 _ _ h inv.0 inv.3.moving _ _ _ c.chosen_needs.ensures inv.4 c.union-above.ensures _ w.state,
       search rules,
     )
 
 pub returns : goal.returns
-returns c = search (rules, by_words)
+returns g c =
+    let law = g.met.E.Element in
+    ended _ _ law.long law.joins _ _ _ _ c.requires.0 _ _ _ _ c.loop-i.invariant.3 c.loop-i-test.false

@@ -8,9 +8,8 @@ use Rattle.planner.proofs.Turns.{Underway}
 use Rattle.planner.proofs.moves.write_moves.Given as goal
 
 abbrev pub invariant-loop-i : goal.invariant-loop-i
-invariant-loop-i l =
-    (l.i ≤ count_d l.table) × (l.i ≤ 64) × (length l.state ≡ length l.initial.state) × Underway 1 (λ ws. ws) l.table l.initial.state l.chosen l.initial.plan l.i l.n l.state l.plan
+invariant-loop-i g l =
+    (l.i ≤ count_d l.table) × (l.i ≤ 64) × (length l.state ≡ length l.initial.state)
+    × Underway g.E.Element.size g.E.Element.written l.table l.initial.state l.chosen (g.E.Element.numbers l.initial.plan) l.i l.n l.state
+    (g.E.Element.numbers l.plan)
     × (l.above ≡ needed_from (station l.table) (entries l.table l.state) 0 l.i (count_d l.table - l.i)) × (length l.buffer ≡ 65)
-
-abbrev pub decreases-loop-i : goal.decreases-loop-i
-decreases-loop-i l = l.i

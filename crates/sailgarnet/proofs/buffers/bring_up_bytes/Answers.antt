@@ -1,60 +1,35 @@
-use mathlib.Core.Bool.{not}
-use mathlib.Core.Path.{ap}
 use mathlib.Core.Path.{refl}
-use Rattle.rules.specs.Verdict.{refuse}
-use Rattle.rules.specs.declared.Reason.TheVariants.{NotATable}
-use Rattle.rules.proofs.Answers.{refused_stops, ok_passed, err_stopped, handed_on}
-use Rattle.table.proofs.Verdicts.{header_passed, table_passed, sized_passed}
+use Rattle.rules.proofs.Answers.{ok_passed, err_stopped, handed_on}
+use Rattle.table.proofs.Verdicts.{table_passed, sized_passed}
 use Rattle.switching.proofs.Answered.{parts}
-use Rattle.bringup.proofs.Whole.{stop_header, stop_table, passed_by, room_bytes, bytes_refused, bytes_brought}
-use Rattle.planner.proofs.Room.{room_words, words_65, bytes_room}
-use Rattle.sailgarnet.proofs.Outer.{bring_up_room}
-use borrow.Author.Rules.{rules}
+use Rattle.bringup.proofs.Whole.{stop_table, passed_by, room_bytes, bytes_refused, bytes_brought}
 use Rattle.sailgarnet.proofs.buffers.bring_up_bytes.Goals as goal
 
--- A refusal leaves state and plan; otherwise the calls, as bytes, and the state of bring-up are written. Where the values are too many
--- for a search, each is named by the call that gave it, from the last one back.
-pub returns-then-not-header_good : goal.returns-then-not-header_good
-returns-then-not-header_good c =
-    let stop = stop_header _ _ _ _ c.header_good.ensures (ap not c.if-not-header_good.true) in
-    parts (bytes_refused _ _ _ _ refl (refuse NotATable 0) stop (refused_stops NotATable 0))
-
-pub check_past_header-requires : goal.check_past_header-requires
-check_past_header-requires c = search (rules, header_passed)
-
-pub returns-in_err-check_past_header : goal.returns-in_err-check_past_header
-returns-in_err-check_past_header c =
-    let no = err_stopped _ _ c.in_err-check_past_header.was in
-    rw (handed_on _ _ _ c.in_err-check_past_header.was c.from_residual.ensures.1)
-    (parts (bytes_refused _ _ _ _ refl _ (stop_table _ _ _ _ c.check_past_header.ensures no) no))
+pub returns-in_err-check_table : goal.returns-in_err-check_table
+returns-in_err-check_table c =
+    let no = err_stopped _ _ c.in_err-check_table.was in
+    rw (handed_on _ _ _ c.in_err-check_table.was c.from_residual.ensures.1)
+    (parts (bytes_refused _ _ _ _ refl _ (stop_table _ _ _ _ c.check_table.ensures no) no))
 
 pub room-requires : goal.room-requires
-room-requires c = sized_passed _ _ c.check_past_header.ensures (ok_passed _ _ c.in_ok-check_past_header.was)
+room-requires c = sized_passed _ _ c.check_table.ensures (ok_passed _ _ c.in_ok-check_table.was)
 
 pub past_table-requires : goal.past_table-requires
-past_table-requires c = table_passed _ _ c.check_past_header.ensures (ok_passed _ _ c.in_ok-check_past_header.was)
+past_table-requires c = table_passed _ _ c.check_table.ensures (ok_passed _ _ c.in_ok-check_table.was)
 
 pub returns-in_err-past_table : goal.returns-in_err-past_table
 returns-in_err-past_table c =
     rw (handed_on _ _ _ c.in_err-past_table.was c.from_residual-in_err-past_table.ensures.1)
     (parts (bytes_refused _ _ _ _ c.room.ensures.0 _ c.past_table.ensures (err_stopped _ _ c.in_err-past_table.was)))
 
-pub write_bring_up-n-requires : goal.write_bring_up-n-requires
-write_bring_up-n-requires c = (
-  passed_by _ _ _ _ c.past_table.ensures (ok_passed _ _ c.in_ok-past_table.was),
-  search (rules, room_words),
-)
-
-pub write_words-requires : goal.write_words-requires
-write_words-requires c =
+pub write_offs-requires : goal.write_offs-requires
+write_offs-requires c =
     let e = c.past_table.ensures in
     let yes = ok_passed _ _ c.in_ok-past_table.was in
-    let w = c.write_bring_up-n.ensures in
-    let short = bring_up_room _ _ (passed_by _ _ _ _ e yes) in
-    let fits = room_bytes _ _ _ _ c.room.ensures.0 _ e yes in
-    (words_65 _ _ _ short _ _ _ _ w (search rules), bytes_room _ _ _ short _ _ _ _ w _ fits)
+    (passed_by _ _ _ _ e yes, room_bytes _ _ _ _ c.room.ensures.0 _ e yes)
 
 pub returns : goal.returns
 returns c =
-    parts (bytes_brought _ _ _ _ c.room.ensures.0 _ c.past_table.ensures (ok_passed _ _ c.in_ok-past_table.was)
-    _ _ _ _ _ c.write_bring_up-n.ensures c.write_words.ensures)
+    let w = c.write_offs.ensures in
+    parts (bytes_brought _ _ _ _ c.room.ensures.0 _ c.past_table.ensures (ok_passed _ _ c.in_ok-past_table.was) _ _ _ w.count
+    w.state w.elements)

@@ -1,37 +1,21 @@
-use mathlib.Core.Bool.{not}
-use mathlib.Core.Path.{ap}
-use Rattle.rules.specs.Verdict.{refuse}
-use Rattle.rules.specs.declared.Reason.TheVariants.{NotATable}
-use Rattle.rules.proofs.Answers.{refused_stops, ok_passed, err_stopped, handed_on}
+use Rattle.rules.proofs.Answers.{ok_passed, err_stopped, handed_on}
 use Rattle.laws.proofs.BringUpLists.{bring_up_checked_bytes}
-use Rattle.table.proofs.Verdicts.{header_passed, table_passed}
-use Rattle.bringup.proofs.Whole.{stop_header, stop_table, passed_by, of_bytes_lem, check_bytes_refused}
+use Rattle.table.proofs.Verdicts.{table_passed}
+use Rattle.bringup.proofs.Whole.{stop_table, passed_by, of_bytes_lem, check_bytes_refused}
 use borrow.Author.Rules.{rules}
 use Rattle.sailgarnet.proofs.buffers.check_bring_up_bytes.Goals as goal
 
--- A law for each way out, and what is promised of every list of bytes.
-pub returns-then-not-header_good : goal.returns-then-not-header_good
-returns-then-not-header_good c =
-    record {
-      answer = check_bytes_refused _ _ _ (refuse NotATable 0) (stop_header _ _ _ _ c.header_good.ensures (ap not c.if-not-header_good.true))
-          (refused_stops NotATable 0);
-      checked = bring_up_checked_bytes _ _ _;
-    }
-
-pub check_past_header-requires : goal.check_past_header-requires
-check_past_header-requires c = search (rules, header_passed)
-
-pub returns-in_err-check_past_header : goal.returns-in_err-check_past_header
-returns-in_err-check_past_header c =
-    let no = err_stopped _ _ c.in_err-check_past_header.was in
-    rw (handed_on _ _ _ c.in_err-check_past_header.was c.from_residual.ensures.1)
+pub returns-in_err-check_table : goal.returns-in_err-check_table
+returns-in_err-check_table c =
+    let no = err_stopped _ _ c.in_err-check_table.was in
+    rw (handed_on _ _ _ c.in_err-check_table.was c.from_residual.ensures.1)
     (record {
-      answer = check_bytes_refused _ _ _ _ (stop_table _ _ _ _ c.check_past_header.ensures no) no;
+      answer = check_bytes_refused _ _ _ _ (stop_table _ _ _ _ c.check_table.ensures no) no;
       checked = bring_up_checked_bytes _ _ _;
     })
 
 pub past_table-requires : goal.past_table-requires
-past_table-requires c = table_passed _ _ c.check_past_header.ensures (ok_passed _ _ c.in_ok-check_past_header.was)
+past_table-requires c = table_passed _ _ c.check_table.ensures (ok_passed _ _ c.in_ok-check_table.was)
 
 pub returns-in_err-past_table : goal.returns-in_err-past_table
 returns-in_err-past_table c =

@@ -1,12 +1,13 @@
-use Rattle.sailgarnet.proofs.Outer.{counts}
-use borrow.Author.Rules.{rules}
+use mathlib.Core.Path.{◌∙◌}
+use borrow.Author.Tests.{eq-eqb, ne_eqb}
+use Rattle.sailgarnet.proofs.Outer.{count_is}
+use Rattle.sailgarnet.proofs.buffers.words_in.Goals.{then-bytes-eq0, else-bytes-eq0}
 use Rattle.sailgarnet.proofs.buffers.words_in.Goals as goal
 
-pub returns-then-bytes-ne0 : goal.returns-then-bytes-ne0
-returns-then-bytes-ne0 c = search (rules, counts)
-
-pub returns-then-bytes-gt65 : goal.returns-then-bytes-gt65
-returns-then-bytes-gt65 c = search (rules, counts)
-
 pub returns : goal.returns
-returns c = search (rules, counts)
+returns c =
+    count_is _ _ _ c.then_some.ensures
+    (elim c.if-bytes-eq0.branch [
+      | then-bytes-eq0 w ↦ rw (eq-eqb _ 0 w.if-bytes-eq0.true) w.then_some-is
+      | else-bytes-eq0 w ↦ let no = ne_eqb _ 0 w.if-bytes-eq0.false in rw no (w.then_some-is ∙ no)
+    ])
