@@ -75,7 +75,7 @@ fn words_verdict(table: &[u8], state: &[u8], line: &[u8]) -> Verdict
     let size = store_list(&mut list, line, 4);
     let n = size / 4;
     let mut calls = [0u32; 1107];
-    words::read_words(&list[..size], n, &mut calls);
+    words::read_words(&list[..size], &mut calls[..n]);
     checker::check::check_words(table, state, script::request(line, 4096), &calls[..n])
 }
 
