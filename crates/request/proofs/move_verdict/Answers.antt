@@ -1,6 +1,7 @@
 use Rattle.std.proofs.Common.{rules}
 use Rattle.rules.specs.Answers.{passes, first_of, unless}
 use Rattle.rules.specs.Request.{move_verdict}
+use Rattle.table.proofs.Readers.{field_in}
 use Rattle.status.proofs.Keeps.{entry_ready}
 use Rattle.request.proofs.Rules.{moving}
 use Rattle.request.proofs.move_verdict.Goals as goal
@@ -15,7 +16,8 @@ returns-then-not-not_shallower_or_d0 c = search (rules, entry_ready)
 
 pub returns-then-not-parent_allows : goal.returns-then-not-parent_allows
 unfolding move_verdict first_of unless passes
-returns-then-not-parent_allows c = search (rules, entry_ready)
+returns-then-not-parent_allows c =
+    search (rules, entry_ready, field_in (λ v. v.parent) c.device-device.result c.parent.result c.parent.ensures)
 
 pub returns-in-Some : goal.returns-in-Some
 returns-in-Some c = search (rules, moving)
