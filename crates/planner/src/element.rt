@@ -22,8 +22,9 @@ pub trait Element {
         requires { (n ≤ length words.now) × (size * (at + n) ≤ length (numbers plan.old)) }
         ensures { numbers plan.new ≡ put (numbers plan.old) (size * at) (written (take n words.now)) };
 
-    // The turn-off calls alone, where no device moves: what bring-up gives of a consistent state.
-    fn write_offs(table: &[u8], state: &mut [u8], plan: &mut [Self]) -> usize
+    // The calls of bring-up, from the start of the plan. Of a consistent state they are the turn-off calls alone, which sleep entry asks
+    // for where no device moves.
+    fn write_bring_up(table: &[u8], state: &mut [u8], plan: &mut [Self]) -> usize
         requires { BringUpState table.now state.old × (size * list_room (width table.now) ≤ length (numbers plan.old)) }
         ensures { WrittenFrom size written (bring_up_list table.now state.old)
             (state_brought_up table.now state.old) (numbers plan.old) 0 result state.new
@@ -50,7 +51,7 @@ impl Element for u32 {
     }
 
     // straight into the plan
-    fn write_offs(table: &[u8], state: &mut [u8], plan: &mut [u32]) -> usize {
+    fn write_bring_up(table: &[u8], state: &mut [u8], plan: &mut [u32]) -> usize {
         bringup::bring_up::write_bring_up(table, state, plan)
     }
 }
@@ -70,7 +71,8 @@ impl Element for u8 {
         words::write_words(words, n, plan, at);
     }
 
-    fn write_offs(table: &[u8], state: &mut [u8], plan: &mut [u8]) -> usize {
+    // through the buffer of one plan
+    fn write_bring_up(table: &[u8], state: &mut [u8], plan: &mut [u8]) -> usize {
         let mut calls = [0u32; 65];
         let n = bringup::bring_up::write_bring_up(table, state, &mut calls);
         words::write_words(&calls, n, plan, 0);

@@ -115,7 +115,7 @@ pub fn write_choice<E: Element>(
         (E.numbers plan.old) 0 result state.new (E.numbers plan.new) }
 {
     if sleep::choice::none_moves(table, state, chosen) {
-        return E::write_offs(table, state, plan);
+        return E::write_bring_up(table, state, plan);
     }
     write_moves(table, state, chosen, plan)
 }

@@ -128,7 +128,7 @@ pub fn bring_up_bytes(table: &[u8], state: &mut [u8], plan: &mut [u8]) -> Verdic
     table::check_table(table)?;
     let room = plan.len() >= 4 * switching::write::room(table);
     bringup::stages::past_table(table, state, room)?;
-    Ok(u8::write_offs(table, state, plan))
+    Ok(u8::write_bring_up(table, state, plan))
 }
 
 // Whether a list of bytes conforms to the bring-up of a state that has passed every check.

@@ -6,8 +6,8 @@ pub none_moves-requires : goal.none_moves-requires
 none_moves-requires g c = search (rules, entering)
 
 -- Where none moves, the list is that of bring-up.
-pub write_offs-requires : goal.write_offs-requires
-write_offs-requires g c = (search (rules, entering), search (rules, entering))
+pub write_bring_up-requires : goal.write_bring_up-requires
+write_bring_up-requires g c = (search (rules, entering), search (rules, entering))
 
 pub returns-then-none_moves : goal.returns-then-none_moves
 returns-then-none_moves g c = search (rules, by_choice)

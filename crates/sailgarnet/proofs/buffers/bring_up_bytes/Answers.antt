@@ -22,14 +22,14 @@ returns-in_err-past_table c =
     rw (handed_on _ _ _ c.in_err-past_table.was c.from_residual-in_err-past_table.ensures.1)
     (parts (bytes_refused _ _ _ _ c.room.ensures.0 _ c.past_table.ensures (err_stopped _ _ c.in_err-past_table.was)))
 
-pub write_offs-requires : goal.write_offs-requires
-write_offs-requires c =
+pub write_bring_up-requires : goal.write_bring_up-requires
+write_bring_up-requires c =
     let e = c.past_table.ensures in
     let yes = ok_passed _ _ c.in_ok-past_table.was in
     (passed_by _ _ _ _ e yes, room_bytes _ _ _ _ c.room.ensures.0 _ e yes)
 
 pub returns : goal.returns
 returns c =
-    let w = c.write_offs.ensures in
+    let w = c.write_bring_up.ensures in
     parts (bytes_brought _ _ _ _ c.room.ensures.0 _ c.past_table.ensures (ok_passed _ _ c.in_ok-past_table.was) _ _ _ w.count
     w.state w.elements)

@@ -2,7 +2,7 @@ use Rattle.planner.proofs.OneMove.{put_from}
 use Rattle.planner.proofs.Room.{words_65, bytes_room}
 use Rattle.planner.proofs.Choices.{offs_room}
 use borrow.Author.Rules.{rules}
-use Rattle.planner.proofs.element.U8Element.write_offs.Goals as goal
+use Rattle.planner.proofs.element.U8Element.write_bring_up.Goals as goal
 
 pub write_words-requires : goal.write_words-requires
 write_words-requires c =
