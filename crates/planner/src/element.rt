@@ -1,5 +1,5 @@
 // What a plan has for elements: words themselves, or bytes, four a word.
-ghost use Rattle.std.specs.Prelude.{refl, ℕ, ◌≡◌, ◌≤◌, ◌+◌, ◌*◌, List, ◌++◌, length, take};
+ghost use Rattle.std.specs.Prelude.{refl, ℕ, ◌≡◌, ◌≤◌, ◌+◌, ◌*◌, List, ◌++◌, length};
 ghost use Rattle.words.specs.Words.{put, word_bytes};
 ghost use Rattle.rules.specs.Station.{width};
 ghost use Rattle.rules.specs.BringUp.{bring_up_list, state_brought_up};
@@ -17,10 +17,10 @@ pub trait Element {
 
     ghost numbers: { List Self → List ℕ };
 
-    // The first n words, from word `at` of the plan on.
-    fn put_words(words: &[u32], n: usize, plan: &mut [Self], at: usize)
-        requires { (n ≤ length words.now) × (size * (at + n) ≤ length (numbers plan.old)) }
-        ensures { numbers plan.new ≡ put (numbers plan.old) (size * at) (written (take n words.now)) };
+    // The words, from word `at` of the plan on.
+    fn put_words(words: &[u32], plan: &mut [Self], at: usize)
+        requires { size * (at + length words.now) ≤ length (numbers plan.old) }
+        ensures { numbers plan.new ≡ put (numbers plan.old) (size * at) (written words.now) };
 
     // The calls of bring-up, from the start of the plan. Of a consistent state they are the turn-off calls alone, which sleep entry asks
     // for where no device moves.
@@ -46,8 +46,8 @@ impl Element for u32 {
 
     ghost joins = { λ xs ys. refl };
 
-    fn put_words(words: &[u32], n: usize, plan: &mut [u32], at: usize) {
-        words::copy_words(words, n, plan, at);
+    fn put_words(words: &[u32], plan: &mut [u32], at: usize) {
+        words::copy(words, plan, at);
     }
 
     // straight into the plan
@@ -67,15 +67,15 @@ impl Element for u8 {
 
     ghost joins = { word_bytes_append };
 
-    fn put_words(words: &[u32], n: usize, plan: &mut [u8], at: usize) {
-        words::write_words(words, n, plan, at);
+    fn put_words(words: &[u32], plan: &mut [u8], at: usize) {
+        words::write_words(words, plan, at);
     }
 
     // through the buffer of one plan
     fn write_bring_up(table: &[u8], state: &mut [u8], plan: &mut [u8]) -> usize {
         let mut calls = [0u32; 65];
         let n = bringup::bring_up::write_bring_up(table, state, &mut calls);
-        words::write_words(&calls, n, plan, 0);
+        words::write_words(&calls[..n], plan, 0);
         n
     }
 }

@@ -35,8 +35,7 @@ pub fn chosen_needs(table: &[u8], devices: &[u8], chosen: &[u8], d: usize) -> u6
         state: chosen[d],
         ..e
     };
-    let at = table::fields::start(table, d);
-    power::needs(table, d, at, table::fields::width(table), taken)
+    power::needs(&table::fields::device(table, d), taken)
 }
 
 // The calls and the state of device d's move to its state in `chosen`, from the set needed after it; none if it stays. The move is deeper,
@@ -62,7 +61,7 @@ pub fn write_move(
     let q = Request {
         kind: 1,
         device: d as u32,
-        a: words::wide(y),
+        a: u32::from(y),
         b: 0,
     };
     let e = status::image::entry(state, d);
@@ -95,7 +94,7 @@ fn write_moves<E: Element>(table: &[u8], state: &mut [u8], chosen: &[u8], plan: 
         above = sets::union(chosen_needs(table, state, chosen, i), above);
         let needed = sets::union(below[i], above);
         let count = write_move(table, state, chosen, i, needed, &mut buffer);
-        E::put_words(&buffer, count, plan, n);
+        E::put_words(&buffer[..count], plan, n);
         n += count;
     }
     n

@@ -31,7 +31,7 @@ fn request_bytes(table: &[u8], state: &mut [u8], q: Request, plan: &mut [u8]) ->
     request::stages::past_table(table, state, room, q)?;
     let mut calls = [0u32; 65];
     let n = planner::plan::write_plan(table, state, q, &mut calls);
-    words::write_words(&calls, n, plan, 0);
+    words::write_words(&calls[..n], plan, 0);
     Ok(n)
 }
 
@@ -74,9 +74,10 @@ fn test_words<const N: usize, F: FnOnce(&[u32]) -> bool>(list: &[u8], n: usize, 
     requires callable { F.IsAlwaysCallable test }
     ensures { FnOnceReturnsAt F.FnOnce test (byte_words n list.now) result }
 {
-    let mut words = [0u32; N];
-    words::read_words(list, n, &mut words);
-    test(&words[..n])
+    let mut buffer = [0u32; N];
+    let words = &mut buffer[..n];
+    words::read_words(list, words);
+    test(words)
 }
 
 // What the test says of a list of bytes as words. A list of at most 33, which is the longest of version 1, is read into a buffer of 33,
