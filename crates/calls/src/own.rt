@@ -4,7 +4,7 @@ ghost use Rattle.rules.specs.Station.{count_d, station};
 ghost use Rattle.rules.specs.Calls.{method_for, calls_method, move_call, wake_call, own_call, own_last};
 ghost use Rattle.table.specs.Layout.{WellSized};
 
-use rules::{Call, Entry, Request, Wake};
+use rules::{Call, Entry, Kind, Request, Wake};
 
 // Whether a move to state x calls a method, if it exists: the state changes, and not from D3hot to D3cold.
 #[tactic(auto, unfolding(rules::specs::Calls::calls_method))]
@@ -41,13 +41,13 @@ fn move_call(table: &[u8], e: Entry, d: u32, x: u32) -> Option<Call>
 }
 
 // `_DSW`, for arming and disarming.
-#[tactic(auto, unfolding(rules::specs::Calls::wake_call, rules::specs::Calls::only))]
+#[tactic(auto, unfolding(rules::specs::Calls::wake_call, rules::specs::Kinds::kind_of, rules::specs::Calls::only))]
 fn wake_call(table: &[u8], e: Entry, q: Request) -> Option<Call>
     requires { WellSized table.now × (q.device < count_d table.now) × (q.a ≤ 4) × (q.b ≤ 4) }
     ensures { result ≡ wake_call (station table.now) e q }
 {
-    let wake = match (q.kind, e.armed) {
-        (2, _) => Wake::Enable {
+    let wake = match (q.asks(), e.armed) {
+        (Some(Kind::Arm), _) => Wake::Enable {
             sleep: q.a as u8,
             state: q.b as u8,
         },
@@ -62,22 +62,25 @@ fn wake_call(table: &[u8], e: Entry, q: Request) -> Option<Call>
 }
 
 // The own call of a request in range, for a device whose entry is e.
-#[tactic(auto, unfolding(rules::specs::Calls::own_call))]
+#[tactic(auto, unfolding(rules::specs::Calls::own_call, rules::specs::Kinds::kind_of))]
 pub fn own_call(table: &[u8], e: Entry, q: Request) -> Option<Call>
     requires { WellSized table.now × (q.device < count_d table.now) × (q.a ≤ 4) × (q.b ≤ 4) }
     ensures { result ≡ own_call (station table.now) e q }
 {
-    if q.kind == 1 {
-        move_call(table, e, q.device, q.a)
-    } else {
-        wake_call(table, e, q)
+    match q.asks() {
+        Some(Kind::Move) => move_call(table, e, q.device, q.a),
+        _ => wake_call(table, e, q),
     }
 }
 
 // Whether the own call comes last: moving to D0, or arming.
-#[tactic(auto, unfolding(rules::specs::Calls::own_last))]
+#[tactic(auto, unfolding(rules::specs::Calls::own_last, rules::specs::Kinds::kind_of))]
 pub fn own_last(q: Request) -> bool
     ensures { result ≡ own_last q }
 {
-    q.kind == 1 && q.a == 0 || q.kind == 2
+    match q.asks() {
+        Some(Kind::Move) => q.a == 0,
+        Some(Kind::Arm) => true,
+        _ => false,
+    }
 }

@@ -13,17 +13,19 @@ ghost use Rattle.rules.specs.Request.{new_entry, numbers_good};
 ghost use Rattle.table.specs.Layout.{WellSized};
 ghost use Rattle.status.specs.Ready.{Ready};
 
-use rules::{Entry, Reason, Refusal, Request, Verdict};
+use rules::{Entry, Kind, Reason, Refusal, Request, Verdict};
 
 // 10: whether kind and numbers are in range and unused ones zero.
-#[tactic(auto, unfolding(rules::specs::Request::numbers_good))]
+#[tactic(auto, unfolding(rules::specs::Request::numbers_good, rules::specs::Kinds::kind_of))]
 fn numbers_good(q: Request) -> bool
     ensures { result ≡ numbers_good q }
 {
-    matches!(
-        (q.kind, q.a, q.b),
-        (1, 0..=4, 0) | (2, 0..=4, 0..=4) | (3, 0, 0)
-    )
+    match q.asks() {
+        Some(Kind::Move) => q.a <= 4 && q.b == 0,
+        Some(Kind::Arm) => q.a <= 4 && q.b <= 4,
+        Some(Kind::Disarm) => q.a == 0 && q.b == 0,
+        _ => false,
+    }
 }
 
 // 10: whether the whole request is in form.
@@ -127,25 +129,25 @@ pub fn request_verdict(table: &[u8], devices: &[u8], q: Request) -> Verdict
         return Err(Refusal(Reason::BadRequest, 0));
     }
     let d = q.device as usize;
-    match q.kind {
-        1 => move_verdict(table, devices, d, q.a as u8),
-        2 => arm_verdict(table, devices, d, q.a as u8, q.b as u8),
+    match q.asks() {
+        Some(Kind::Move) => move_verdict(table, devices, d, q.a as u8),
+        Some(Kind::Arm) => arm_verdict(table, devices, d, q.a as u8, q.b as u8),
         _ => Ok(0),
     }
 }
 
 // The entry after an accepted request.
-#[tactic(auto, unfolding(rules::specs::Request::new_entry))]
+#[tactic(auto, unfolding(rules::specs::Request::new_entry, rules::specs::Kinds::kind_of))]
 pub fn new_entry(e: Entry, q: Request) -> Entry
     requires { (q.a ≤ 4) × (q.b ≤ 4) }
     ensures { result ≡ new_entry e q }
 {
-    match q.kind {
-        1 => Entry {
+    match q.asks() {
+        Some(Kind::Move) => Entry {
             state: q.a as u8,
             ..e
         },
-        2 => Entry {
+        Some(Kind::Arm) => Entry {
             armed: 1,
             sleep: q.a as u8,
             wake: q.b as u8,
