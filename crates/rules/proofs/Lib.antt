@@ -3,4 +3,3 @@ pub mod Index
 pub mod Answers
 pub mod Width
 pub mod Conforming
-pub mod Named
