@@ -1,6 +1,6 @@
 // The lowest bad record of a run of records: those of a table, and those of a list of described resources or devices.
 ghost use Rattle.std.specs.Prelude.{◌≡◌, ◌||◌, not, ◌+◌, ◌*◌, ◌<◌, ◌≤◌, length};
-ghost use Rattle.rules.specs.Index.{least_below};
+ghost use Rattle.rules.specs.Index.{least_option};
 ghost use Rattle.rules.specs.Station.{Wide, limit};
 ghost use Rattle.rules.specs.Table.{all_good, resource_good, zero_fields};
 ghost use Rattle.record.specs.Good.{size_with, good_with};
@@ -17,10 +17,10 @@ fn resource_bad(bytes: &[u8], at: usize) -> bool
 }
 
 // The lowest bad one of n resources from byte `first` on, if one is bad.
-#[tactic(auto, unfolding(rules::specs::Index::least_below), using(rules::proofs::Index::lowest_of))]
+#[tactic(auto, unfolding(rules::specs::Index::least_option), using(rules::proofs::Index::lowest_of))]
 pub fn lowest_resource(bytes: &[u8], first: usize, n: usize) -> Option<usize>
     requires { first + 4 * n ≤ length bytes.now }
-    ensures { result ≡ least_below (λ i. not (resource_good bytes.now (first + 4 * i))) n }
+    ensures { result ≡ least_option (λ i. not (resource_good bytes.now (first + 4 * i))) n }
 {
     for i in 0..n {
         if resource_bad(bytes, first + 4 * i) {
@@ -80,10 +80,10 @@ impl Records<'_> {
     }
 
     // The lowest bad device, if one is bad. The bytes at which the records start are added up: no product in the loop.
-    #[tactic(auto, unfolding(rules::specs::Index::least_below), using(rules::proofs::Index::lowest_of))]
+    #[tactic(auto, unfolding(rules::specs::Index::least_option), using(rules::proofs::Index::lowest_of))]
     pub fn lowest_bad(&self, resources: usize) -> Option<usize>
         requires { resources ≤ limit self.now.width }
-        ensures { result ≡ least_below (λ i. not (good_with self.now.zeros self.now.width resources self.now.bytes.now i
+        ensures { result ≡ least_option (λ i. not (good_with self.now.zeros self.now.width resources self.now.bytes.now i
             (self.now.first + size_with self.now.zeros self.now.width * i))) self.now.count }
     {
         let size = size_with(self.width, self.zeros);

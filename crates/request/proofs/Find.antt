@@ -22,7 +22,7 @@ use Rattle.std.proofs.lemmas.Iterator.{first_from_Range, cases_from_all, YieldsL
 use Rattle.std.proofs.lemmas.List.{get_or-take, length-take-le}
 use Rattle.std.proofs.lemmas.List.FromFn.{length-range_with_len, get_or-range_with_len}
 use Rattle.sets.proofs.Laws.{decide}
-use Rattle.rules.specs.Index.{least, least_below, every}
+use Rattle.rules.specs.Index.{least, least_option, every}
 use Rattle.rules.proofs.Index.{no_hit, some_least, no_least, every_at, every_of_lem}
 use Rattle.laws.proofs.Every.{same_test, least_part}
 
@@ -49,11 +49,11 @@ module _ {F : Type 0} {g : Mut F (Bor ℕ × Unit {0}) Bool} (f : ℕ → Bool) 
       by (Some i) h = let l : i < n = omega (arith, h.1, high) in (h.0, l, h.2 h.0 l, λ k a m. h.3 k a m a (omega arith))
 
   -- from 0 on
-  pub find_below : s.start ≡ 0 → r ≡ least_below f n
+  pub find_below : s.start ≡ 0 → r ≡ least_option f n
   find_below low = by r find_in
     where
       by : (r : Option ℕ) → MatchOption r ((k : ℕ) → s.start ≤ k → k < n → f k ≡ false)
-          (λ i. (s.start ≤ i) × (i < n) × (f i ≡ true) × ((k : ℕ) → s.start ≤ k → k < i → f k ≡ false)) → r ≡ least_below f n
+          (λ i. (s.start ≤ i) × (i < n) × (f i ≡ true) × ((k : ℕ) → s.start ≤ k → k < i → f k ≡ false)) → r ≡ least_option f n
       by None h =
           no_least f n n (least_is f n n (omega arith) (λ l. absurd (omega arith)) (λ k l. h k (omega (arith, low)) l)) (omega arith)
       by (Some i) h =

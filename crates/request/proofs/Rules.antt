@@ -16,7 +16,7 @@ use Rattle.rules.specs.Verdict.{refuse}
 use Rattle.rules.specs.declared.Reason.{Reason}
 use Rattle.rules.specs.declared.Reason.TheVariants.{BadRequest, ChildShallower, TooDeepToWake}
 use Rattle.rules.specs.declared.Reason.TheVariants.{BadWakeState}
-use Rattle.rules.specs.Index.{least_below}
+use Rattle.rules.specs.Index.{least_option}
 use Rattle.rules.specs.Answers.{passes, first_of, unless, lowest}
 use Rattle.rules.specs.Station.{Station, count_d, station_of, station}
 use Rattle.rules.specs.Power.{supported, wake_from, wake_powered, wake_state}
@@ -59,7 +59,7 @@ unless_alone false why at = refl
 module _ (t b : List ℕ) (r : Ready t b) (d x : ℕ) (h : d < count_d t) (u : Entry) (read : u ≡ entry_at b (4 * d)) (y e c : Bool)
     (known : y ≡ supported (station t) d x) (yes : not y ≡ false) (deep : e ≡ not_shallower_or_d0 u x) (yes2 : not e ≡ false)
     (up : c ≡ parent_allows (station t) (entries t b) d x) (yes3 : not c ≡ false) (k : Option ℕ)
-    (low : k ≡ least_below (child_bars (station t) (entries t b) d x) (count_d t)) where
+    (low : k ≡ least_option (child_bars (station t) (entries t b) d x) (count_d t)) where
   own : u ≡ entries t b d
   own = entry_ready t b d u r h read
 

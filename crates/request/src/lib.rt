@@ -5,7 +5,7 @@ pub mod change;
 pub mod stages;
 
 ghost use Rattle.std.specs.Prelude.{◌≡◌, true, ◌<◌, ◌≤◌};
-ghost use Rattle.rules.specs.Index.{least_below};
+ghost use Rattle.rules.specs.Index.{least_option};
 ghost use Rattle.rules.specs.Station.{count_d, station};
 ghost use Rattle.rules.specs.Status.{entries};
 ghost use Rattle.rules.specs.Request.{form_good, not_shallower_or_d0, child_bars, wake_allows, move_verdict, arm_verdict, request_verdict};
@@ -49,7 +49,7 @@ fn child_bars(table: &[u8], devices: &[u8], d: usize, x: u8, c: usize) -> bool
 // 14: the lowest such child.
 fn lowest_child(table: &[u8], devices: &[u8], d: usize, x: u8) -> Option<usize>
     requires { Ready table.now devices.now × (d < count_d table.now) }
-    ensures { result ≡ least_below (child_bars (station table.now) (entries table.now devices.now) d x)
+    ensures { result ≡ least_option (child_bars (station table.now) (entries table.now devices.now) d x)
         (count_d table.now) }
 {
     let n = table::fields::devices(table);

@@ -17,7 +17,7 @@ use Rattle.rules.specs.declared.Reason.TheVariants.{BadState, Inconsistent, NoRo
 use Rattle.rules.specs.declared.Reason.TheVariants.{ParentDeeper, ChildShallower, TooDeepToWake, NoWake, WakeUnpowered}
 use Rattle.rules.specs.declared.Reason.TheVariants.{BadWakeState, NotConforming, ArmedForOther, NoChoice}
 use Rattle.std.specs.Prelude.{Some, None}
-use Rattle.rules.specs.Index.{least, least_below}
+use Rattle.rules.specs.Index.{least, least_option}
 use Rattle.rules.specs.Answers.{reason_number, passes, first_of, unless, lowest}
 use Rattle.rules.proofs.Index.{none_below, no_hit, least_of_some, least_of_none}
 
@@ -108,10 +108,10 @@ unfolding lowest
 lowest_none bad n i refusal e h = rw (← e, le-ltb i n h)
 
 -- the same by the lowest bad one as an option
-pub lowest_some : (bad : ℕ → Bool) (n i : ℕ) (refusal : ℕ → Verdict) → Some i ≡ least_below bad n → refusal i ≡ lowest bad n refusal
+pub lowest_some : (bad : ℕ → Bool) (n i : ℕ) (refusal : ℕ → Verdict) → Some i ≡ least_option bad n → refusal i ≡ lowest bad n refusal
 lowest_some bad n i refusal e = let l = least_of_some bad n i e in sym (lowest_stop bad n i refusal l.0 l.1)
 
-pub lowest_no : (bad : ℕ → Bool) (n : ℕ) (refusal : ℕ → Verdict) → None ≡ least_below bad n → lowest bad n refusal ≡ Ok 0
+pub lowest_no : (bad : ℕ → Bool) (n : ℕ) (refusal : ℕ → Verdict) → None ≡ least_option bad n → lowest bad n refusal ≡ Ok 0
 lowest_no bad n refusal e = lowest_none bad n (least bad n) refusal refl (least_of_none bad n e)
 
 pub lowest_at : (bad : ℕ → Bool) (n : ℕ) (refusal : ℕ → Verdict) → ((i : ℕ) → passes (refusal i) ≡ false)

@@ -10,7 +10,7 @@ use borrow.Author.Tests.{leb-true, le-leb, ltb-true, ltb-false, lt-ltb, le-ltb, 
 use lib.Dec.{ltb}
 use Rattle.std.specs.Prelude.{Option, Some, None}
 use Rattle.std.proofs.lemmas.Option.{none-some, same_Some}
-use Rattle.rules.specs.Index.{least_from, least, least_below, every, below}
+use Rattle.rules.specs.Index.{least_from, least, least_option, every, below}
 
 module _ (f : ℕ → Bool) where
   stops : (i k : ℕ) → f i ≡ true → least_from f i (suc k) ≡ i
@@ -77,27 +77,27 @@ pub ruleset lowest_of = (starts, found, next, done)
 -- ---- the lowest as an option
 
 module _ (f : ℕ → Bool) (n : ℕ) where
-  pub some_least : (i : ℕ) → i ≡ least f n → i < n → Some i ≡ least_below f n
-  unfolding least_below
+  pub some_least : (i : ℕ) → i ≡ least f n → i < n → Some i ≡ least_option f n
+  unfolding least_option
   some_least i e h = rw (← e, lt-ltb i n h) refl
 
-  pub no_least : (i : ℕ) → i ≡ least f n → n ≤ i → None ≡ least_below f n
-  unfolding least_below
+  pub no_least : (i : ℕ) → i ≡ least f n → n ≤ i → None ≡ least_option f n
+  unfolding least_option
   no_least i e h = rw (← e, le-ltb i n h) refl
 
-  pub least_of_some : (i : ℕ) → Some i ≡ least_below f n → (i ≡ least f n) × (i < n)
-  unfolding least_below
+  pub least_of_some : (i : ℕ) → Some i ≡ least_option f n → (i ≡ least f n) × (i < n)
+  unfolding least_option
   least_of_some i = go (ltb (least f n) n) refl
     where
-      go : (b : Bool) → ltb (least f n) n ≡ b → Some i ≡ least_below f n → (i ≡ least f n) × (i < n)
+      go : (b : Bool) → ltb (least f n) n ≡ b → Some i ≡ least_option f n → (i ≡ least f n) × (i < n)
       go true q e = let k : i ≡ least f n = same_Some i (least f n) (e ∙ rw q refl) in (k, rw k (ltb-true (least f n) n q))
       go false q e = absurd (none-some i (sym (e ∙ rw q refl)))
 
-  pub least_of_none : None ≡ least_below f n → n ≤ least f n
-  unfolding least_below
+  pub least_of_none : None ≡ least_option f n → n ≤ least f n
+  unfolding least_option
   least_of_none = go (ltb (least f n) n) refl
     where
-      go : (b : Bool) → ltb (least f n) n ≡ b → None ≡ least_below f n → n ≤ least f n
+      go : (b : Bool) → ltb (least f n) n ≡ b → None ≡ least_option f n → n ≤ least f n
       go true q e = absurd (none-some (least f n) (e ∙ rw q refl))
       go false q e = ltb-false (least f n) n q
 

@@ -11,8 +11,8 @@ abbrev pub least : (ℕ → Bool) → ℕ → ℕ
 least f n = least_from f 0 n
 
 -- the same where no number may have it
-unfoldable pub least_below : (ℕ → Bool) → ℕ → Option ℕ
-least_below f n = cond (ltb (least f n) n) (Some (least f n)) None
+unfoldable pub least_option : (ℕ → Bool) → ℕ → Option ℕ
+least_option f n = cond (ltb (least f n) n) (Some (least f n)) None
 
 -- every number below n has the property
 unfoldable pub every : (ℕ → Bool) → ℕ → Bool

@@ -14,7 +14,7 @@ use Rattle.std.specs.Prelude.{Option, Some, None, Ok}
 use Rattle.rules.specs.Verdict.{refuse}
 use Rattle.rules.specs.declared.Reason.{Reason}
 use Rattle.rules.specs.declared.Reason.TheVariants.{BadRequest, ArmedForOther, NoChoice}
-use Rattle.rules.specs.Index.{every, least_below}
+use Rattle.rules.specs.Index.{every, least_option}
 use Rattle.rules.specs.Answers.{number_of, passes, first_of, unless, lowest}
 use Rattle.rules.specs.Station.{Station, count_d, station_of, station}
 use Rattle.rules.specs.Table.{table_verdict}
@@ -67,7 +67,7 @@ module _ (t b : List ℕ) (q : Request) (f : Bool) (form : f ≡ sleep_form_good
   left_10 n chosen = left_stops t b q BadRequest 0 (armed_10 n) chosen
 
   -- k is the lowest device that is armed for another sleep state
-  module _ (good : not f ≡ false) (k : Option ℕ) (low : k ≡ least_below (other t b q.a) (count_d t)) where
+  module _ (good : not f ≡ false) (k : Option ℕ) (low : k ≡ least_option (other t b q.a) (count_d t)) where
     to_armed : armed_verdict (station t) (entries t b) q
         ≡ first_of (lowest (other t b q.a) (count_d t) (refuse ArmedForOther) ∷ []) (Ok 0)
     unfolding armed_verdict station_of

@@ -5,7 +5,7 @@ pub mod choice;
 pub mod stages;
 
 ghost use Rattle.std.specs.Prelude.{◌≡◌, ◌≤◌, length};
-ghost use Rattle.rules.specs.Index.{least_below};
+ghost use Rattle.rules.specs.Index.{least_option};
 ghost use Rattle.rules.specs.Station.{count_d, station};
 ghost use Rattle.rules.specs.Status.{entries};
 ghost use Rattle.rules.specs.Sleep.{sleep_form_good, armed_for_other, sleep_verdict};
@@ -33,7 +33,7 @@ fn armed_for_other(e: Entry, x: u8) -> bool
 // The lowest such device.
 fn lowest_other(table: &[u8], devices: &[u8], x: u8) -> Option<usize>
     requires { Ready table.now devices.now }
-    ensures { result ≡ least_below (λ d. armed_for_other (entries table.now devices.now d) x)
+    ensures { result ≡ least_option (λ d. armed_for_other (entries table.now devices.now d) x)
         (count_d table.now) }
 {
     let n = table::fields::devices(table);

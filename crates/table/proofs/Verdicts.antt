@@ -14,7 +14,7 @@ use Rattle.std.specs.Prelude.{Ok, Option, Some, None, is_some}
 use Rattle.rules.specs.Verdict.{refuse}
 use Rattle.rules.specs.declared.Reason.{Reason}
 use Rattle.rules.specs.declared.Reason.TheVariants.{NotATable, TooMany, WrongLength, BadResource, BadDevice, BadObjects}
-use Rattle.rules.specs.Index.{least_below}
+use Rattle.rules.specs.Index.{least_option}
 use Rattle.rules.specs.Answers.{passes, first_of, unless, lowest}
 use Rattle.rules.specs.Station.{version_good, version_of, width, limit, record_size, count_r, count_d, resource_start, device_start}
 use Rattle.rules.specs.Table.{device_fields, header_good, counts_good, length_good, resource_good, bad_field, fields_good}
@@ -94,8 +94,8 @@ pub ruleset table_tests = (
 )
 
 -- ---- the lowest bad record, from what the check of a run of records gives
-pub lowest_4 : (t : List ℕ) (n : ℕ) (r : Option ℕ) → n ≡ count_r t → r ≡ least_below (λ i. not (resource_good t (8 + 4 * i))) n
-    → r ≡ least_below (λ i. not (resource_good t (resource_start i))) (count_r t)
+pub lowest_4 : (t : List ℕ) (n : ℕ) (r : Option ℕ) → n ≡ count_r t → r ≡ least_option (λ i. not (resource_good t (8 + 4 * i))) n
+    → r ≡ least_option (λ i. not (resource_good t (resource_start i))) (count_r t)
 lowest_4 t n r e f = rw e at f
 
 module _ (t : List ℕ) (first w n resources : ℕ) (e : first ≡ device_start (width t) t 0) (f : w ≡ width t) (g : n ≡ count_d t)
@@ -104,9 +104,9 @@ module _ (t : List ℕ) (first w n resources : ℕ) (e : first ≡ device_start 
   unfolding device_start
   start_of i = rw (e, f, mul-zero (record_size (width t))) (omega arith)
 
-  pub lowest_5 : (d : Option ℕ) → d ≡ least_below (λ i. not (good_with true w resources t i (first + record_size w * i))) n
-      → d ≡ least_below (λ i. not (device_good t i)) (count_d t)
-  unfolding device_good fields_good bad_field least_below
+  pub lowest_5 : (d : Option ℕ) → d ≡ least_option (λ i. not (good_with true w resources t i (first + record_size w * i))) n
+      → d ≡ least_option (λ i. not (device_good t i)) (count_d t)
+  unfolding device_good fields_good bad_field least_option
   lowest_5 d h =
       let same : (i : ℕ) → good_with true w resources t i (first + record_size w * i) ≡ device_good t i =
       λ i. rw (start_of i, f, k) (table_record (width t) (count_r t) t i (device_start (width t) t i)) in
@@ -166,7 +166,7 @@ module _ (rest : List Verdict) (last : Verdict) where
       sym (first_stop (unless good why at) rest last (ap passes s ∙ refused_stops why at) ∙ s)
 
   -- o is the lowest bad one, if there is one
-  module _ (bad : ℕ → Bool) (n : ℕ) (refusal : ℕ → Verdict) (o : Option ℕ) (e : o ≡ least_below bad n) where
+  module _ (bad : ℕ → Bool) (n : ℕ) (refusal : ℕ → Verdict) (o : Option ℕ) (e : o ≡ least_option bad n) where
     pub lowest_passed : o ≡ None → first_of (lowest bad n refusal ∷ rest) last ≡ first_of rest last
     lowest_passed h =
         first_pass (lowest bad n refusal) rest last (ap passes (lowest_no bad n refusal (sym h ∙ e)) ∙ done_passes 0)
@@ -214,7 +214,7 @@ module _ (t : List ℕ) where
 
   -- from here on the first three have passed
   module _ (sized : WellSized t) (h : header_good t ≡ true) (r : Option ℕ)
-      (e : r ≡ least_below (λ i. not (resource_good t (resource_start i))) (count_r t)) where
+      (e : r ≡ least_option (λ i. not (resource_good t (resource_start i))) (count_r t)) where
     past_length : first_of (resources_check ∷ devices_check ∷ []) (Ok 0) ≡ table_verdict t
     unfolding counts_good length_good
     past_length =
@@ -228,7 +228,7 @@ module _ (t : List ℕ) where
     pub bad_resource : (i : ℕ) → r ≡ Some i → refuse BadResource i ≡ table_verdict t
     bad_resource i p = lowest_refused _ _ _ (count_r t) (refuse BadResource) r e _ i refl (refused_stops BadResource i) p ∙ past_length
 
-    module _ (p : r ≡ None) (q : Option ℕ) (g : q ≡ least_below (λ i. not (device_good t i)) (count_d t)) where
+    module _ (p : r ≡ None) (q : Option ℕ) (g : q ≡ least_option (λ i. not (device_good t i)) (count_d t)) where
       past_resources : first_of (devices_check ∷ []) (Ok 0) ≡ table_verdict t
       past_resources = sym (lowest_passed _ _ _ (count_r t) (refuse BadResource) r e p) ∙ past_length
 

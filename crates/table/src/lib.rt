@@ -5,7 +5,7 @@ pub mod fields;
 pub mod header;
 
 ghost use Rattle.std.specs.Prelude.{◌≡◌, true, not, ◌<◌, ◌≤◌, length};
-ghost use Rattle.rules.specs.Index.{least_below};
+ghost use Rattle.rules.specs.Index.{least_option};
 ghost use Rattle.rules.specs.Answers.{passes};
 ghost use Rattle.rules.specs.Station.{version_good, version_of, count_r, count_d, resource_start};
 ghost use Rattle.rules.specs.Table.{header_good, counts_good, length_good, resource_good, fields_good, device_good, device_refusal, table_verdict};
@@ -36,7 +36,7 @@ fn length_good(table: &[u8]) -> bool
 // 4: the lowest bad resource, if one is bad.
 fn lowest_resource(table: &[u8]) -> Option<usize>
     requires { WellSized table.now }
-    ensures { result ≡ least_below (λ i. not (resource_good table.now (resource_start i))) (count_r table.now) }
+    ensures { result ≡ least_option (λ i. not (resource_good table.now (resource_start i))) (count_r table.now) }
 {
     record::lowest::lowest_resource(table, 8, crate::fields::resources(table))
 }
@@ -54,7 +54,7 @@ fn fields_good(table: &[u8], d: usize) -> bool
 #[tactic(auto, using(crate::proofs::Verdicts::lowest_bad))]
 fn lowest_device(table: &[u8]) -> Option<usize>
     requires { WellSized table.now }
-    ensures { result ≡ least_below (λ i. not (device_good table.now i)) (count_d table.now) }
+    ensures { result ≡ least_option (λ i. not (device_good table.now i)) (count_d table.now) }
 {
     let records = Records {
         bytes: table,

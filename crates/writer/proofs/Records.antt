@@ -15,7 +15,7 @@ use Rattle.std.specs.Option.{option_or}
 use Rattle.std.specs.Bool.{then_some}
 use Rattle.rules.specs.Verdict.{refuse}
 use Rattle.rules.specs.declared.Reason.TheVariants.{NotATable, TooMany, BadResource, BadDevice, BadObjects, NoRoom}
-use Rattle.rules.specs.Index.{least, least_below}
+use Rattle.rules.specs.Index.{least, least_option}
 use Rattle.rules.proofs.Index.{some_least, no_least, least_of_some, least_of_none, at_most}
 use Rattle.sets.proofs.Laws.{decide}
 use Rattle.rules.specs.Answers.{passes, first_of, unless, lowest}
@@ -37,13 +37,13 @@ use Rattle.writer.specs.WithinLimits.{WithinLimits}
 
 -- ---- the lowest of m numbers where g tells of the first n, and n itself is a hit if there are more
 pub lowest_or_next : (f g : ℕ → Bool) (n m : ℕ) → ((i : ℕ) → i < n → f i ≡ g i) → n ≤ m → (n < m → f n ≡ true)
-    → option_or (least_below g n) (then_some (ltb n m) n) ≡ least_below f m
-lowest_or_next f g n m h l c = go (least_below g n) refl
+    → option_or (least_option g n) (then_some (ltb n m) n) ≡ least_option f m
+lowest_or_next f g n m h l c = go (least_option g n) refl
   where
     same : least g n ≡ least f m
     same = least_part f g n m h l c
 
-    go : (o : Option ℕ) → o ≡ least_below g n → option_or o (then_some (ltb n m) n) ≡ least_below f m
+    go : (o : Option ℕ) → o ≡ least_option g n → option_or o (then_some (ltb n m) n) ≡ least_option f m
     go (Some i) e = let k = least_of_some g n i e in some_least f m i (k.0 ∙ same) (omega (arith, k.1))
     go None e =
         let at_n : n ≡ least f m = omega (arith, least_of_none g n e, at_most g 0 n) ∙ same in
@@ -59,9 +59,9 @@ module _ (rs : List ℕ) where
   unfolding described_resource_good
   whole_resource i h = rw (le-leb (4 * i + 4) (length rs) (omega arith), zero-add (4 * i)) refl
 
-  pub lowest_resource_is : (n : ℕ) (r t o : Option ℕ) → r ≡ least_below (λ i. not (resource_good rs (0 + 4 * i))) (length rs / 4)
+  pub lowest_resource_is : (n : ℕ) (r t o : Option ℕ) → r ≡ least_option (λ i. not (resource_good rs (0 + 4 * i))) (length rs / 4)
       → n ≡ described_r rs → t ≡ then_some (ltb (length rs / 4) n) (length rs / 4) → o ≡ option_or r t
-      → o ≡ least_below (λ i. not (described_resource_good rs i)) (described_r rs)
+      → o ≡ least_option (λ i. not (described_resource_good rs i)) (described_r rs)
   lowest_resource_is n r t o e f g h =
       h ∙ rw (e, g, f) (lowest_or_next (λ i. not (described_resource_good rs i)) (λ i. not (resource_good rs (0 + 4 * i))) (length rs / 4)
       (described_r rs) (λ i l. ap not (whole_resource i l)) (omega arith) cut_resource)
@@ -105,9 +105,9 @@ module _ (resources : ℕ) (ds : List ℕ) where
       ) refl
 
   pub lowest_device_is : (n : ℕ) (r t o : Option ℕ)
-      → r ≡ least_below (λ i. not (good_with false 8 resources ds i (0 + 54 * i))) (length ds / 54)
+      → r ≡ least_option (λ i. not (good_with false 8 resources ds i (0 + 54 * i))) (length ds / 54)
       → n ≡ described_d ds → t ≡ then_some (ltb (length ds / 54) n) (length ds / 54) → o ≡ option_or r t
-      → o ≡ least_below (λ i. not (described_device_good resources ds i)) (described_d ds)
+      → o ≡ least_option (λ i. not (described_device_good resources ds i)) (described_d ds)
   lowest_device_is n r t o e f g h =
       h ∙ rw (e, g, f) (lowest_or_next (λ i. not (described_device_good resources ds i)) (λ i. not (good_with false 8 resources ds i (0 + 54 * i)))
       (length ds / 54) (described_d ds) (λ i l. ap not (whole_device i l)) (omega arith) cut_device)
@@ -116,13 +116,13 @@ pub ruleset refused = (refused_6, refused_5)
 
 -- ---- a bad device is one of those that are there
 pub device_in : (rs ds : List ℕ) (resources d : ℕ) (q : Option ℕ) → WithinLimits rs ds → resources ≡ described_r rs
-    → q ≡ least_below (λ i. not (described_device_good resources ds i)) (described_d ds) → q ≡ Some d
+    → q ≡ least_option (λ i. not (described_device_good resources ds i)) (described_d ds) → q ≡ Some d
     → (d < 256) × (resources ≤ limit described_width)
 device_in rs ds resources d q h c g u = (omega (arith, (least_of_some _ (described_d ds) d (sym u ∙ g)).1, h.devices), rw c h.resources)
 
 -- ---- the records: each way out, R as the code counts it
 module _ (rs ds : List ℕ) (resources : ℕ) (r : Option ℕ) (c : resources ≡ described_r rs)
-    (e : r ≡ least_below (λ i. not (described_resource_good rs i)) (described_r rs)) where
+    (e : r ≡ least_option (λ i. not (described_resource_good rs i)) (described_r rs)) where
   abbrev refusal_of : ℕ → Verdict
   refusal_of d = fields_or_objects (described_fields_good (described_r rs) ds d) d
 
@@ -133,12 +133,12 @@ module _ (rs ds : List ℕ) (resources : ℕ) (r : Option ℕ) (c : resources �
   unfolding records_verdict
   bad_resource i p = lowest_refused _ _ _ (described_r rs) (refuse BadResource) r e _ i refl (refused_stops BadResource i) p
 
-  module _ (p : r ≡ None) (q : Option ℕ) (g : q ≡ least_below (λ i. not (described_device_good resources ds i)) (described_d ds)) where
+  module _ (p : r ≡ None) (q : Option ℕ) (g : q ≡ least_option (λ i. not (described_device_good resources ds i)) (described_d ds)) where
     past_resources : first_of (devices_check ∷ []) (Ok 0) ≡ records_verdict rs ds
     unfolding records_verdict
     past_resources = sym (lowest_passed _ _ _ (described_r rs) (refuse BadResource) r e p)
 
-    same : q ≡ least_below (λ i. not (described_device_good (described_r rs) ds i)) (described_d ds)
+    same : q ≡ least_option (λ i. not (described_device_good (described_r rs) ds i)) (described_d ds)
     same = rw c at g
 
     pub bad_device : (v : Verdict) (d : ℕ) → v ≡ fields_or_objects (described_fields_good resources ds d) d → q ≡ Some d

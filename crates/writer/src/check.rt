@@ -1,7 +1,7 @@
 // Answers 1, 2, 9, 4, 5 and 6 of two lists of records that a table is to be written from. A described device is the fields of a record with
 // sets of 8 bytes, so that the tests of a table's record are its tests.
 ghost use Rattle.std.specs.Prelude.{◌≡◌, not, ◌+◌, ◌*◌, ◌<◌, ◌≤◌};
-ghost use Rattle.rules.specs.Index.{least_below};
+ghost use Rattle.rules.specs.Index.{least_option};
 ghost use Rattle.rules.specs.Station.{limit};
 ghost use Rattle.rules.specs.Table.{fields_or_objects};
 ghost use Rattle.rules.specs.Describe.{described_width, described_r, described_d};
@@ -29,7 +29,7 @@ pub fn devices(ds: &[u8]) -> usize
 
 // 4: the lowest bad resource, if one is bad. One that is cut short is past all whole ones, and bad.
 fn lowest_resource(rs: &[u8]) -> Option<usize>
-    ensures { result ≡ least_below (λ i. not (described_resource_good rs.now i)) (described_r rs.now) }
+    ensures { result ≡ least_option (λ i. not (described_resource_good rs.now i)) (described_r rs.now) }
 {
     let whole = rs.len() / 4;
     record::lowest::lowest_resource(rs, 0, whole).or((whole < resources(rs)).then_some(whole))
@@ -38,7 +38,7 @@ fn lowest_resource(rs: &[u8]) -> Option<usize>
 // 5 and 6: the lowest bad device, if one is bad. One that is cut short likewise.
 fn lowest_device(ds: &[u8], resources: usize) -> Option<usize>
     requires { (described_d ds.now < 256) × (resources ≤ limit described_width) }
-    ensures { result ≡ least_below (λ i. not (described_device_good resources ds.now i)) (described_d ds.now) }
+    ensures { result ≡ least_option (λ i. not (described_device_good resources ds.now i)) (described_d ds.now) }
 {
     let whole = ds.len() / DESCRIBED_SIZE;
     let records = Records {
