@@ -16,7 +16,6 @@ use Rattle.words.proofs.Put.{take_put}
 use Rattle.words.proofs.Laws.{word_bytes_length, words_of_bytes}
 use Rattle.rules.specs.Verdict.{Verdict}
 use Rattle.std.specs.Prelude.{Ok, Err}
-use Rattle.rules.specs.Verdict.{refuse}
 use Rattle.rules.specs.declared.Reason.TheVariants.{NotConforming}
 use Rattle.rules.specs.Answers.{number_of, count_of, passes}
 use Rattle.rules.specs.Outcomes.{Outcome, outcome, plan_verdict, plan_outcome, list_verdict, of_bytes}

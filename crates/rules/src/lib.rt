@@ -35,7 +35,7 @@ pub struct Request {
 }
 
 // What a request asks (RULES.md 2.8), in the order of the kinds' numbers.
-#[derive(Clone, Copy, PartialEq, Eq)]
+#[derive(Clone, Copy)]
 pub enum Kind {
     Move,
     Arm,
