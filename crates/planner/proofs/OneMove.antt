@@ -127,18 +127,23 @@ chosen_needed t b chosen d e r g read k = k ∙ rw (entry_ready t b d e g.ready 
 pub ruleset one_move = (turn_ready, turn_sized, turn_long, turn_limit, device_fits, move_none)
 
 -- ---- from the buffer of one plan into the plan, from word `at` on
-pub put_from : (size : ℕ) (written : List ℕ → List ℕ) (list after : List ℕ) (n : ℕ) (b' calls calls' : List ℕ)
-    → WrittenPlan list after calls n b' calls' → (plan plan' : List ℕ) (at : ℕ) → plan' ≡ put plan (size * at) (written (take n calls'))
-    → WrittenFrom size written list after plan at n b' plan'
-put_from size written list after n b' calls calls' w plan plan' at e =
-    let same : take n calls' ≡ list = ap (take n) w.words ∙ take_put calls list n (sym w.count) in
-    record { count = w.count; state = w.state; elements = e ∙ ap (λ ws. put plan (size * at) (written ws)) same }
+module _ (list after : List ℕ) (n : ℕ) (b' calls calls' : List ℕ) (w : WrittenPlan list after calls n b' calls') where
+  front_is : take n calls' ≡ list
+  front_is = ap (take n) w.words ∙ take_put calls list n (sym w.count)
 
--- what is put is in the buffer, and as much as the plan has room for
-module _ (t b chosen : List ℕ) (d n : ℕ) (after b' calls calls' : List ℕ) (g : Turn t b chosen d)
-    (w : WrittenPlan (move_list t b (states_in chosen) d) after calls n b' calls') where
-  pub put_inside : list_room (width t) ≤ length calls → n ≤ length calls'
-  put_inside l = words_inside t _ _ (move_short t b chosen d g) n b' calls calls' w l
+  pub put_length : n ≡ length (take n calls')
+  put_length = w.count ∙ sym (ap length front_is)
 
-  pub put_room : (size at m : ℕ) → size * (at + length (move_list t b (states_in chosen) d)) ≤ m → size * (at + n) ≤ m
-  put_room size at m h = rw w.count h
+  -- as much as the plan has room for
+  pub put_room : (size at m : ℕ) → size * (at + length list) ≤ m → size * (at + length (take n calls')) ≤ m
+  put_room size at m h = rw front_is h
+
+  pub put_from : (size : ℕ) (written : List ℕ → List ℕ) (plan plan' : List ℕ) (at : ℕ)
+      → plan' ≡ put plan (size * at) (written (take n calls')) → WrittenFrom size written list after plan at n b' plan'
+  put_from size written plan plan' at e =
+      record { count = w.count; state = w.state; elements = e ∙ ap (λ ws. put plan (size * at) (written ws)) front_is }
+
+-- what is put is in the buffer
+pub put_inside : (t b chosen : List ℕ) (d n : ℕ) (after b' calls calls' : List ℕ) → Turn t b chosen d
+    → WrittenPlan (move_list t b (states_in chosen) d) after calls n b' calls' → list_room (width t) ≤ length calls → n ≤ length calls'
+put_inside t b chosen d n after b' calls calls' g w l = words_inside t _ _ (move_short t b chosen d g) n b' calls calls' w l

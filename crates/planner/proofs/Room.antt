@@ -34,8 +34,8 @@ module _ (t list after : List ℕ) (short : length list ≤ list_room (width t))
   pub words_65 : length words ≡ 65 → n ≤ length words'
   words_65 l = words_inside (room_words t words l)
 
-  pub bytes_room : (m : ℕ) → 4 * list_room (width t) ≤ m → 4 * (0 + n) ≤ m
-  bytes_room m h = omega (arith, w.count)
+pub bytes_room : (t list : List ℕ) → length list ≤ list_room (width t) → (m : ℕ) → 4 * list_room (width t) ≤ m → 4 * (0 + length list) ≤ m
+bytes_room t list short m h = omega (arith, h)
 
 pub request_room : (t b : List ℕ) (q : Request) → PermittedRequest t b q → length (planned t b q) ≤ list_room (width t)
 request_room t b q g = planned_short t b q (stages_of true t b q g.passed)

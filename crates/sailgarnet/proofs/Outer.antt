@@ -6,11 +6,10 @@ use Prim.Native.Nat.{ℕ, ◌*◌, ◌/◌, ◌%◌, ◌≤◌}
 use native.Mathlib.Omega.{arith}
 use borrow.Author.Tests.{eqb-true, leb-true, leb-false}
 use lib.Dec.{eqb, leb}
-use lib.ListN.{length, take}
+use lib.ListN.{length}
 use Rattle.sets.proofs.Laws.{decide}
-use Rattle.words.specs.Words.{put, byte_words}
+use Rattle.words.specs.Words.{byte_words}
 use Rattle.words.proofs.Laws.{byte_words_length}
-use Rattle.words.proofs.Put.{take_put}
 use Rattle.rules.specs.declared.Request.{Request}
 use Rattle.rules.specs.Station.{station}
 use Rattle.rules.specs.Status.{status}
@@ -77,7 +76,3 @@ of_bytes_is test says list r short is on =
 -- c is the count of a list: it has so many words, which are no more than 65
 pub list_fits : (list : List ℕ) (c : Option ℕ) (n : ℕ) → c ≡ words_in_bytes (length list) → c ≡ Some n → (4 * n ≤ length list) × (n ≤ 65)
 list_fits list c n is e = let k = count_some (length list) n (sym is ∙ e) in (omega (arith, k.1), k.2)
-
--- the words that were read
-pub words_read : (d list ws : List ℕ) (n : ℕ) → ws ≡ put d 0 (byte_words n list) → take n ws ≡ byte_words n list
-words_read d list ws n e = ap (take n) e ∙ take_put d (byte_words n list) n (byte_words_length n list)

@@ -18,7 +18,7 @@ entry-e-requires c = search (rules, one_move)
 -- call that gave it, from the last one back.
 pub own_call-own-requires : goal.own_call-own-requires
 own_call-own-requires c =
-    let asked = move_asked _ _ _ _ _ c.stays.ensures c.if-stays.false _ c.wide.ensures.0 c.requires.0 in
+    let asked = move_asked _ _ _ _ _ c.stays.ensures c.if-stays.false _ c.from.ensures c.requires.0 in
     (asked.ready.sized, asked.device, asked.first, asked.second)
 
 pub on_set-on-requires : goal.on_set-on-requires
@@ -26,13 +26,13 @@ on_set-on-requires c = search (rules, one_move)
 
 pub switching-c-requires : goal.switching-c-requires
 switching-c-requires c =
-    move_sets _ _ c.args.chosen.now _ _ c.stays.ensures c.if-stays.false _ c.wide.ensures.0 _ _ c.requires.0
+    move_sets _ _ c.args.chosen.now _ _ c.stays.ensures c.if-stays.false _ c.from.ensures _ _ c.requires.0
     c.on_set-on.ensures c.requires.2
 
 pub write_own_first-n-requires : goal.write_own_first-n-requires
 write_own_first-n-requires c = (
   search (rules, one_move),
-  move_switches _ _ c.args.chosen.now _ _ c.stays.ensures c.if-stays.false _ c.wide.ensures.0 c.requires.0
+  move_switches _ _ c.args.chosen.now _ _ c.stays.ensures c.if-stays.false _ c.from.ensures c.requires.0
       _ _ _ _ _ c.on_set-on.ensures c.entry-e.ensures c.own_call-own.ensures c.switching-c.ensures c.requires.2,
   search rules,
   switched_first _ _ _ _ c.switching-c.ensures,
@@ -45,6 +45,6 @@ set_state-requires c =
 
 pub returns : goal.returns
 returns c =
-    move_some _ _ c.args.chosen.now _ _ c.stays.ensures c.if-stays.false _ c.wide.ensures.0 c.requires.0
+    move_some _ _ c.args.chosen.now _ _ c.stays.ensures c.if-stays.false _ c.from.ensures c.requires.0
     _ _ _ _ _ c.on_set-on.ensures c.entry-e.ensures c.own_call-own.ensures c.switching-c.ensures c.requires.2
     _ _ _ _ c.write_own_first-n.ensures.0 c.write_own_first-n.ensures.1 c.set_state.ensures

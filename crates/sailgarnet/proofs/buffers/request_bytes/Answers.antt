@@ -4,6 +4,7 @@ use Rattle.request.proofs.Changes.{permitted_by}
 use Rattle.switching.proofs.Answered.{parts}
 use Rattle.planner.proofs.Whole.{room_bytes, bytes_refused, bytes_planned}
 use Rattle.planner.proofs.Room.{room_words, request_room, words_65, bytes_room}
+use Rattle.planner.proofs.OneMove.{put_length, put_room}
 use borrow.Author.Rules.{rules}
 use Rattle.sailgarnet.proofs.buffers.request_bytes.Goals as goal
 
@@ -23,14 +24,21 @@ write_plan-n-requires c = (
   search (rules, room_words),
 )
 
+pub slice_bounds-calls-end : goal.slice_bounds-calls-end
+slice_bounds-calls-end c =
+    let yes = ok_passed _ _ c.in_ok-past_table.was in
+    let short = request_room _ _ _ (permitted_by _ _ _ _ _ c.past_table.ensures yes) in
+    words_65 _ _ _ short _ _ _ _ c.write_plan-n.ensures (search rules)
+
+pub slice_bounds-write_words-end : goal.slice_bounds-write_words-end
+slice_bounds-write_words-end c = put_length _ _ _ _ _ _ c.write_plan-n.ensures
+
 pub write_words-requires : goal.write_words-requires
 write_words-requires c =
     let e = c.past_table.ensures in
     let yes = ok_passed _ _ c.in_ok-past_table.was in
-    let w = c.write_plan-n.ensures in
-    let fits = room_bytes _ _ _ _ _ c.room.ensures.0 _ e yes in
     let short = request_room _ _ _ (permitted_by _ _ _ _ _ e yes) in
-    (words_65 _ _ _ short _ _ _ _ w (search rules), bytes_room _ _ _ short _ _ _ _ w _ fits)
+    put_room _ _ _ _ _ _ c.write_plan-n.ensures _ _ _ (bytes_room _ _ short _ (room_bytes _ _ _ _ _ c.room.ensures.0 _ e yes))
 
 pub returns : goal.returns
 returns c =
