@@ -100,8 +100,5 @@ pub fn wake_needs(device: &DeviceRecord<'_>, e: rules::Entry) -> u64
 pub fn needs(device: &DeviceRecord<'_>, e: rules::Entry) -> u64
     ensures { result ≡ needs (station_in device.now) device.now.number e }
 {
-    sets::union(
-        state_needs(device, e.state),
-        wake_needs(device, e),
-    )
+    sets::union(state_needs(device, e.state), wake_needs(device, e))
 }

@@ -112,7 +112,5 @@ pub fn wake_pair(device: &DeviceRecord<'_>, x: u8, y: u8) -> bool
     requires { x < 5 }
     ensures { result ≡ wake_pair (station_in device.now) device.now.number x y }
 {
-    wake_from(device, x)
-        && wake_powered(device, x)
-        && wake_state(device, x, y)
+    wake_from(device, x) && wake_powered(device, x) && wake_state(device, x, y)
 }

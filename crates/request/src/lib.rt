@@ -70,10 +70,7 @@ fn move_verdict(table: &[u8], devices: &[u8], d: usize, x: u8) -> Verdict
         return Err(Refusal(Reason::Shallower, 0));
     }
     if !status::consistency::parent_allows(&device, devices, x) {
-        return Err(Refusal(
-            Reason::ParentDeeper,
-            usize::from(device.record.parent()),
-        ));
+        return Err(Refusal(Reason::ParentDeeper, usize::from(device.record.parent())));
     }
     if let Some(c) = lowest_child(table, devices, d, x) {
         return Err(Refusal(Reason::ChildShallower, c));
@@ -112,9 +109,7 @@ fn arm_verdict(table: &[u8], devices: &[u8], d: usize, x: u8, y: u8) -> Verdict
     if !power::wake::wake_powered(&device, x) {
         return Err(Refusal(Reason::WakeUnpowered, 0));
     }
-    if !power::wake::wake_state(&device, x, y)
-        || status::image::entry(devices, d).state > y
-    {
+    if !power::wake::wake_state(&device, x, y) || status::image::entry(devices, d).state > y {
         return Err(Refusal(Reason::BadWakeState, 0));
     }
     Ok(0)

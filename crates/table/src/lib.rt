@@ -47,7 +47,10 @@ fn fields_good(table: &[u8], d: usize) -> bool
     ensures { result ≡ fields_good table.now d }
 {
     let resources = crate::fields::resources(table);
-    crate::fields::device(table, d).record.bad_field(d, resources).is_none()
+    crate::fields::device(table, d)
+        .record
+        .bad_field(d, resources)
+        .is_none()
 }
 
 // 5 and 6: the lowest bad device, if one is bad.
