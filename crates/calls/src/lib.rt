@@ -22,7 +22,7 @@ fn wake_word(device: u8, wake: Wake) -> u32
     }
 }
 
-// The word of a call of RULES.md 2.9. Of another, with a high wake state, it might not fit.
+// The word of a call of RULES.md 2.9. No `From`, which may ask nothing of the call. Of another, with a high wake state, it might not fit.
 pub fn word_of(call: Call) -> u32
     requires { InRange call }
     ensures { result ≡ word_of call }
@@ -59,7 +59,7 @@ fn wake_of(device: u8, x: u8, y: u8) -> Option<Call>
     Some(Call::SetWake { device, wake })
 }
 
-// What a word says: a call, or none.
+// What a word says: a call, or none. No `TryFrom`, whose error would say no more than `None`.
 #[tactic(auto, unfolding(rules::specs::Calls::call_of, rules::specs::Calls::call_of_bytes))]
 pub fn call_of(word: u32) -> Option<Call>
     ensures { result ≡ call_of word }

@@ -1,4 +1,5 @@
-// The fields of a device's record. Only this crate knows at which byte a field stands.
+// The fields of a device's record. Only this crate knows at which byte a field stands. A number is absent as 255 and no `Option`: so the
+// table has it, and the definitions compare that byte (`parent_good`, `sxd_good`, `wake_range`).
 ghost use Rattle.std.specs.Prelude.{◌≡◌, ◌+◌, ◌*◌, ◌^◌, ◌<◌, ◌≤◌};
 ghost use Rattle.rules.specs.Station.{Wide, record_size};
 ghost use Rattle.record.specs.Record.{device_of};

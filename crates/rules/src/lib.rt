@@ -58,7 +58,8 @@ impl Request {
     }
 }
 
-// What the state image says of a device: its state; armed, 0 or 1; and the pair it is armed for, wake S and wake D (RULES.md 2.7).
+// What the state image says of a device: its state; armed, 0 or 1; and the pair it is armed for, wake S and wake D (RULES.md 2.7). No
+// `Option` of the pair: these are the four bytes that C lends, and one with any other flag is answered 7 (`entry_good`).
 #[derive(Clone, Copy)]
 pub struct Entry {
     pub state: u8,
@@ -68,7 +69,7 @@ pub struct Entry {
 }
 
 // The calls from an on-set to a target set: what is added to the on-set and what is removed from it, a device's own call or none, and
-// whether that comes last.
+// whether that comes last, which is said without a call too (`own_last`, `switching_of`), and so stands apart from it.
 #[derive(Clone, Copy)]
 pub struct Switching {
     pub added: u64,

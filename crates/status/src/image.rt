@@ -1,4 +1,5 @@
-// The state image of a table of either version: its size, its on-set and a device's entry in place.
+// The state image of a table of either version: its size, its on-set and a device's entry in place. Table and image are two slices, of which
+// the planner lends the second to be written, so that what is known of both (`Ready`) is a clause and no struct.
 ghost use Rattle.std.specs.Prelude.{◌≡◌, ◌+◌, ◌*◌, ◌<◌, ◌≤◌, length};
 ghost use Rattle.rules.specs.Station.{width, limit, station};
 ghost use Rattle.rules.specs.Status.{entry_at, entries, image_size, image_of, fresh_status, status};
@@ -47,7 +48,8 @@ pub fn set_state(table: &[u8], image: &mut [u8], d: usize, y: u8, on: u64)
     set_on(table, image, on);
 }
 
-// Another entry for device d and another on-set, through the state by value of the table's version.
+// Another entry for device d and another on-set, through the state by value of the table's version. Each branch names its instance: a
+// function over both would have to show that a state of any size fits in memory.
 pub fn set_entry(table: &[u8], image: &mut [u8], d: usize, e: Entry, on: u64)
     requires { WellSized table.now × (length image.old ≡ image_size (width table.now)) × (d < limit (width table.now)) }
     ensures { image.new ≡ image_of (width table.now)
@@ -76,7 +78,8 @@ pub fn write_fresh(table: &[u8], image: &mut [u8])
     State::<u32, 128>::fresh(resources).store(image);
 }
 
-// Device d's entry, of bytes that start with the device part.
+// Device d's entry, of bytes that start with the device part. Each byte by its place: an array taken out of the slice would name the same
+// four places, and have them shown to be the slice's.
 pub fn entry(devices: &[u8], d: usize) -> Entry
     requires { 4 * d + 4 ≤ length devices.now }
     ensures { result ≡ entry_at devices.now (4 * d) }

@@ -1,4 +1,5 @@
-// All calls of a switching, written into the plan in their order.
+// All calls of a switching, written into the plan in their order. The plan goes with the word to write at, and no rest of it is handed on:
+// a rest that is lent would have to be put back together for what the contracts say of the whole plan.
 ghost use Rattle.std.specs.Prelude.{◌≡◌, map, false, ◌+◌, ◌^◌, ◌<◌, ◌≤◌, length};
 ghost use Rattle.words.specs.Words.{put};
 ghost use Rattle.rules.specs.Station.{width, count_r, station};

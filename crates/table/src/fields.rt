@@ -1,4 +1,5 @@
-// The fields of a table whose counts and length are known to be good, as its station has them.
+// The fields of a table whose counts and length are known to be good, as its station has them. The table stays a slice, with the fact
+// `WellSized` in a clause: of a struct by value the clauses would have `table.entry.bytes.now` wherever they have `table.now`.
 ghost use Rattle.std.specs.Prelude.{◌≡◌, true, ◌+◌, ◌<◌, ◌≤◌, length};
 ghost use Rattle.rules.specs.Station.{version_good, version_of, width, Wide, limit, record_size, table_size, count_r, count_d, device_start, station};
 ghost use Rattle.table.specs.Layout.{WellSized, RecordAt};

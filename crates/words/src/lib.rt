@@ -11,7 +11,8 @@ pub fn next8(x: u8) -> u32
     u32::from(x.wrapping_add(1))
 }
 
-// The number that the two bytes from `at` on make.
+// The number that the two bytes from `at` on make. A function for each size: `from_le_bytes` is of one type, and a trait over the three
+// would only say them again.
 pub fn read16(s: &[u8], at: usize) -> u16
     requires { at + 2 ≤ length s.now }
     ensures { result ≡ read_le 2 s.now at }

@@ -1,5 +1,7 @@
 // Answers 1, 2, 9, 4, 5 and 6 of two lists of records that a table is to be written from. A described device is the fields of a record with
 // sets of 8 bytes, so that the tests of a table's record are its tests.
+// The answers stand beside the table's (`crates/table/src/lib.rt`) and are not the same functions: a list may be cut short, its number of
+// records is not in a header, and the definitions differ with that (`described_device_good`, `records_verdict`).
 ghost use Rattle.std.specs.Prelude.{◌≡◌, not, ◌+◌, ◌*◌, ◌<◌, ◌≤◌};
 ghost use Rattle.rules.specs.Index.{least_option};
 ghost use Rattle.rules.specs.Station.{limit};
