@@ -1,6 +1,5 @@
 // The checks of table, state and room, one after the other.
-ghost use Rattle.std.specs.Prelude.{◌≡◌};
-ghost use Rattle.std.specs.Prelude.{Ok};
+ghost use Rattle.std.specs.Prelude.{◌≡◌, Ok};
 ghost use Rattle.rules.specs.Table.{table_verdict};
 ghost use Rattle.rules.specs.BringUp.{bring_up_stages};
 

@@ -1,5 +1,5 @@
-// The states that a device supports, and the resources that it needs in each. Every function is told where device d's record starts and
-// how many bytes its sets have, so that a loop over the devices looks neither up.
+// The states that a device supports, and the resources that it needs in each. A device comes as its record and number, so that a loop over
+// the devices looks neither up.
 #![tactic(auto)]
 
 pub mod wake;

@@ -40,7 +40,7 @@ impl From<&Record<'_>> for Device {
     }
 }
 
-// Five sets, w bytes each.
+// Five sets, w bytes each; the place is carried on, so that no turn has a product.
 #[tactic(auto, using(crate::proofs::Values::sets_loop))]
 fn write_sets(sets: [u64; 5], out: &mut [u8], at: usize, w: usize)
     requires { Wide w × (at + 5 * w ≤ length out.old) }

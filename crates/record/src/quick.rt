@@ -1,5 +1,6 @@
 // Whether every field of a device is good. Each device of every table and list is asked, and nearly always the answer is yes:
-// so the tests do without the place of a bad field, share what they can, and leave at the first that fails.
+// so the tests do without the place of a bad field, share what they can, and leave at the first that fails. Sets and states are written out
+// one by one, and are no arrays: each is read once, for two tests (docs/DECISIONS.md has what loops cost).
 ghost use Rattle.std.specs.Prelude.{◌≡◌, ◌+◌, ◌<◌, ◌≤◌, length};
 ghost use Rattle.rules.specs.Station.{limit, record_size};
 ghost use Rattle.rules.specs.Table.{all_good, head_fields, set_fields, sxd_fields, sxw_fields, value_fields, zero_fields, objects_good};

@@ -37,7 +37,7 @@ pub struct Request {
 // What a request asks (RULES.md 2.8), in the order of the kinds' numbers.
 #[derive(Clone, Copy)]
 pub enum Kind {
-    Move,
+    Move = 1,
     Arm,
     Disarm,
     Sleep,

@@ -1,12 +1,11 @@
 // Plans and lists as bytes, four a word, lowest first. The stages are asked one after the other, so that what is no table is refused before
 // anything else is called.
-ghost use Rattle.std.specs.Prelude.{◌≡◌, ◌≤◌, ◌*◌, length, true, false};
+ghost use Rattle.std.specs.Prelude.{◌≡◌, ◌≤◌, ◌*◌, length, true, false, Ok};
 ghost use Rattle.std.specs.Fn.{FnOnceReturnsAt};
 ghost use Rattle.words.specs.Words.{byte_words};
 ghost use Rattle.rules.specs.Station.{station};
 ghost use Rattle.rules.specs.Status.{status};
 ghost use Rattle.rules.specs.Check.{conforming_to};
-ghost use Rattle.std.specs.Prelude.{Ok};
 ghost use Rattle.rules.specs.Table.{table_verdict};
 ghost use Rattle.rules.specs.Sleep.{is_sleep};
 ghost use Rattle.request.specs.Permitted.{PermittedRequest};

@@ -65,9 +65,9 @@ fn other_rules_allow(device: &DeviceRecord<'_>, x: u8, e: Entry, y: u8) -> bool
         )
 }
 
-// The least state that device d may take under its parent's in `chosen`; 5 if there is none, a byte and no
-// `Option` since `chosen` holds bytes. The search starts at the shallowest one that is left, which is worked out once, so that no turn asks
-// again for the present state, `_SxD` and the parent's.
+// The least state that device d may take under its parent's in `chosen`; 5 if there is none, and no `Option`: so the definitions have it, and
+// `least_each` says every byte of `chosen` by it. The search starts at the shallowest one that is left, which is worked out once, so that no
+// turn asks again for the present state, `_SxD` and the parent's.
 fn least_state(table: &[u8], devices: &[u8], chosen: &[u8], x: u8, d: usize) -> u8
     requires { Ready table.now devices.now × (d < count_d table.now) × (count_d table.now ≤ length chosen.now) × (x < 5) }
     ensures { result ≡ least_state (station table.now) (entries table.now devices.now) x

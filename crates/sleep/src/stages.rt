@@ -1,6 +1,5 @@
 // The checks of sleep entry, one after the other.
-ghost use Rattle.std.specs.Prelude.{◌≡◌, true, ◌≤◌, length};
-ghost use Rattle.std.specs.Prelude.{Ok};
+ghost use Rattle.std.specs.Prelude.{◌≡◌, true, ◌≤◌, length, Ok};
 ghost use Rattle.rules.specs.Station.{count_d};
 ghost use Rattle.rules.specs.Table.{table_verdict};
 ghost use Rattle.rules.specs.Sleep.{is_sleep};

@@ -66,7 +66,8 @@ pub fn consistent(device: &DeviceRecord<'_>, devices: &[u8], on: Option<u64>) ->
     }
 }
 
-// The lowest device that does not. One loop for both, so that the compiler puts the rules into it.
+// The lowest device that does not. One loop for both, so that the compiler puts the rules into it; the byte at which a record starts is
+// carried on, so that no turn has a product.
 pub fn consistency(table: &[u8], devices: &[u8], on: Option<u64>) -> Verdict
     requires { Ready table.now devices.now }
     ensures { result ≡ consistency_verdict_with on (station table.now) (entries table.now devices.now) }

@@ -1,5 +1,5 @@
-// The state image of a table of either version: its size, its on-set and a device's entry in place. Table and image are two slices, of which
-// the planner lends the second to be written, so that what is known of both (`Ready`) is a clause and no struct.
+// The state image of a table of either version: its size, its on-set and a device's entry in place. Table and image are two slices, and
+// the second is written by the planner while others only read it: so what is known of both (`Ready`) is a clause and no struct.
 ghost use Rattle.std.specs.Prelude.{◌≡◌, ◌+◌, ◌*◌, ◌<◌, ◌≤◌, length};
 ghost use Rattle.rules.specs.Station.{width, limit, station};
 ghost use Rattle.rules.specs.Status.{entry_at, entries, image_size, image_of, fresh_status, status};

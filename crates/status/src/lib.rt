@@ -7,8 +7,7 @@ pub mod needed;
 pub mod state;
 pub mod values;
 
-ghost use Rattle.std.specs.Prelude.{◌≡◌};
-ghost use Rattle.std.specs.Prelude.{Ok};
+ghost use Rattle.std.specs.Prelude.{◌≡◌, Ok};
 ghost use Rattle.rules.specs.Table.{table_verdict};
 ghost use Rattle.rules.specs.Status.{image_good, state_verdict};
 ghost use Rattle.rules.specs.BringUp.{state_but_power_verdict};

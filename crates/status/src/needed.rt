@@ -11,7 +11,8 @@ use record::Record;
 use rules::Entry;
 use table::fields::DeviceRecord;
 
-// A set with what the devices from one number up to another need.
+// A set with what the devices from one number up to another need. The byte at which a record starts is carried on, here and below, so that
+// no turn has a product.
 fn needed_from(table: &[u8], devices: &[u8], set: u64, from: usize, end: usize) -> u64
     requires { WellSized table.now × (entries_size (width table.now) ≤ length devices.now) × (end ≤ count_d table.now)
         × (from < 256) }

@@ -118,7 +118,7 @@ impl<S: OnSet, const N: usize> State<S, N> {
     }
 }
 
-// Device d's entry in the device part.
+// Device d's entry in the device part, each byte at its place, as `image::entry` reads them.
 fn write_entry(devices: &mut [u8], d: usize, e: Entry)
     requires { 4 * d + 4 ≤ length devices.old }
     ensures { devices.new ≡ sets devices.old (4 * d) (entry_bytes e) }

@@ -21,7 +21,7 @@ fn place_good(devices: &[u8], k: usize) -> bool
     words::read32(devices, 4 * k) <= 4 || armed_good(crate::image::entry(devices, k))
 }
 
-// Each of the first n entries is good. A `for`: of `all` a proof learns what it gives of each call, and not by `every`.
+// Each of the first n entries is good.
 fn first_good(devices: &[u8], n: usize) -> bool
     requires { 4 * n ≤ length devices.now }
     ensures { result ≡ every (λ k. entry_good (entry_at devices.now (4 * k))) n }

@@ -32,11 +32,12 @@ pub fn header_good(table: &[u8]) -> bool
     if table.len() < 8 {
         return false;
     }
+    // byte by byte: a comparison of slices calls `memcmp`, which the boards do not bring
     let marked = (table[0] == MARK[0]) & (table[1] == MARK[1]) & (table[2] == MARK[2]);
     if !marked {
         return false;
     }
-    version_good(words::read16(table, 4) as u32) & (table[7] == 0)
+    version_good(u32::from(words::read16(table, 4))) & (table[7] == 0)
 }
 
 // The header of a table of R resources and D devices, over the first 8 bytes.
