@@ -1,4 +1,4 @@
-// The planner: the calls of a request, in their order, as words of a lent plan, and those of sleep entry.
+// The planner: the calls of a request, in their order, as words or bytes of a lent plan, and those of sleep entry.
 #![tactic(auto)]
 
 pub mod element;

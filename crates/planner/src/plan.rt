@@ -43,12 +43,7 @@ fn request_elements<E: Element>(
 }
 
 // Plans sleep entry, for an accepted table.
-fn sleep_elements<E: Element>(
-    table: &[u8],
-    state: &mut [u8],
-    q: Request,
-    plan: &mut [E],
-) -> Verdict
+fn sleep_elements<E: Element>(table: &[u8], state: &mut [u8], q: Request, plan: &mut [E]) -> Verdict
     requires { (is_sleep q ≡ true) × (table_verdict table.now ≡ Ok 0) }
     ensures { (result ≡ (plan_elements E.SIZE E.written table.now state.old q (E.numbers plan.old)).verdict)
         × (state.new ≡ (plan_elements E.SIZE E.written table.now state.old q (E.numbers plan.old)).state)

@@ -1,5 +1,4 @@
 use native.Mathlib.Omega.{arith}
-use mathlib.Core.Path.{sym}
 use Rattle.rules.proofs.Answers.{ok_passed, err_stopped, handed_on}
 use Rattle.table.proofs.Verdicts.{sized_done}
 use Rattle.request.proofs.Changes.{permitted_by}
