@@ -4,12 +4,12 @@ use mathlib.Core.Bool.{Bool, true, false}
 use mathlib.Core.List.{List}
 use mathlib.Core.Logic.{inl, inr, ⊎_elim}
 use Prim.Native.Nat.{ℕ, zero, suc, ◌*◌, ◌≤◌, ◌<◌}
-use native.Mathlib.Nat.{mul-one, mul_comm, mul-le-mul_left}
+use native.Mathlib.Nat.{mul-zero, mul-one, mul_comm, mul-le-mul_left}
 use native.Mathlib.Omega.{arith}
 use borrow.Author.Tests.{leb-true, eqb-true, ltb-true}
 use lib.Dec.{eqb, leb, ltb}
 use lib.ListN.{length}
-use Rattle.words.specs.Words.{put, word_bytes}
+use Rattle.words.specs.Words.{put}
 use Rattle.rules.specs.declared.Entry.{Entry}
 use Rattle.rules.specs.declared.Request.{Request}
 use Rattle.rules.specs.Verdict.{Verdict}
@@ -21,7 +21,7 @@ use Rattle.rules.specs.Table.{parent_good, table_verdict}
 use Rattle.rules.specs.Status.{entries_size, entries, status_of, status}
 use Rattle.rules.specs.Sleep.{is_sleep, Choice, least_choice, stays, moves, none_moving}
 use Rattle.rules.specs.BringUp.{bring_up_list, state_brought_up}
-use Rattle.rules.specs.Outcomes.{list_room, planned_each, state_after_each, sleep_stages, sleep_list, state_for_sleep, plan_words, plan_bytes}
+use Rattle.rules.specs.Outcomes.{list_room, planned_each, state_after_each, sleep_stages, sleep_list, state_for_sleep, plan_outcome, plan_room, plan_stages, plan_state, plan_list}
 use Rattle.sets.proofs.Laws.{decide}
 use Rattle.rules.proofs.Width.{width_wide}
 use Rattle.rules.proofs.Answers.{done_passes}
@@ -32,7 +32,6 @@ use Rattle.laws.proofs.Kept.{StationRules}
 use Rattle.laws.proofs.States.{station_rules, consistent_of}
 use Rattle.laws.proofs.Stages.{bring_up_pass, bring_up_of}
 use Rattle.laws.proofs.BringUp.{consistent_passes}
-use Rattle.laws.proofs.Plans.{words_sleep, bytes_sleep}
 use Rattle.laws.proofs.Choice.{least_is_choice}
 use Rattle.laws.proofs.SleepMoves.{reachable}
 use Rattle.laws.proofs.SleepStages.{SleepPassed, sleep_of}
@@ -46,8 +45,9 @@ use Rattle.status.proofs.Filled.{filled_long, filled_at}
 use Rattle.sleep.specs.Chosen.{states_in, least_each, stages_left}
 use Rattle.sleep.proofs.Verdicts.{sleep_table, passed_least}
 use Rattle.bringup.specs.Passed.{BringUpState}
+use Rattle.planner.specs.Plan.{plan_elements}
 use Rattle.planner.specs.Moves.{all_moves, choice_list, choice_state, Given, WrittenFrom}
-use Rattle.planner.proofs.Whole.{outcome_stops, outcome_done, bytes_refused}
+use Rattle.planner.proofs.Whole.{outcome_stops, outcome_done, request_refused}
 use Rattle.planner.proofs.Turns.{moves_short}
 
 -- ---- the states that stand in the lent bytes are the least choice
@@ -119,49 +119,40 @@ module _ (t b : List ℕ) (q : Request) (chosen chosen' : List ℕ) (n : ℕ) (i
       let least = passed_least t b q room chosen chosen' passes_all c in
       given t b chosen chosen' q.a least q passed.0 refl (omega (arith, filled_long _ chosen chosen' (count_d t) least h))
 
-  pub sleep_room : (m : ℕ) → room ≡ leb n m → 1 * (limit (width t) * list_room (width t)) ≤ m
-  sleep_room m r = let h : limit (width t) * list_room (width t) ≤ m = rw i at (leb-true n m (sym r ∙ passed.1)) in omega (arith, h)
-
-  pub sleep_room_bytes : (m : ℕ) → room ≡ leb (4 * n) m → 4 * (limit (width t) * list_room (width t)) ≤ m
-  sleep_room_bytes m r = rw i at (leb-true (4 * n) m (sym r ∙ passed.1))
+  -- of a plan of m elements, of which a word takes `size`
+  pub sleep_room : (size s m : ℕ) → s ≡ size → room ≡ leb (s * n) m → size * (limit (width t) * list_room (width t)) ≤ m
+  sleep_room size s m j r = rw (i, j) at (leb-true (s * n) m (sym r ∙ passed.1))
 
 -- 64 states are room for every device
 pub states_64 : (t states : List ℕ) → table_verdict t ≡ Ok 0 → length states ≡ 64 → count_d t ≤ length states
 states_64 t states e l = omega (arith, (accepted t (ap passes e ∙ done_passes 0)).devices, (width_wide t).high)
 
-module _ (t b : List ℕ) (q : Request) (plan : List ℕ) (kind : is_sleep q ≡ true) (n : ℕ) (i : n ≡ limit (width t) * list_room (width t))
-    (v : Verdict) where
-  -- a plan of words
-  module _ (e : v ≡ sleep_stages (leb n (length plan)) t b q) where
-    pub sleep_words_refused : passes v ≡ false → Answered v b plan (plan_words t b q plan)
-    sleep_words_refused k = outcome_stops _ (λ r. sleep_stages r t b q) _ b plan _ _ _ (words_sleep t b q plan kind) n i v e k
+-- a plan of which a word takes `size` elements; n and s: the room of sleep entry and the size, as the code has them; m: the elements of the
+-- plan
+module _ (size : ℕ) (written : List ℕ → List ℕ) (t b : List ℕ) (q : Request) (plan : List ℕ) (kind : is_sleep q ≡ true) where
+  elements_sleep : plan_elements size written t b q plan
+      ≡ plan_outcome written (sleep_stages (leb (size * (limit (width t) * list_room (width t))) (length plan)) t b q) b plan
+      (state_for_sleep t b q.a) (sleep_list t b q.a)
+  unfolding plan_elements plan_room plan_stages plan_state plan_list
+  elements_sleep = rw kind refl
 
-    pub sleep_words_planned : passes v ≡ true → (chosen chosen' : List ℕ) → chosen' ≡ stages_left (leb n (length plan)) t b q chosen
+  module _ (n : ℕ) (i : n ≡ limit (width t) * list_room (width t)) (s : ℕ) (j : s ≡ size) (m : ℕ) (l : length plan ≡ m) (v : Verdict)
+      (e : v ≡ sleep_stages (leb (s * n) m) t b q) where
+    pub sleep_refused : passes v ≡ false → Answered v b plan (plan_elements size written t b q plan)
+    sleep_refused k =
+        outcome_stops _ (λ r. sleep_stages r t b q) _ b plan _ _ _ elements_sleep (s * n) (rw (i, j) refl) v (rw (← l) at e) k
+
+    pub sleep_planned : passes v ≡ true → (chosen chosen' : List ℕ) → chosen' ≡ stages_left (leb (s * n) m) t b q chosen
         → (k : ℕ) (b' plan' : List ℕ)
-        → WrittenFrom 1 (λ ws. ws) (choice_list t b (states_in chosen')) (choice_state t b (states_in chosen')) plan 0 k b' plan'
-        → Answered (Ok k) b' plan' (plan_words t b q plan)
-    sleep_words_planned h chosen chosen' c k b' plan' w =
-        let l = passed_least t b q _ chosen chosen' (sym (ap passes e) ∙ h) c in
-        let list = least_list t b chosen chosen' q.a l in
-        outcome_done _ (λ r. sleep_stages r t b q) _ b plan _ _ _ (words_sleep t b q plan kind) n i v e h k b' plan'
-        (w.count ∙ ap length list) (w.state ∙ least_state_lem t b chosen chosen' q.a l) (w.elements ∙ ap (put plan 0) list)
-
-  -- a plan of bytes
-  module _ (e : v ≡ sleep_stages (leb (4 * n) (length plan)) t b q) where
-    pub sleep_bytes_refused : passes v ≡ false → Answered v b plan (plan_bytes t b q plan)
-    sleep_bytes_refused k =
-        outcome_stops _ (λ r. sleep_stages r t b q) _ b plan _ _ _ (bytes_sleep t b q plan kind) (4 * n) (ap (λ (k : ℕ). 4 * k) i) v e k
-
-    pub sleep_bytes_planned : passes v ≡ true → (chosen chosen' : List ℕ) → chosen' ≡ stages_left (leb (4 * n) (length plan)) t b q chosen
-        → (k : ℕ) (b' plan' : List ℕ)
-        → WrittenFrom 4 word_bytes (choice_list t b (states_in chosen')) (choice_state t b (states_in chosen')) plan 0 k b' plan'
-        → Answered (Ok k) b' plan' (plan_bytes t b q plan)
-    sleep_bytes_planned h chosen chosen' c k b' plan' w =
-        let l = passed_least t b q _ chosen chosen' (sym (ap passes e) ∙ h) c in
-        let list = least_list t b chosen chosen' q.a l in
-        outcome_done _ (λ r. sleep_stages r t b q) _ b plan _ _ _ (bytes_sleep t b q plan kind) (4 * n) (ap (λ (k : ℕ). 4 * k) i) v e h
-        k b' plan' (w.count ∙ ap length list) (w.state ∙ least_state_lem t b chosen chosen' q.a l)
-        (w.elements ∙ ap (λ (ws : List ℕ). put plan 0 (word_bytes ws)) list)
+        → WrittenFrom size written (choice_list t b (states_in chosen')) (choice_state t b (states_in chosen')) plan 0 k b' plan'
+        → Answered (Ok k) b' plan' (plan_elements size written t b q plan)
+    sleep_planned h chosen chosen' c k b' plan' w =
+        let least = passed_least t b q _ chosen chosen' (sym (ap passes e) ∙ h) c in
+        let list = least_list t b chosen chosen' q.a least in
+        let elements : plan' ≡ put plan 0 (written (choice_list t b (states_in chosen'))) = rw (mul-zero size) at w.elements in
+        outcome_done _ (λ r. sleep_stages r t b q) _ b plan _ _ _ elements_sleep (s * n) (rw (i, j) refl) v (rw (← l) at e) h
+        k b' plan' (w.count ∙ ap length list) (w.state ∙ least_state_lem t b chosen chosen' q.a least)
+        (elements ∙ ap (λ (ws : List ℕ). put plan 0 (written ws)) list)
 
 -- ---- the list, by whether a device moves; s is what the test returned
 -- the room of one list is in that of all
@@ -234,7 +225,8 @@ pub ruleset entering = (given_ready, given_up, one_list)
 pub ruleset by_choice = (choice_still, choice_moves)
 
 -- ---- of any kind, what is no table: v is the table's answer
-pub bytes_no_table : (t b : List ℕ) (q : Request) (plan : List ℕ) (v : Verdict) → v ≡ table_verdict t → passes v ≡ false → Answered v b plan (plan_bytes t b q plan)
-bytes_no_table t b q plan v e n =
-    decide (is_sleep q) (λ k. sleep_bytes_refused t b q plan k _ refl v (sleep_table t b q _ v e n) n)
-    (λ k. bytes_refused t b q plan k _ refl v (stop_table t v e b q _ n) n)
+pub no_table : (size : ℕ) (written : List ℕ → List ℕ) (t b : List ℕ) (q : Request) (plan : List ℕ) (v : Verdict) → v ≡ table_verdict t
+    → passes v ≡ false → Answered v b plan (plan_elements size written t b q plan)
+no_table size written t b q plan v e n =
+    decide (is_sleep q) (λ k. sleep_refused size written t b q plan k _ refl _ refl _ refl v (sleep_table t b q _ v e n) n)
+    (λ k. request_refused size written t b q plan k _ refl _ refl _ refl v (stop_table t v e b q _ n) n)

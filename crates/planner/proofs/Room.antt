@@ -49,3 +49,7 @@ product_fits a l h k = record { fits = omega (arith, product_4160 a l h k) }
 
 pub product_is : (w a l : ℕ) → a ≡ limit w → l ≡ list_room w → a * l ≡ limit w * list_room w
 product_is w a l e f = rw (e, f) refl
+
+-- ---- the room in elements, of which a word takes no more than four
+pub elements_fit : (size n most : ℕ) → size ≤ 4 → n ≤ most → most ≤ 4160 → Fits w64 (size * n)
+elements_fit size n most h k l = record { fits = omega (arith, mul-le-mul {n₂ = 4} {m₂ = most} h k) }

@@ -1,12 +1,13 @@
 -- The planner whole: the words and the state of an accepted request, and the outcome.
-use mathlib.Core.Path.{◌≡◌, sym, ap, ◌∙◌}
+use mathlib.Core.Path.{◌≡◌, refl, sym, ap, ◌∙◌}
 use mathlib.Core.Bool.{Bool, true, false}
 use mathlib.Core.List.{List}
 use Prim.Native.Nat.{ℕ, ◌*◌, ◌≤◌, ◌<◌}
+use native.Mathlib.Nat.{one-mul, mul-zero}
 use native.Mathlib.Omega.{arith}
 use borrow.Author.Tests.{leb-true}
 use lib.Dec.{leb}
-use lib.ListN.{length, take}
+use lib.ListN.{length}
 use Rattle.words.specs.Words.{put, word_bytes}
 use Rattle.rules.specs.declared.Change.{Change}
 use Rattle.rules.specs.declared.Request.{Request}
@@ -17,7 +18,7 @@ use Rattle.rules.specs.Station.{width, limit, station}
 use Rattle.rules.specs.Status.{Status, status, image_of}
 use Rattle.rules.specs.Calls.{own_call, own_last, calls, switching_words, change_of}
 use Rattle.rules.specs.Sleep.{is_sleep}
-use Rattle.rules.specs.Outcomes.{Outcome, list_room, planned, stages_verdict, state_after, plan_outcome, plan_words, plan_bytes}
+use Rattle.rules.specs.Outcomes.{Outcome, list_room, planned, stages_verdict, state_after, plan_outcome, plan_room, plan_stages, plan_state, plan_list, plan_words, plan_bytes}
 use Rattle.table.specs.Layout.{WellSized}
 use Rattle.status.specs.Ready.{status_with, entry_with}
 use Rattle.status.proofs.Written.{after_image}
@@ -26,12 +27,12 @@ use Rattle.request.proofs.Changes.{status_with_lem, on_small}
 use Rattle.laws.specs.Demand2.{Demand2Words}
 use Rattle.laws.specs.Sleep.{SleepEntryWords}
 use Rattle.laws.proofs.Stages.{room_passed}
-use Rattle.laws.proofs.Plans.{words_request, bytes_request}
 use Rattle.laws.proofs.Demand2.{demand2_words}
 use Rattle.laws.proofs.Sleep.{sleeps_words}
 use Rattle.switching.proofs.Made.{words_are}
-use Rattle.switching.proofs.Answered.{Answered, outcome_refused, outcome_written, front_bytes}
-use Rattle.planner.specs.Plan.{Written}
+use Rattle.switching.proofs.Answered.{Answered, outcome_refused, outcome_written}
+use Rattle.planner.specs.Plan.{Written, plan_elements}
+use Rattle.planner.specs.Moves.{WrittenFrom}
 
 -- ---- the words and the state of a permitted request, from the values as the code has them
 module _ (t b : List ℕ) (q : Request) (on : ℕ) (c : Change) (h : on ≡ (status t b).on)
@@ -90,34 +91,36 @@ module _ (written : List ℕ → List ℕ) (stages : Bool → Verdict) (room : �
   outcome_done h k b' plan' count state elements =
       rw is (outcome_written _ v (rw i at e) written b plan after list h k b' plan' count state elements)
 
--- n: the room that a plan must have, in words; m: the words or bytes that it has
-module _ (t b : List ℕ) (q : Request) (n m : ℕ) (i : n ≡ list_room (width t)) (v : Verdict) where
-  pub room_there : v ≡ stages_verdict (leb n m) t b q → passes v ≡ true → list_room (width t) ≤ m
-  room_there e k = rw i at (leb-true n m (room_passed (leb n m) t b q (sym (ap passes e) ∙ k)))
+-- the planner of RULES.md 9 on words
+pub elements_words : (t b : List ℕ) (q : Request) (plan : List ℕ) → plan_elements 1 (λ ws. ws) t b q plan ≡ plan_words t b q plan
+unfolding plan_elements plan_words
+elements_words t b q plan = rw (one-mul (plan_room (width t) q)) refl
 
-  pub room_bytes : v ≡ stages_verdict (leb (4 * n) m) t b q → passes v ≡ true → 4 * list_room (width t) ≤ m
-  room_bytes e k = rw i at (leb-true (4 * n) m (room_passed (leb (4 * n) m) t b q (sym (ap passes e) ∙ k)))
+-- and on bytes
+pub elements_bytes : (t b : List ℕ) (q : Request) (plan : List ℕ) → plan_elements 4 word_bytes t b q plan ≡ plan_bytes t b q plan
+unfolding plan_elements plan_bytes
+elements_bytes t b q plan = refl
 
-module _ (t b : List ℕ) (q : Request) (plan : List ℕ) (kind : is_sleep q ≡ false) (n : ℕ) (i : n ≡ list_room (width t)) (v : Verdict) where
-  -- a plan of words
-  module _ (e : v ≡ stages_verdict (leb n (length plan)) t b q) where
-    pub words_refused : passes v ≡ false → Answered v b plan (plan_words t b q plan)
-    words_refused k = outcome_stops _ (λ r. stages_verdict r t b q) _ b plan _ _ _ (words_request t b q plan kind) n i v e k
+-- a plan of which a word takes `size` elements; n and s: the room of a list and the size, as the code has them; m: the elements of the plan
+module _ (size : ℕ) (written : List ℕ → List ℕ) (t b : List ℕ) (q : Request) (plan : List ℕ) where
+  module _ (kind : is_sleep q ≡ false) where
+    elements_request : plan_elements size written t b q plan
+        ≡ plan_outcome written (stages_verdict (leb (size * list_room (width t)) (length plan)) t b q) b plan (state_after t b q) (planned t b q)
+    unfolding plan_elements plan_room plan_stages plan_state plan_list
+    elements_request = rw kind refl
 
-    pub words_planned : passes v ≡ true → (k : ℕ) (b' plan' : List ℕ) → Written t b q plan k b' plan'
-        → Answered (Ok k) b' plan' (plan_words t b q plan)
-    words_planned h k b' plan' w =
-        outcome_done _ (λ r. stages_verdict r t b q) _ b plan _ _ _ (words_request t b q plan kind) n i v e h k b' plan' w.count
-        w.state w.words
+    module _ (n : ℕ) (i : n ≡ list_room (width t)) (s : ℕ) (j : s ≡ size) (m : ℕ) (l : length plan ≡ m) (v : Verdict)
+        (e : v ≡ stages_verdict (leb (s * n) m) t b q) where
+      pub request_room_there : passes v ≡ true → size * list_room (width t) ≤ length plan
+      request_room_there k = rw (i, j, ← l) at (leb-true (s * n) m (room_passed (leb (s * n) m) t b q (sym (ap passes e) ∙ k)))
 
-  -- a plan of bytes
-  module _ (e : v ≡ stages_verdict (leb (4 * n) (length plan)) t b q) where
-    pub bytes_refused : passes v ≡ false → Answered v b plan (plan_bytes t b q plan)
-    bytes_refused k =
-        outcome_stops _ (λ r. stages_verdict r t b q) _ b plan _ _ _ (bytes_request t b q plan kind) (4 * n) (ap (λ (k : ℕ). 4 * k) i) v e k
+      pub request_refused : passes v ≡ false → Answered v b plan (plan_elements size written t b q plan)
+      request_refused k =
+          outcome_stops _ (λ r. stages_verdict r t b q) _ b plan _ _ _ elements_request (s * n) (rw (i, j) refl) v (rw (← l) at e) k
 
-    pub bytes_planned : passes v ≡ true → (k : ℕ) (b' plan' words words' : List ℕ) → Written t b q words k b' words'
-        → plan' ≡ put plan 0 (word_bytes (take k words')) → Answered (Ok k) b' plan' (plan_bytes t b q plan)
-    bytes_planned h k b' plan' words words' w r =
-        outcome_done _ (λ r. stages_verdict r t b q) _ b plan _ _ _ (bytes_request t b q plan kind) (4 * n) (ap (λ (k : ℕ). 4 * k) i) v e
-        h k b' plan' w.count w.state (r ∙ ap (put plan 0) (front_bytes (planned t b q) (state_after t b q) words words' k b' w))
+      pub request_planned : passes v ≡ true → (k : ℕ) (b' plan' : List ℕ)
+          → WrittenFrom size written (planned t b q) (state_after t b q) plan 0 k b' plan'
+          → Answered (Ok k) b' plan' (plan_elements size written t b q plan)
+      request_planned h k b' plan' w =
+          outcome_done _ (λ r. stages_verdict r t b q) _ b plan _ _ _ elements_request (s * n) (rw (i, j) refl) v (rw (← l) at e) h
+          k b' plan' w.count w.state (rw (mul-zero size) at w.elements)

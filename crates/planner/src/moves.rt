@@ -77,8 +77,8 @@ pub fn write_move(
 // it on need is carried on from move to move. One buffer serves all moves: to make one sets all its words to zero.
 fn write_moves<E: Element>(table: &[u8], state: &mut [u8], chosen: &[u8], plan: &mut [E]) -> usize
     requires { Given table.now state.old chosen.now
-        × (E.size * (limit (width table.now) * list_room (width table.now)) ≤ length (E.numbers plan.old)) }
-    ensures { WrittenFrom E.size E.written
+        × (E.SIZE * (limit (width table.now) * list_room (width table.now)) ≤ length (E.numbers plan.old)) }
+    ensures { WrittenFrom E.SIZE E.written
         (planned_each table.now state.old
         (all_moves table.now state.old (states_in chosen.now)))
         (state_after_each table.now state.old
@@ -108,8 +108,8 @@ pub fn write_choice<E: Element>(
     plan: &mut [E],
 ) -> usize
     requires { Given table.now state.old chosen.now
-        × (E.size * (limit (width table.now) * list_room (width table.now)) ≤ length (E.numbers plan.old)) }
-    ensures { WrittenFrom E.size E.written (choice_list table.now state.old (states_in chosen.now))
+        × (E.SIZE * (limit (width table.now) * list_room (width table.now)) ≤ length (E.numbers plan.old)) }
+    ensures { WrittenFrom E.SIZE E.written (choice_list table.now state.old (states_in chosen.now))
         (choice_state table.now state.old (states_in chosen.now))
         (E.numbers plan.old) 0 result state.new (E.numbers plan.new) }
 {

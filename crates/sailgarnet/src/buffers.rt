@@ -1,13 +1,20 @@
 // Plans and lists as bytes, four a word, lowest first. The stages are asked one after the other, so that what is no table is refused before
 // anything else is called.
+<<<<<<< HEAD
 ghost use Rattle.std.specs.Prelude.{◌≡◌, ◌≤◌, ◌*◌, length, true, false, Ok};
+=======
+ghost use Rattle.std.specs.Prelude.{◌≡◌, ◌≤◌, ◌*◌, length};
+>>>>>>> 94e2ed5470cdb6fb0589b92707a2df62623eda35
 ghost use Rattle.std.specs.Fn.{FnOnceReturnsAt};
 ghost use Rattle.words.specs.Words.{byte_words};
 ghost use Rattle.rules.specs.Station.{station};
 ghost use Rattle.rules.specs.Status.{status};
 ghost use Rattle.rules.specs.Check.{conforming_to};
+<<<<<<< HEAD
 ghost use Rattle.rules.specs.Table.{table_verdict};
 ghost use Rattle.rules.specs.Sleep.{is_sleep};
+=======
+>>>>>>> 94e2ed5470cdb6fb0589b92707a2df62623eda35
 ghost use Rattle.request.specs.Permitted.{PermittedRequest};
 ghost use Rattle.rules.specs.Outcomes.{of_bytes, plan_bytes, check_bytes};
 ghost use Rattle.rules.specs.BringUp.{bring_up_bytes, conforming_to_bring_up, check_bring_up_bytes};
@@ -19,45 +26,13 @@ ghost use Rattle.sailgarnet.specs.Lists.{words_in_bytes, OnWords};
 use planner::element::Element;
 use rules::{Reason, Refusal, Request, Verdict};
 
-// Plans a request of any kind but 4 on a plan of bytes, for an accepted table.
-fn request_bytes(table: &[u8], state: &mut [u8], q: Request, plan: &mut [u8]) -> Verdict
-    requires { (is_sleep q ≡ false) × (table_verdict table.now ≡ Ok 0) }
-    ensures { (result ≡ (plan_bytes table.now state.old q plan.old).verdict)
-        × (state.new ≡ (plan_bytes table.now state.old q plan.old).state)
-        × (plan.new ≡ (plan_bytes table.now state.old q plan.old).plan) }
-{
-    let room = plan.len() >= 4 * switching::write::room(table);
-    request::stages::past_table(table, state, room, q)?;
-    let mut calls = [0u32; 65];
-    let n = planner::plan::write_plan(table, state, q, &mut calls);
-    words::write_words(&calls[..n], plan, 0);
-    Ok(n)
-}
-
-// Plans sleep entry on a plan of bytes, for an accepted table.
-fn sleep_bytes(table: &[u8], state: &mut [u8], q: Request, plan: &mut [u8]) -> Verdict
-    requires { (is_sleep q ≡ true) × (table_verdict table.now ≡ Ok 0) }
-    ensures { (result ≡ (plan_bytes table.now state.old q plan.old).verdict)
-        × (state.new ≡ (plan_bytes table.now state.old q plan.old).state)
-        × (plan.new ≡ (plan_bytes table.now state.old q plan.old).plan) }
-{
-    let room = plan.len() >= 4 * planner::moves::room(table);
-    let mut chosen = [0u8; 64];
-    sleep::stages::past_table(table, state, room, q, &mut chosen)?;
-    Ok(planner::moves::write_choice(table, state, &chosen, plan))
-}
-
 // Plans one request on a plan of bytes.
 pub fn plan_bytes(table: &[u8], state: &mut [u8], q: Request, plan: &mut [u8]) -> Verdict
     ensures { (result ≡ (plan_bytes table.now state.old q plan.old).verdict)
         × (state.new ≡ (plan_bytes table.now state.old q plan.old).state)
         × (plan.new ≡ (plan_bytes table.now state.old q plan.old).plan) }
 {
-    table::check_table(table)?;
-    if q.kind == 4 {
-        return sleep_bytes(table, state, q, plan);
-    }
-    request_bytes(table, state, q, plan)
+    planner::plan::plan_elements(table, state, q, plan)
 }
 
 // The words of so many bytes: a list that conforms has whole words, and no more than a plan.
@@ -119,7 +94,8 @@ pub fn check_bytes(table: &[u8], state: &[u8], q: Request, list: &[u8]) -> Verdi
     Ok(0)
 }
 
-// Bring-up on a plan of bytes.
+// Bring-up on a plan of bytes. That on a plan of words stands in a function of its own, since bringup is below the planner, which has the
+// trait of elements.
 pub fn bring_up_bytes(table: &[u8], state: &mut [u8], plan: &mut [u8]) -> Verdict
     ensures { (result ≡ (bring_up_bytes table.now state.old plan.old).verdict)
         × (state.new ≡ (bring_up_bytes table.now state.old plan.old).state)
