@@ -14,7 +14,7 @@ ghost use Rattle.sleep.specs.Chosen.{states_in};
 ghost use Rattle.planner.specs.Moves.{move_list, state_moved, all_moves, choice_list, choice_state, Turn, Given, WrittenFrom};
 
 use crate::element::Element;
-use rules::{Entry, Request};
+use rules::{Entry, Kind, Request};
 
 // The words that a plan of sleep entry must have room for: a list for each device that there can be.
 pub fn room(table: &[u8]) -> usize
@@ -59,7 +59,7 @@ pub fn write_move(
     }
     let y = chosen[d];
     let q = Request {
-        kind: 1,
+        kind: Kind::Move as u32,
         device: d as u32,
         a: u32::from(y),
         b: 0,

@@ -11,7 +11,7 @@ ghost use Rattle.request.specs.Permitted.{PermittedRequest};
 ghost use Rattle.planner.specs.Plan.{Written, plan_elements};
 
 use crate::element::Element;
-use rules::{Request, Verdict};
+use rules::{Kind, Request, Verdict};
 
 // The calls and the state of a request that has passed every check.
 pub fn write_plan(table: &[u8], state: &mut [u8], q: Request, plan: &mut [u32]) -> usize
@@ -67,10 +67,10 @@ pub fn plan_elements<E: Element>(
         × (E.numbers plan.new ≡ (plan_elements E.SIZE E.written table.now state.old q (E.numbers plan.old)).plan) }
 {
     table::check_table(table)?;
-    if q.kind == 4 {
-        return sleep_elements(table, state, q, plan);
+    match q.asks() {
+        Some(Kind::Sleep) => sleep_elements(table, state, q, plan),
+        _ => request_elements(table, state, q, plan),
     }
-    request_elements(table, state, q, plan)
 }
 
 // Plans one request on a plan of words. What it accepts of kinds 1 to 3 keeps demand 2, and of kind 4 what sleep entry promises.
