@@ -9,7 +9,7 @@ ghost use Rattle.bringup.specs.Passed.{BringUpState};
 ghost use Rattle.planner.specs.Moves.{WrittenFrom};
 ghost use Rattle.words.proofs.Laws.{word_bytes_length, word_bytes_append};
 ghost use Rattle.laws.proofs.Lists.{one_each};
-ghost use Rattle.std.proofs.Common.{rules};
+ghost use Rattle.std.proofs.Math.Nat.{le-add_right};
 
 use rules::Request;
 
@@ -68,7 +68,7 @@ impl Element for u32 {
 
     ghost each = { λ xs. refl };
 
-    ghost narrow = { Prim.search rules };
+    ghost narrow = { le-add_right 1 3 };
 
     fn put_words(words: &[u32], plan: &mut [u32], at: usize) {
         words::copy(words, plan, at);
@@ -99,7 +99,7 @@ impl Element for u8 {
 
     ghost each = { λ xs. refl };
 
-    ghost narrow = { Prim.search rules };
+    ghost narrow = { le-add_right 4 0 };
 
     fn put_words(words: &[u32], plan: &mut [u8], at: usize) {
         words::write_words(words, plan, at);
