@@ -1,20 +1,11 @@
 // Plans and lists as bytes, four a word, lowest first. The stages are asked one after the other, so that what is no table is refused before
 // anything else is called.
-<<<<<<< HEAD
-ghost use Rattle.std.specs.Prelude.{◌≡◌, ◌≤◌, ◌*◌, length, true, false, Ok};
-=======
 ghost use Rattle.std.specs.Prelude.{◌≡◌, ◌≤◌, ◌*◌, length};
->>>>>>> 94e2ed5470cdb6fb0589b92707a2df62623eda35
 ghost use Rattle.std.specs.Fn.{FnOnceReturnsAt};
 ghost use Rattle.words.specs.Words.{byte_words};
 ghost use Rattle.rules.specs.Station.{station};
 ghost use Rattle.rules.specs.Status.{status};
 ghost use Rattle.rules.specs.Check.{conforming_to};
-<<<<<<< HEAD
-ghost use Rattle.rules.specs.Table.{table_verdict};
-ghost use Rattle.rules.specs.Sleep.{is_sleep};
-=======
->>>>>>> 94e2ed5470cdb6fb0589b92707a2df62623eda35
 ghost use Rattle.request.specs.Permitted.{PermittedRequest};
 ghost use Rattle.rules.specs.Outcomes.{of_bytes, plan_bytes, check_bytes};
 ghost use Rattle.rules.specs.BringUp.{bring_up_bytes, conforming_to_bring_up, check_bring_up_bytes};

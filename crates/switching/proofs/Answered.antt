@@ -5,9 +5,8 @@ use mathlib.Core.Bool.{Bool, true, false, not}
 use mathlib.Core.List.{List, []}
 use Prim.Native.Nat.{ℕ}
 use borrow.Author.Tests.{not-true, not-false}
-use lib.ListN.{length, take}
-use Rattle.words.specs.Words.{put, word_bytes}
-use Rattle.words.proofs.Put.{take_put}
+use lib.ListN.{length}
+use Rattle.words.specs.Words.{put}
 use Rattle.rules.specs.Verdict.{Verdict}
 use Rattle.std.specs.Prelude.{Ok}
 use Rattle.rules.specs.Verdict.{refuse}
@@ -17,7 +16,6 @@ use Rattle.rules.specs.Outcomes.{Outcome, outcome, plan_verdict, plan_outcome, l
 use Rattle.rules.proofs.Answers.{first_pass, first_stop, first_none, unless_of, unless_stop, done_passes, refused_stops}
 use Rattle.rules.proofs.Answers.{answer_passed, answer_stopped}
 use Rattle.laws.proofs.Lists.{plan_outcome_lem}
-use Rattle.switching.specs.Written.{WrittenPlan}
 
 -- v, b' and plan' are the parts of an outcome
 pub record Answered (v : Verdict) (b' plan' : List ℕ) (o : Outcome) : Type 0 where
@@ -27,11 +25,6 @@ pub record Answered (v : Verdict) (b' plan' : List ℕ) (o : Outcome) : Type 0 w
 
 pub parts : {v : Verdict} {b plan : List ℕ} {o : Outcome} → Answered v b plan o → (v ≡ o.verdict) × (b ≡ o.state) × (plan ≡ o.plan)
 parts a = (a.verdict, a.state, a.plan)
-
--- the bytes of the words that stand at the front of a plan of words
-pub front_bytes : (list after d d' : List ℕ) (n : ℕ) (b' : List ℕ) → WrittenPlan list after d n b' d'
-    → word_bytes (take n d') ≡ word_bytes list
-front_bytes list after d d' n b' w = ap word_bytes (ap (take n) w.words ∙ take_put d list n (sym w.count))
 
 -- v is the answer of the checks
 module _ (checks v : Verdict) (e : v ≡ checks) where
