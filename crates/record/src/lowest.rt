@@ -43,6 +43,7 @@ fn size_with(w: usize, zeros: bool) -> usize
 
 // Device records one after the other: the bytes, where in them the first starts, the bytes of a set, whether zeros end each record, as in
 // a table, or none, as in a list of described devices, and how many records there are. They end inside the bytes.
+// `zeros` changes their size too, so no test as a closure would stand for it.
 #[derive(Clone, Copy)]
 pub struct Records<'a> {
     pub bytes: &'a [u8],

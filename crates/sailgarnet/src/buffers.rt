@@ -33,7 +33,8 @@ fn words_in(bytes: usize) -> Option<usize>
     (bytes % 4 == 0 && bytes / 4 <= 65).then_some(bytes / 4)
 }
 
-// What the test says of the first n words of the bytes, read into a buffer of N.
+// What the test says of the first n words of the bytes, read into a buffer of N. How many there are has been asked (`words_in`), and is not
+// asked again of the bytes.
 fn test_words<const N: usize, F: FnOnce(&[u32]) -> bool>(list: &[u8], n: usize, test: F) -> bool
     requires fits { (4 * n ≤ length list.now) × (n ≤ N) × (N ≤ 65) }
     requires callable { F.IsAlwaysCallable test }

@@ -23,7 +23,7 @@ fn pack(v: Verdict) -> u64
     requires { (count_of v < 0x1_0000) × (place_of v < 0x100_0000_0000) }
     ensures { (result ≡ packed v) × Reads result v }
 {
-    let number = rules::number(v) as u64;
+    let number = u64::from(rules::number(v));
     let count = rules::count(v) as u64;
     let place = rules::place(v) as u64;
     number + 0x100 * count + 0x100_0000 * place

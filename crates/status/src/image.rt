@@ -65,7 +65,7 @@ pub fn set_entry(table: &[u8], image: &mut [u8], d: usize, e: Entry, on: u64)
     before.with_entry(d, e, low).store(image);
 }
 
-// A fresh state over all of the image.
+// A fresh state over all of the image, by the instance of the table's version, as above.
 pub fn write_fresh(table: &[u8], image: &mut [u8])
     requires { WellSized table.now × (length image.old ≡ image_size (width table.now)) }
     ensures { image.new ≡ image_of (width table.now) (fresh_status (station table.now)) }

@@ -8,7 +8,7 @@ ghost use Rattle.rules.specs.Describe.{header_bytes};
 // What every table starts with.
 const MARK: [u8; 3] = *b"PWT";
 
-// Which versions there are.
+// Which versions there are. A number and no enum: C gives any (`sailgarnet_write`), and the definitions are of any.
 pub fn version_good(version: u32) -> bool
     ensures { result ≡ version_good version }
 {
