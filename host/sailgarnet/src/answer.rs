@@ -259,6 +259,11 @@ mod tests {
         let found: Vec<String> = block(rules, "pub enum Reason")
             .map(|line| line.trim_end_matches(',').into())
             .collect();
+        // the first has its number beside it, from which the others count
+        let found: Vec<String> = found
+            .iter()
+            .map(|name| name.trim_end_matches(" = 1").into())
+            .collect();
         let expected: Vec<String> = Verdict::ALL[1..]
             .iter()
             .map(|verdict| format!("{verdict:?}"))
