@@ -25,7 +25,8 @@ pub fn read32(s: &[u8], at: usize) -> u32
     requires { at + 4 ≤ length s.now }
     ensures { result ≡ read_le 4 s.now at }
 {
-    u32::from_le_bytes(s[at..at + 4].try_into().unwrap())
+    let bytes = s[at..at + 4].try_into().unwrap();
+    u32::from_le_bytes(bytes)
 }
 
 // The number that the eight bytes from `at` on make.
@@ -65,7 +66,8 @@ pub fn write64(s: &mut [u8], at: usize, x: u64)
     requires { at + 8 ≤ length s.old }
     ensures { s.new ≡ put s.old at (bytes_le 8 x) }
 {
-    copy(&x.to_le_bytes(), s, at);
+    let bytes = x.to_le_bytes();
+    copy(&bytes, s, at);
 }
 
 // All of `from`, from `at` on. A loop: `copy_from_slice` compiles to calls of `memmove`, which the boards do not bring.

@@ -7,6 +7,9 @@ use Rattle.words.proofs.read32.Goals as goal
 pub returns : goal.returns
 unfolding read_le
 returns c =
-    let b = c.unwrap.result in
+    let b = c.unwrap-bytes.result in
     let number : c.from_le_bytes.result ≡ read_le 4 b 0 = omega arith in
-    number ∙ read_chunk 4 c.args.s.now b c.args.at c.requires (rw c.unwrap.ensures at c.try_into.ensures.1)
+    let there : c.from_le_bytes.result ≡ read_le 4 c.args.s.now c.args.at =
+    number ∙ read_chunk 4 c.args.s.now b c.args.at c.requires (rw c.unwrap-bytes.ensures at c.try_into.ensures.1)
+    in
+    omega arith

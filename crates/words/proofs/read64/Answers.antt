@@ -9,4 +9,7 @@ unfolding read_le
 returns c =
     let b = c.unwrap.result in
     let number : c.from_le_bytes.result ≡ read_le 8 b 0 = omega arith in
+    let there : c.from_le_bytes.result ≡ read_le 8 c.args.s.now c.args.at =
     number ∙ read_chunk 8 c.args.s.now b c.args.at c.requires (rw c.unwrap.ensures at c.try_into.ensures.1)
+    in
+    omega arith
