@@ -91,6 +91,10 @@ loaded_is w n b ds₀ ds on same e l m r =
     let long : length (take n b) ≡ n = length-take-le n b (omega arith) in
     rw (e ∙ put_all ds₀ (take n b) (omega arith), r, same) refl
 
+pub loaded_status : (w : ℕ) (b : List ℕ) → status_in w (loaded w b) ≡ status_of w b
+unfolding loaded status_in status_of
+loaded_status w b = rw (entries_front w b) refl
+
 -- ---- what is stored
 
 -- the device part over the first bytes, and the number after it
