@@ -82,18 +82,26 @@ impl Record<'_> {
         None
     }
 
-    // Where the first bad value of device d starts, if one is bad. By `or`, not `or_else`: a proof does not learn what such a closure
-    // returns, and only a refused device is asked.
+    // Where the first bad value of device d starts, if one is bad. A part is asked only where those before it are good: `or` would ask all
+    // of them, and of `or_else` a proof does not learn what such a closure returns.
     #[tactic(auto, unfolding(rules::specs::Table::value_fields), using(crate::proofs::FirstBad::place_joined))]
     pub fn bad_value(&self, d: usize, resources: usize) -> Option<usize>
         requires { (d < 256) × (resources ≤ limit self.now.width) }
         ensures { result ≡ bad_place (value_fields self.now.width resources d (device_of self.now)) }
     {
-        self.bad_head(d)
-            .or(self.bad_set(resources))
-            .or(self.bad_sxd())
-            .or(self.bad_sxw())
-            .or(self.bad_deepest())
+        if let Some(at) = self.bad_head(d) {
+            return Some(at);
+        }
+        if let Some(at) = self.bad_set(resources) {
+            return Some(at);
+        }
+        if let Some(at) = self.bad_sxd() {
+            return Some(at);
+        }
+        if let Some(at) = self.bad_sxw() {
+            return Some(at);
+        }
+        self.bad_deepest()
     }
 
     // The 2 + w zeros to the record's end.
@@ -117,6 +125,9 @@ impl Record<'_> {
             × (resources ≤ limit self.now.width) }
         ensures { result ≡ bad_place (device_fields self.now.width resources self.now.bytes.now d self.now.at) }
     {
-        self.bad_value(d, resources).or(self.bad_zero())
+        if let Some(at) = self.bad_value(d, resources) {
+            return Some(at);
+        }
+        self.bad_zero()
     }
 }
