@@ -1,12 +1,15 @@
 -- The checker whole: its walk is the test of the rules, and its answer that of the checks before and then 19.
-use mathlib.Core.Path.{◌≡◌, ap, ◌∙◌}
+use mathlib.Core.Path.{◌≡◌, sym, ap, ◌∙◌}
 use mathlib.Core.Bool.{Bool, true, false, not}
 use mathlib.Core.List.{List}
 use Prim.Native.Nat.{ℕ}
 use Rattle.rules.specs.declared.Change.{Change}
 use Rattle.rules.specs.declared.Request.{Request}
 use Rattle.rules.specs.Verdict.{Verdict}
-use Rattle.std.specs.Prelude.{Ok}
+use Rattle.std.specs.Prelude.{Ok, Err, IsErrAnd}
+use Rattle.rules.specs.declared.Refusal.{Refusal}
+use Rattle.rules.proofs.Answers.{ok_passed, err_stopped, handed_on}
+use Rattle.laws.proofs.Demand3.{demand3}
 use Rattle.rules.specs.Verdict.{refuse}
 use Rattle.rules.specs.declared.Reason.TheVariants.{NotConforming}
 use Rattle.rules.specs.Answers.{passes}
@@ -60,6 +63,24 @@ module _ (t b : List ℕ) (q : Request) (list : List ℕ) (v : Verdict) (e : v �
     unfolding check_bytes
     bytes_done z = list_done _ v e c _ n g z
 
-pub ruleset of_words = (words_refused, words_19, words_done)
+-- ---- of a list of words, by the arm that the answer of the checks was matched by
+module _ (t b : List ℕ) (q : Request) (list : List ℕ) (v : Verdict) (e : v ≡ stages_verdict true t b q) where
+  module _ (r : Refusal) (a : v ≡ Err r) where
+    pub words_err : Err r ≡ check_words t b q list
+    words_err = sym a ∙ words_refused t b q list v e (err_stopped v r a)
+
+    pub words_handed : (u : Verdict) → IsErrAnd u (λ y. y ≡ r) → u ≡ check_words t b q list
+    words_handed u g = handed_on v u r a g ∙ words_refused t b q list v e (err_stopped v r a)
+
+  module _ (n : ℕ) (a : v ≡ Ok n) (c : Bool) (g : c ≡ conforming_to (station t) (status t b) q list) where
+    pub words_fail : not c ≡ true → refuse NotConforming 0 ≡ check_words t b q list
+    words_fail = words_19 t b q list v e c (ok_passed v n a) g
+
+    pub words_pass : not c ≡ false → Ok 0 ≡ check_words t b q list
+    words_pass = words_done t b q list v e c (ok_passed v n a) g
+
+pub ruleset word_stops = (words_err, words_handed, demand3)
+
+pub ruleset word_arms = (words_fail, words_pass, demand3)
 
 pub ruleset of_bytes_lem = (bytes_refused, bytes_19, bytes_done)

@@ -21,6 +21,7 @@ pub fn conforming(table: &[u8], state: &[u8], q: Request, list: &[u32]) -> bool
 }
 
 // The checker on a list of words. What it passes keeps demand 3.
+#[tactic(auto, using(crate::proofs::Answer::word_stops))]
 pub fn check_words(table: &[u8], state: &[u8], q: Request, list: &[u32]) -> Verdict
     ensures answer { result ≡ check_words table.now state.now q list.now }
     ensures demand { Demand3 table.now state.now q list.now }

@@ -18,6 +18,7 @@ use planner::element::Element;
 use rules::{Reason, Refusal, Request, Verdict};
 
 // Plans one request on a plan of bytes.
+#[tactic(auto, using(planner::proofs::Whole::elements_bytes))]
 pub fn plan_bytes(table: &[u8], state: &mut [u8], q: Request, plan: &mut [u8]) -> Verdict
     ensures { (result ≡ (plan_bytes table.now state.old q plan.old).verdict)
         × (state.new ≡ (plan_bytes table.now state.old q plan.old).state)

@@ -7,9 +7,11 @@ use native.Mathlib.Omega.{arith}
 use borrow.Author.Tests.{eq-eqb, ne_eqb, not-true, not-false}
 use lib.Dec.{eqb, ltb}
 use lib.ListN.{length}
+use Rattle.table.specs.Layout.{WellSized}
 use Rattle.sets.proofs.Laws.{decide}
 use Rattle.rules.specs.Verdict.{Verdict}
-use Rattle.std.specs.Prelude.{Ok, Some, None}
+use Rattle.std.specs.Prelude.{Ok, Err, Some, None, IsErrAnd}
+use Rattle.rules.specs.declared.Refusal.{Refusal}
 use Rattle.rules.specs.Verdict.{refuse}
 use Rattle.rules.specs.declared.Reason.TheVariants.{BadState, Inconsistent}
 use Rattle.rules.specs.Index.{least}
@@ -20,7 +22,7 @@ use Rattle.rules.specs.Status.{entries, status_of, status, image_size, entries_g
 use Rattle.rules.specs.Status.{consistency_verdict, state_verdict, image_of, fresh_status}
 use Rattle.rules.specs.BringUp.{but_power_verdict, state_but_power_verdict}
 use Rattle.rules.specs.Outcomes.{outcome, fresh_verdict, fresh, table_and_state_verdict}
-use Rattle.rules.proofs.Answers.{done_passes, refused_stops, first_pass, first_stop, first_alone, unless_of}
+use Rattle.rules.proofs.Answers.{done_passes, refused_stops, first_pass, first_stop, first_alone, unless_of, ok_passed, err_stopped, handed_on}
 use Rattle.laws.proofs.Accepted.{accepted}
 use Rattle.laws.proofs.States.{GoodValues, values_of}
 use Rattle.table.proofs.Verdicts.{sized_done, sized_told, sized_passed, table_passed}
@@ -170,3 +172,36 @@ pub ruleset fresh_laws = (
   fresh_done_state,
   fresh_long,
 )
+
+-- the same by the arm that was taken
+module _ (t b : List ℕ) (v : Verdict) (e : v ≡ table_verdict t) where
+  module _ (r : Refusal) (a : v ≡ Err r) where
+    pub fresh_err : Err r ≡ (fresh t b).verdict
+    fresh_err = sym a ∙ fresh_refused t b v e (err_stopped v r a)
+
+    pub fresh_err_state : b ≡ (fresh t b).state
+    fresh_err_state = fresh_refused_state t b v e (err_stopped v r a)
+
+    pub fresh_handed : (u : Verdict) → IsErrAnd u (λ y. y ≡ r) → u ≡ (fresh t b).verdict
+    fresh_handed u g = handed_on v u r a g ∙ fresh_refused t b v e (err_stopped v r a)
+
+  module _ (n : ℕ) (a : v ≡ Ok n) where
+    pub fresh_sized : WellSized t
+    fresh_sized = sized_passed t v e (ok_passed v n a)
+
+    module _ (k : ℕ) (z : k ≡ image_size (width t)) where
+      pub fresh_short : (length b ≡ k → ⊥) → refuse BadState 0 ≡ (fresh t b).verdict
+      fresh_short = fresh_length t b v e k z (ok_passed v n a)
+
+      pub fresh_short_state : (length b ≡ k → ⊥) → b ≡ (fresh t b).state
+      fresh_short_state = fresh_length_state t b v e k z (ok_passed v n a)
+
+      pub fresh_whole : length b ≡ k → Ok n ≡ (fresh t b).verdict
+      fresh_whole l = sym a ∙ e ∙ table_passed t v e (ok_passed v n a) ∙ fresh_done t b v e k z (ok_passed v n a) l
+
+      pub fresh_whole_state : (m : List ℕ) → length b ≡ k → m ≡ image_of (width t) (fresh_status (station t)) → m ≡ (fresh t b).state
+      fresh_whole_state = fresh_done_state t b v e k z (ok_passed v n a)
+
+pub ruleset fresh_stops = (fresh_err, fresh_err_state, fresh_handed)
+
+pub ruleset fresh_arms = (fresh_sized, fresh_short, fresh_short_state, fresh_whole, fresh_whole_state, fresh_long)

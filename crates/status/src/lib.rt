@@ -59,6 +59,7 @@ pub fn verdict(table: &[u8], image: &[u8]) -> Verdict
 }
 
 // A fresh state for a table that is good, into bytes that are an image's; a refusal leaves every byte.
+#[tactic(auto, using(crate::proofs::Chains::fresh_stops))]
 pub fn fresh(table: &[u8], state: &mut [u8]) -> Verdict
     ensures { (result ≡ (fresh table.now state.old).verdict)
         × (state.new ≡ (fresh table.now state.old).state) }

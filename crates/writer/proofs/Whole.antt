@@ -12,7 +12,8 @@ use lib.ListN.{length, take, drop, length-append}
 use Rattle.words.specs.Words.{bytes_le, put}
 use Rattle.words.proofs.Put.{length_put, put_then}
 use Rattle.rules.specs.Verdict.{Verdict}
-use Rattle.std.specs.Prelude.{Ok}
+use Rattle.std.specs.Prelude.{Ok, Err, IsErrAnd}
+use Rattle.rules.specs.declared.Refusal.{Refusal}
 use Rattle.rules.specs.Verdict.{refuse}
 use Rattle.rules.specs.declared.Reason.TheVariants.{NoRoom}
 use Rattle.rules.specs.Index.{join}
@@ -21,7 +22,7 @@ use Rattle.rules.specs.Station.{version_width, Wide, record_size, count_r, count
 use Rattle.rules.specs.Table.{table_verdict}
 use Rattle.rules.specs.Describe.{described_size, described_r, described_d, resources_of, devices_of, header_bytes, table_bytes}
 use Rattle.rules.specs.Write.{described_counts_good, written_size, write_verdict, write, lists_size, describe_verdict, describe}
-use Rattle.rules.proofs.Answers.{answer_passed, answer_stopped}
+use Rattle.rules.proofs.Answers.{answer_passed, answer_stopped, ok_passed, err_stopped, handed_on}
 use Rattle.rules.proofs.Answers.{done_passes, refused_stops, first_pass, first_stop, first_none}
 use Rattle.rules.proofs.Width.{version_wide}
 use Rattle.laws.specs.Inverse.{Representable}
@@ -93,6 +94,39 @@ module _ (version : ℕ) (rs ds table : List ℕ) (v : Verdict) (e : v ≡ write
           put_then table l 0 (8 + 4 * r) (head ++ rs) records (omega (arith, room, n, whole, head_long))
           (omega (arith, n, whole, head_long)) (rw (p1, x) at s) in
           (e, p2 ∙ rw passing refl)
+
+-- ---- write, by the arm that the answer of the checks was matched by
+module _ (version : ℕ) (rs ds table : List ℕ) (v : Verdict) (e : v ≡ write_verdict version rs ds (length table)) where
+  module _ (r : Refusal) (a : v ≡ Err r) where
+    stopped : (Err r ≡ (write version rs ds table).verdict) × (table ≡ (write version rs ds table).table)
+    stopped = let p = write_refused version rs ds table v e (err_stopped v r a) in (sym a ∙ p.0, p.1)
+
+    pub write_err : Err r ≡ (write version rs ds table).verdict
+    write_err = stopped.0
+
+    pub write_err_table : table ≡ (write version rs ds table).table
+    write_err_table = stopped.1
+
+    pub write_handed : (u : Verdict) → IsErrAnd u (λ y. y ≡ r) → u ≡ (write version rs ds table).verdict
+    write_handed u g = handed_on v u r a g ∙ a ∙ stopped.0
+
+  module _ (n : ℕ) (a : v ≡ Ok n) (r d : ℕ) (y : r ≡ described_r rs) (z : d ≡ described_d ds) where
+    pub header_fits : (r < 256) × (d < 256) × (8 ≤ length table)
+    header_fits = header_asks version rs ds table v e (ok_passed v n a) r d y z
+
+    module _ (w : ℕ) (x : w ≡ version_width version) (h : List ℕ) (o : h ≡ put table 0 (header_bytes version r d)) where
+      pub resources_fit : 8 + length rs ≤ length h
+      resources_fit = resources_ask version rs ds table v e (ok_passed v n a) r d w y z x h o
+
+      pub write_whole : (c l : List ℕ) → c ≡ put h 8 rs → l ≡ put c (8 + 4 * r) (join (written w ds) (described_d ds))
+          → (Ok n ≡ (write version rs ds table).verdict) × (l ≡ (write version rs ds table).table)
+      write_whole c l q s =
+          let p = write_done version rs ds table v e (ok_passed v n a) r d w y z x h o c l q s in
+          (sym a ∙ p.0, p.1)
+
+pub ruleset write_stops = (write_err, write_err_table, write_handed)
+
+pub ruleset write_arms = (header_fits, resources_fit, write_whole)
 
 -- ---- describe, v being the check of the table
 module _ (t rs ds : List ℕ) (v : Verdict) (e : v ≡ table_verdict t) where

@@ -32,6 +32,7 @@ fn write_devices(ds: &[u8], table: &mut [u8], at: usize, w: usize)
 }
 
 // Writes the table of a version; a refusal leaves every byte.
+#[tactic(auto, using(crate::proofs::Whole::write_stops))]
 pub fn write(version: u32, rs: &[u8], ds: &[u8], table: &mut [u8]) -> Verdict
     ensures { (result ≡ (write version rs.now ds.now table.old).verdict)
         × (table.new ≡ (write version rs.now ds.now table.old).table) }

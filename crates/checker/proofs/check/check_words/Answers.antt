@@ -1,20 +1,14 @@
-use Rattle.laws.proofs.Demand3.{demand3}
-use Rattle.rules.proofs.Answers.{ok_passed, err_stopped, handed_on}
+use Rattle.rules.proofs.Answers.{ok_passed}
 use Rattle.request.proofs.Changes.{permitted_by}
-use Rattle.checker.proofs.Answer.{of_words}
+use Rattle.checker.proofs.Answer.{word_arms}
 use borrow.Author.Rules.{rules}
 use Rattle.checker.proofs.check.check_words.Goals as goal
 
-pub returns-in_err-verdict : goal.returns-in_err-verdict
-returns-in_err-verdict c =
-    let stop = err_stopped _ _ c.in_err-verdict.was in
-    rw (handed_on _ _ _ c.in_err-verdict.was c.from_residual.ensures.1) (search (rules, of_words, demand3))
-
 pub conforming-requires : goal.conforming-requires
-conforming-requires c = permitted_by _ _ _ _ _ c.verdict.ensures (ok_passed _ _ c.in_ok-verdict.was)
+conforming-requires c = permitted_by _ _ _ _ _ c.verdict.ensures (search (rules, ok_passed))
 
 pub returns-then-not-conforming : goal.returns-then-not-conforming
-returns-then-not-conforming c = let pass = ok_passed _ _ c.in_ok-verdict.was in search (rules, of_words, demand3)
+returns-then-not-conforming c = search (rules, word_arms)
 
 pub returns : goal.returns
-returns c = let pass = ok_passed _ _ c.in_ok-verdict.was in search (rules, of_words, demand3)
+returns c = search (rules, word_arms)
