@@ -5,7 +5,7 @@ ghost use Rattle.bench.specs.Cases.{more, added, table_after, size_after};
 use crate::script;
 
 // A table, or the two lists of records that one is written from, and the room past it: in all that of 65 resources and 65 devices.
-#[derive(Drop)]
+#[derive(Clone, Copy)]
 pub struct Table {
     pub bytes: [u8; 4428],
     pub len: usize,
