@@ -1,23 +1,26 @@
 -- Whether every field is good, as one test: of the five sets, of zeros read as one number, and of a table's record.
 -- Where the code asks another function, that function's answer comes with what it says.
-use mathlib.Core.Path.{◌≡◌, refl, sym, ◌∙◌}
-use mathlib.Core.Bool.{Bool, true, false, not, ◌&&◌, ◌||◌, and_assoc, and-true}
-use mathlib.Core.List.{List}
-use Prim.Native.Nat.{ℕ, zero, suc, ◌+◌, ◌*◌, ◌-◌, ◌%◌, ◌^◌, ◌<◌}
+use mathlib.Core.Path.{◌≡◌, refl, sym, ap, ◌∙◌}
+use mathlib.Core.Bool.{Bool, true, false, not, ◌&&◌, ◌||◌, and_assoc, and-true, or-true}
+use mathlib.Core.List.{List, ◌++◌}
+use Prim.Native.Nat.{ℕ, zero, suc, ◌+◌, ◌*◌, ◌-◌, ◌%◌, ◌^◌, ◌<◌, ◌≤◌}
 use native.Mathlib.Nat.{mul-zero, mul-le-mul_right, pow-suc, mod-eq_of_lt}
 use native.Mathlib.Omega.{arith}
-use borrow.Author.Tests.{eqb-true, eq-eqb, ltb-true, lt-ltb, not-true, not-false}
+use borrow.Author.Tests.{eqb-true, eqb-false, eq-eqb, ltb-true, lt-ltb, not-true, not-false}
 use lib.Bits.{bit_and, bit_or, bit_xor, and_le_l, and_le_r, and_mask, mask_lt, or_lt, or_add_and, xor_add_and, xor_self}
 use lib.Dec.{eqb, ltb}
-use lib.ListN.{get_or}
+use lib.ListN.{length, get_or, take, drop, take-append-drop, get_or-append}
+use lib.Seq.{get_or-drop}
+use Rattle.std.specs.Array.{IsWholeChunk}
 use Rattle.sets.specs.Sets.{member, minus, first_n, subset}
 use Rattle.sets.proofs.Laws.{decide, or_none}
 use Rattle.words.specs.Words.{read_le}
 use Rattle.words.proofs.Twice.{read_split}
 use Rattle.rules.specs.Index.{each_from, each, every}
-use Rattle.rules.specs.Station.{Device, record_size, device_at}
+use Rattle.rules.specs.Station.{Device, Wide, absent, record_size, device_at}
 use Rattle.rules.specs.Table.{Field, field, first_bad, all_good, present, set_good}
-use Rattle.rules.specs.Table.{set_fields, zero_fields, device_fields, objects_good}
+use Rattle.rules.specs.Table.{set_fields, sxd_fields, sxw_fields, deepest_fields, zero_fields, device_fields, objects_good}
+use Rattle.rules.specs.Table.{sxd_good, sxw_good, deepest_good}
 use Rattle.rules.proofs.Index.{every_at, every_of_lem}
 use Rattle.laws.proofs.All.{all_each, each_at}
 use Rattle.laws.proofs.Good.{none_bad, joined, Good, good_each, good_all}
@@ -25,7 +28,7 @@ use Rattle.laws.proofs.Accepted.{fields_inside}
 use Rattle.laws.proofs.Tests.{both_true}
 use Rattle.laws.proofs.Every.{same_test}
 use Rattle.laws.proofs.Tests as tests
-use Rattle.record.specs.Good.{sets_fit, absent_set, sets_absent, good_with}
+use Rattle.record.specs.Good.{sets_fit, absent_set, sets_absent, no_sleep, good_with}
 use Rattle.record.proofs.FirstBad.{zero_field}
 
 -- ---- two tests that say the same, and two tests as one: zeros in a number's parts and in a union, and a union's bits
@@ -145,6 +148,88 @@ module _ (w resources : ℕ) (v : Device) (a b c d e : ℕ) (p : a ≡ v.sets 0)
         → eqb (bit_or (bit_or (bit_or (bit_or i j) k) l) m) 0 ≡ all_good (set_fields w resources v)
     sets_left i j k l m x y z t o = absent_test v i j k l m x y z t o ∙ past_fit
 
+-- ---- a byte of an array of k bytes that were there from `at` on
+pub chunk_at : (k : ℕ) (s b : List ℕ) (at i : ℕ) → i < k → at + k ≤ length s → IsWholeChunk (take (at + k - at) (drop at s)) b k
+    → get_or b i 0 ≡ get_or s (at + i) 0
+chunk_at k s b at i l h whole =
+    let size : at + k - at ≡ k = omega arith in
+    let rest = drop k (drop at s) in
+    let both : b ++ rest ≡ drop at s = rw (whole.same, size) (take-append-drop k (drop at s)) in
+    let long : length b ≡ k = rw whole.same whole.long in
+    sym (get_or-append b rest 0 i (omega arith)) ∙ rw both (get_or-drop at s i 0)
+
+-- ---- what a device says of sleep states: numbers of bytes, by their bytes
+byte_first : (x y k l : ℕ) → x < 256 → k < 256 → eqb (x + 256 * y) (k + 256 * l) ≡ eqb x k && eqb y l
+byte_first x y k l p q =
+    same_test (eqb (x + 256 * y) (k + 256 * l)) (eqb x k && eqb y l)
+    (λ e. let is = eqb-true (x + 256 * y) (k + 256 * l) e in tests.and-true _ _ (eq-eqb x k (omega (arith, p, q, is))) (eq-eqb y l (omega (arith, p, q, is))))
+    (λ e. let h = both_true (eqb x k) (eqb y l) e in
+    eq-eqb (x + 256 * y) (k + 256 * l) (omega (arith, eqb-true x k h.0, eqb-true y l h.1)))
+
+four : (g : ℕ → Bool) → g 0 && g 1 && g 2 && g 3 ≡ every g 4
+unfolding all_good each_from
+four g = let all = every_field (λ k. k) g 4 in rw (← all) (simp (and-true, and_assoc))
+
+eight : (a b c d e f g h n : ℕ) → a < 256 → b < 256 → c < 256 → d < 256 → e < 256 → f < 256 → g < 256
+    → n ≡ a + 256 * (b + 256 * (c + 256 * (d + 256 * (e + 256 * (f + 256 * (g + 256 * h))))))
+    → eqb n 0xffff_ffff_ffff_ffff
+    ≡ eqb a 255 && (eqb b 255 && (eqb c 255 && (eqb d 255 && (eqb e 255 && (eqb f 255 && (eqb g 255 && eqb h 255))))))
+eight a b c d e f g h n p q r s t u v is =
+    let lit : 255 < 256 = omega arith in
+    ap (λ z. eqb z 0xffff_ffff_ffff_ffff) is
+    ∙ byte_first a _ 255 0xff_ffff_ffff_ffff p lit
+    ∙ ap (λ z. eqb a 255 && z) (byte_first b _ 255 0xffff_ffff_ffff q lit
+    ∙ ap (λ z. eqb b 255 && z) (byte_first c _ 255 0xff_ffff_ffff r lit
+    ∙ ap (λ z. eqb c 255 && z) (byte_first d _ 255 0xffff_ffff s lit
+    ∙ ap (λ z. eqb d 255 && z) (byte_first e _ 255 0xff_ffff t lit
+    ∙ ap (λ z. eqb e 255 && z) (byte_first f _ 255 0xffff u lit
+    ∙ ap (λ z. eqb f 255 && z) (byte_first g h 255 0xff v lit))))))
+
+module _ (v : Device) where
+  pub no_sleep_test : (a b c d e f g h i j n m : ℕ) → a < 256 → b < 256 → c < 256 → d < 256 → e < 256 → f < 256 → g < 256 → i < 256
+      → a ≡ v.sxd 1 → b ≡ v.sxd 2 → c ≡ v.sxd 3 → d ≡ v.sxd 4 → e ≡ v.sxw 0 → f ≡ v.sxw 1 → g ≡ v.sxw 2 → h ≡ v.sxw 3 → i ≡ v.sxw 4
+      → j ≡ v.deepest
+      → n ≡ a + b * 256 + c * 0x1_0000 + d * 0x100_0000 + e * 0x1_0000_0000 + f * 0x100_0000_0000 + g * 0x1_0000_0000_0000 + h * 0x100_0000_0000_0000
+      → m ≡ i + j * 256
+      → eqb n 0xffff_ffff_ffff_ffff && eqb m 255 ≡ no_sleep v
+  unfolding no_sleep
+  no_sleep_test a b c d e f g h i j n m ia ib ic id ie if ig ii sa sb sc sd se sf sg sh si sj nis mis =
+      let nested : n ≡ a + 256 * (b + 256 * (c + 256 * (d + 256 * (e + 256 * (f + 256 * (g + 256 * h)))))) = omega (arith, nis) in
+      let low : m ≡ i + 256 * j = omega (arith, mis) in
+      let lit : 255 < 256 = omega arith in
+      let most = eight a b c d e f g h n ia ib ic id ie if ig nested in
+      let rest : eqb m 255 ≡ eqb i 255 && eqb j 0 = ap (λ z. eqb z 255) low ∙ byte_first i j 255 0 ii lit in
+      rw (
+        most,
+        rest,
+        sa,
+        sb,
+        sc,
+        sd,
+        se,
+        sf,
+        sg,
+        sh,
+        si,
+        sj,
+        ← four (λ k. eqb (v.sxd (k + 1)) absent),
+        ← five (λ x. eqb (v.sxw x) absent),
+      )
+      (simp (and_assoc))
+
+  pub no_sleep_good : (w : ℕ) → no_sleep v ≡ true
+      → true ≡ (all_good (sxd_fields w v) && all_good (sxw_fields w v) && all_good (deepest_fields w v))
+  unfolding no_sleep sxd_fields sxw_fields deepest_fields sxd_good sxw_good deepest_good all_good
+  no_sleep_good w h =
+      let states : ℕ → Bool = λ k. eqb (v.sxd (k + 1)) absent in
+      let limits : ℕ → Bool = λ x. eqb (v.sxw x) absent in
+      let x = both_true (every states 4 && every limits 5) (eqb v.deepest 0) h in
+      let y = both_true (every states 4) (every limits 5) x.0 in
+      let s : every (λ k. sxd_good v (k + 1)) 4 ≡ true = every_of_lem _ 4 (λ i l. rw (every_at states 4 i y.0 l) refl) in
+      let t : every (sxw_good v) 5 ≡ true = every_of_lem _ 5 (λ i l. rw (every_at limits 5 i y.1 l) refl) in
+      let z : v.deepest ≡ 0 = eqb-true v.deepest 0 x.1 in
+      rw (every_field (λ k. 4 + 5 * w + k) (λ k. sxd_good v (k + 1)) 4, every_field (λ k. 8 + 5 * w + k) (sxw_good v) 5, s, t, z) (simp (or-true))
+
 -- ---- zeros to the record's end
 bytes_pos : (k : ℕ) → 0 < 256 ^ k
 bytes_pos zero = omega arith
@@ -158,17 +243,52 @@ zeros w t at (suc k) i =
     let next : at + 14 + 5 * w + suc i ≡ at + 14 + 5 * w + i + 1 = omega arith in
     rw (zeros w t at k (suc i), next) (sym (sum_zero 256 byte (read_le k t (at + 14 + 5 * w + i + 1)) (omega arith)))
 
-pub zeros_test : (w : ℕ) (t : List ℕ) (at n m : ℕ) → n ≡ read_le w t (at + 14 + 5 * w) → m ≡ read_le 2 t (at + 14 + 6 * w)
-    → eqb (bit_or n m) 0 ≡ all_good (zero_fields w t at)
+-- a number of j + k bytes is zero where both its parts are
+zero_parts : (j k : ℕ) (t : List ℕ) (at : ℕ) → eqb (read_le (j + k) t at) 0 ≡ eqb (read_le j t at) 0 && eqb (read_le k t (at + j)) 0
+zero_parts j k t at = rw (read_split j k t at) (sum_zero (256 ^ j) (read_le j t at) (read_le k t (at + j)) (bytes_pos j))
+
+-- a part that is asked twice
+overlap : (p q r : Bool) → p && (q && r) ≡ (p && q) && (q && r)
+overlap true true r = refl
+overlap true false r = refl
+overlap false q r = refl
+
+asked_twice : (p r : Bool) → p && r ≡ (p && p) && r
+asked_twice true r = refl
+asked_twice false r = refl
+
+-- six bytes by the four from the first and the four from the third on
+zero_six : (t : List ℕ) (at : ℕ) → eqb (read_le 6 t at) 0 ≡ eqb (read_le 4 t at) 0 && eqb (read_le 4 t (at + 2)) 0
+zero_six t at =
+    rw (zero_parts 2 4 t at, zero_parts 2 2 t at, zero_parts 2 2 t (at + 2))
+    (overlap (eqb (read_le 2 t at) 0) (eqb (read_le 2 t (at + 2)) 0) (eqb (read_le 2 t (at + 2 + 2)) 0))
+
+-- the zeros by three numbers of four bytes: six bytes by the second and the third, and before them, where there are ten, four by the first
+zeros_parts : (w : ℕ) (t : List ℕ) (at : ℕ) → Wide w
+    → all_good (zero_fields w t at)
+    ≡ (eqb (read_le 4 t (at + 14 + 5 * w)) 0 && eqb (read_le 4 t (at + 10 + 6 * w)) 0) && eqb (read_le 4 t (at + 12 + 6 * w)) 0
 unfolding zero_fields
-zeros_test w t at n m f g =
+zeros_parts w t at h =
     let start = at + 14 + 5 * w in
     let i : start + 0 ≡ start = omega arith in
-    let j : start + w ≡ at + 14 + 6 * w = omega arith in
-    let c : 2 + w ≡ w + 2 = omega arith in
-    let split = read_split w 2 t start in
-    let apart = sum_zero (256 ^ w) (read_le w t start) (read_le 2 t (start + w)) (bytes_pos w) in
-    or_none n m ∙ rw (c, zeros w t at (w + 2) 0, i, split, apart, j, f, g) refl
+    decide (eqb w 8)
+    (λ e.
+    let is = eqb-true w 8 e in
+    let j : at + 10 + 6 * w ≡ start + 4 = omega (arith, is) in
+    let k : at + 12 + 6 * w ≡ start + 4 + 2 = omega (arith, is) in
+    let c : 2 + w ≡ 4 + 6 = omega (arith, is) in
+    rw (c, zeros w t at (4 + 6) 0, i, zero_parts 4 6 t start, zero_six t (start + 4), j, k) (sym (and_assoc (eqb (read_le 4 t start) 0) (eqb (read_le 4 t (start + 4)) 0) (eqb (read_le 4 t (start + 4 + 2)) 0))))
+    (λ e.
+    let is : w ≡ 4 = omega (arith, h.low, h.high, h.fours, eqb-false w 8 e) in
+    let j : at + 10 + 6 * w ≡ start = omega (arith, is) in
+    let k : at + 12 + 6 * w ≡ start + 2 = omega (arith, is) in
+    let c : 2 + w ≡ 6 = omega (arith, is) in
+    rw (c, zeros w t at 6 0, i, zero_six t start, j, k) (asked_twice (eqb (read_le 4 t start) 0) (eqb (read_le 4 t (start + 2)) 0)))
+
+pub zeros_fours : (w : ℕ) (t : List ℕ) (at a b c : ℕ) → Wide w → a ≡ read_le 4 t (at + 14 + 5 * w) → b ≡ read_le 4 t (at + 10 + 6 * w)
+    → c ≡ read_le 4 t (at + 12 + 6 * w)
+    → eqb (bit_or (bit_or a b) c) 0 ≡ all_good (zero_fields w t at)
+zeros_fours w t at a b c h f g i = rw (or_none, or_none, f, g, i) (sym (zeros_parts w t at h))
 
 -- a table's record is one with zeros
 pub table_record : (w resources : ℕ) (t : List ℕ) (d at : ℕ)

@@ -1,7 +1,7 @@
 -- What a device's check asks of the fields of a record, where the first bad one's place is not asked for.
-use Rattle.std.specs.Prelude.{ℕ, ◌^◌, Bool, cond, not, ◌&&◌, ◌||◌, List, eqb, ltb}
+use Rattle.std.specs.Prelude.{ℕ, ◌+◌, ◌^◌, Bool, cond, not, ◌&&◌, ◌||◌, List, eqb, ltb}
 use Rattle.rules.specs.Index.{every}
-use Rattle.rules.specs.Station.{Device, record_size, fields_size, device_at}
+use Rattle.rules.specs.Station.{Device, absent, record_size, fields_size, device_at}
 use Rattle.rules.specs.Table.{all_good, present, value_fields, zero_fields, objects_good}
 
 -- the two halves of the rule of the five sets: no bit at or above R, and zero where the object is absent
@@ -14,6 +14,10 @@ sets_absent v = every (λ k. present v k || eqb (v.sets k) 0) 5
 -- set k where its object is absent, else none
 unfoldable pub absent_set : Device → ℕ → ℕ
 absent_set v k = cond (present v k) 0 (v.sets k)
+
+-- the device says nothing of sleep states: no `_SxD`, no `_SxW`, and 0 for the deepest one from which it can wake the system
+unfoldable pub no_sleep : Device → Bool
+no_sleep v = every (λ k. eqb (v.sxd (k + 1)) absent) 4 && every (λ x. eqb (v.sxw x) absent) 5 && eqb v.deepest 0
 
 -- the bytes of a device's record, with the zeros at its end as in a table, or without as in a list of described devices
 abbrev pub size_with : Bool → ℕ → ℕ

@@ -71,14 +71,13 @@ impl Record<'_> {
         (limit == 255) | (limit <= 4)
     }
 
-    // The deepest sleep state: 0 to 4; 0 without `_PRW`.
-    #[tactic(auto, unfolding(rules::specs::Table::deepest_good))]
+    // The deepest sleep state: 0 to 4; 0 without `_PRW`. One comparison for both.
+    #[tactic(auto, unfolding(rules::specs::Table::deepest_good, rules::specs::Table::present))]
     pub fn deepest_good(&self) -> bool
         ensures { result ≡ deepest_good (device_of self.now) }
     {
-        let deepest = self.deepest();
-        let flags = self.flags();
-        (deepest <= 4) & (bit(flags, 0) | (deepest == 0))
+        let most = if self.present(4) { 4 } else { 0 };
+        self.deepest() <= most
     }
 
     // Any `_PS` needs `_PS0` and `_PS3`; any `_PR` needs `_PR0`; with both kinds, mask bits 0 to 2 agree; `_DSW` needs `_PRW`.

@@ -1,10 +1,11 @@
 // Whether every field of a device is good. Each device of every table and list is asked, and nearly always the answer is yes:
 // so the tests do without the place of a bad field, share what they can, and leave at the first that fails. Sets and states are written out
 // one by one, and are no arrays: each is read once, for two tests (docs/DECISIONS.md has what loops cost).
-ghost use Rattle.std.specs.Prelude.{◌≡◌, ◌+◌, ◌<◌, ◌≤◌, length};
+ghost use Rattle.std.specs.Prelude.{◌≡◌, ◌&&◌, ◌+◌, ◌<◌, ◌≤◌, length};
 ghost use Rattle.rules.specs.Station.{limit, record_size};
-ghost use Rattle.rules.specs.Table.{all_good, head_fields, set_fields, sxd_fields, sxw_fields, value_fields, zero_fields, objects_good};
-ghost use Rattle.record.specs.Good.{absent_set};
+ghost use Rattle.rules.specs.Table.{all_good, head_fields, set_fields, sxd_fields, sxw_fields, deepest_fields};
+ghost use Rattle.rules.specs.Table.{value_fields, zero_fields, objects_good};
+ghost use Rattle.record.specs.Good.{absent_set, no_sleep};
 ghost use Rattle.record.specs.Record.{device_of};
 
 use crate::Record;
@@ -57,18 +58,11 @@ impl Record<'_> {
         (f | g | h | i | j) == 0
     }
 
-    // `_S1D` to `_S4D`. Where a device has none of them, one comparison tests all four.
-    #[tactic(auto, unfolding(rules::specs::Table::sxd_fields, rules::specs::Table::all_good, rules::specs::Index::each_from, rules::specs::Table::sxd_good))]
+    // `_S1D` to `_S4D`.
+    #[tactic(auto, unfolding(rules::specs::Table::sxd_fields, rules::specs::Table::all_good, rules::specs::Index::each_from))]
     fn states_good(&self) -> bool
         ensures { result ≡ all_good (sxd_fields self.now.width (device_of self.now)) }
     {
-        let a = self.sxd(1);
-        let b = self.sxd(2);
-        let c = self.sxd(3);
-        let d = self.sxd(4);
-        if u32::from_le_bytes([a, b, c, d]) == 0xffff_ffff {
-            return true;
-        }
         self.sxd_good(1) && self.sxd_good(2) && self.sxd_good(3) && self.sxd_good(4)
     }
 
@@ -80,32 +74,54 @@ impl Record<'_> {
         self.sxw_good(0) & self.sxw_good(1) & self.sxw_good(2) & self.sxw_good(3) & self.sxw_good(4)
     }
 
+    // Whether `_S1D` to `_S4D` and `_S0W` to `_S4W` are absent and the deepest sleep state is 0: ten bytes, asked as one number of eight and
+    // one of two.
+    fn no_sleep(&self) -> bool
+        ensures { result ≡ no_sleep (device_of self.now) }
+    {
+        let first = self.at + 4 + 5 * self.width;
+        let eight = self.bytes[first..first + 8].try_into().unwrap();
+        let last = u16::from_le_bytes([self.sxw(4), self.deepest()]);
+        (u64::from_le_bytes(eight) == u64::MAX) & (last == 0x00ff)
+    }
+
+    // What a device says of sleep states. Most of those without `_PRW` say nothing. The others are not asked that: the compiler would take
+    // the bytes for the tests below out of the numbers read for it.
+    #[tactic(auto, unfolding(rules::specs::Table::deepest_fields, rules::specs::Table::all_good), using(crate::proofs::AllGood::no_sleep_good))]
+    fn sleep_good(&self) -> bool
+        ensures { result ≡ (all_good (sxd_fields self.now.width (device_of self.now))
+            && all_good (sxw_fields self.now.width (device_of self.now))
+            && all_good (deepest_fields self.now.width (device_of self.now))) }
+    {
+        if self.flags() == 0 && self.no_sleep() {
+            return true;
+        }
+        self.states_good() && self.limits_good() && self.deepest_good()
+    }
+
     // Every value of device d, wherever its record is: in a table, or in a list of described devices, which has no zeros.
     #[tactic(auto, unfolding(rules::specs::Table::value_fields, rules::specs::Table::deepest_fields, rules::specs::Table::all_good), using(laws::proofs::Good::joined))]
     pub fn values_good(&self, d: usize, resources: usize) -> bool
         requires { (d < 256) × (resources ≤ limit self.now.width) }
         ensures { result ≡ all_good (value_fields self.now.width resources d (device_of self.now)) }
     {
-        self.head_good(d)
-            && self.sets_good(resources)
-            && self.states_good()
-            && self.limits_good()
-            && self.deepest_good()
+        self.head_good(d) && self.sets_good(resources) && self.sleep_good()
     }
 
-    // Zeros to the record's end, read as one number of w bytes and one of two.
-    #[tactic(auto, using(crate::proofs::AllGood::zeros_test))]
+    // Zeros to the record's end, 6 bytes or 10, read as three numbers of four bytes, which cover them in either version without a branch.
+    #[tactic(auto, using(crate::proofs::AllGood::zeros_fours))]
     pub fn zeros_good(&self) -> bool
         requires { self.now.at + record_size self.now.width ≤ length self.now.bytes.now }
         ensures { result ≡ all_good (zero_fields self.now.width self.now.bytes.now self.now.at) }
     {
-        let zeros = crate::word::read(self.bytes, self.at + 14 + 5 * self.width, self.width);
-        let rest = words::read16(self.bytes, self.at + 14 + 6 * self.width);
-        (zeros | u64::from(rest)) == 0
+        let first = words::read32(self.bytes, self.at + 14 + 5 * self.width);
+        let next = words::read32(self.bytes, self.at + 10 + 6 * self.width);
+        let last = words::read32(self.bytes, self.at + 12 + 6 * self.width);
+        (first | next | last) == 0
     }
 
-    // Whether the objects agree. Where the states with `_PS` are those with `_PR`, D0 and D3hot among them, only `_DSW` is left to ask;
-    // any other device is put to the whole rule.
+    // Whether the objects agree. Where there are `_PR0` and `_PR3`, and the states with `_PS` are those with `_PR` or none, only `_DSW` is
+    // left to ask; any other device is put to the whole rule.
     #[tactic(auto, unfolding(rules::specs::Table::objects_good))]
     pub fn objects_agree(&self) -> bool
         ensures { result ≡ objects_good (device_of self.now) }
@@ -113,7 +129,7 @@ impl Record<'_> {
         let ps = self.ps();
         let pr = self.pr();
         let flags = self.flags();
-        if (ps == pr) & crate::good::bit(ps, 0) & crate::good::bit(ps, 3) {
+        if ((ps == 0) | (ps == pr)) & crate::good::bit(pr, 0) & crate::good::bit(pr, 3) {
             return !crate::good::bit(flags, 1) | crate::good::bit(flags, 0);
         }
         self.objects_good()
