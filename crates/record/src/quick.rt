@@ -58,11 +58,18 @@ impl Record<'_> {
         (f | g | h | i | j) == 0
     }
 
-    // `_S1D` to `_S4D`.
-    #[tactic(auto, unfolding(rules::specs::Table::sxd_fields, rules::specs::Table::all_good, rules::specs::Index::each_from))]
+    // `_S1D` to `_S4D`. Where a device has none of them, one comparison tests all four.
+    #[tactic(auto, unfolding(rules::specs::Table::sxd_fields, rules::specs::Table::all_good, rules::specs::Index::each_from, rules::specs::Table::sxd_good))]
     fn states_good(&self) -> bool
         ensures { result ≡ all_good (sxd_fields self.now.width (device_of self.now)) }
     {
+        let a = self.sxd(1);
+        let b = self.sxd(2);
+        let c = self.sxd(3);
+        let d = self.sxd(4);
+        if u32::from_le_bytes([a, b, c, d]) == 0xffff_ffff {
+            return true;
+        }
         self.sxd_good(1) && self.sxd_good(2) && self.sxd_good(3) && self.sxd_good(4)
     }
 
@@ -120,7 +127,7 @@ impl Record<'_> {
         (first | next | last) == 0
     }
 
-    // Whether the objects agree. Where there are `_PR0` and `_PR3`, and the states with `_PS` are those with `_PR` or none, only `_DSW` is
+    // Whether the objects agree. Where there are `_PR0` and `_PR3`, and either no `_PS` or one for each state with `_PR`, only `_DSW` is
     // left to ask; any other device is put to the whole rule.
     #[tactic(auto, unfolding(rules::specs::Table::objects_good))]
     pub fn objects_agree(&self) -> bool
